@@ -1,0 +1,11 @@
+use Rattle.std.proofs.Common.{◌+◌, ◌∙◌, ap}
+use Rattle.rv_code.specs.Table.{fixed_of}
+use Rattle.rv_code.specs.Encoding.{encoding_of, placed}
+use Rattle.rv_code.proofs.encoding.bits.Goals as goal
+
+pub returns-clause-value : goal.returns-clause-value
+unfolding encoding_of
+returns-clause-value c =
+    c.assembled.ensures.value
+    ∙ ap (λ n. n + placed c.args.fields.now c.pieces-its_pieces.result.now) c.fixed-its_fixed.ensures
+    ∙ ap (λ ps. fixed_of c.args.op + placed c.args.fields.now ps) c.pieces-its_pieces.ensures.value

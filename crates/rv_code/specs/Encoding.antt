@@ -1,0 +1,75 @@
+-- The word of an instruction: RISC-V Unprivileged ISA 20191213, chapter 2.
+use Rattle.std.specs.Prelude.{Bool, ◌&&◌, int_le, negsuc, Option, Some, None, ◌≡◌, ℕ, ℤ, pos, ◌+◌, ◌*◌, ◌/◌, ◌%◌, ◌^◌, ◌<◌, ◌≤ℤ◌, List, [], ◌∷◌, if◌then◌else◌, unsigned_abs}
+use Rattle.std.specs.Int.{cast_unsigned, to_le_bytes, w16, w32}
+use Rattle.rv_code.specs.Table.{Limits, Piece, shape_of, fixed_of, is_full, classes_of, limits_of, pieces_of}
+use Rattle.rv_code.specs.declared.instruction.Fields.{Fields}
+use Rattle.rv_code.specs.declared.op.Op.{Op}
+use Rattle.rv_code.specs.declared.table.Field.{Field}
+use Rattle.rv_code.specs.declared.table.Field.TheVariants.{Rd, Rs1, Rs2, Value}
+use Rattle.rv_code.specs.declared.table.RegisterClass.{RegisterClass}
+use Rattle.rv_code.specs.declared.table.RegisterClass.TheVariants.{Absent, Any}
+use Rattle.rv_code.specs.declared.word.Word.{Word}
+use Rattle.rv_code.specs.declared.word.Word.TheVariants.{Half, Full}
+
+-- a field as a number of 32 bits, a negative value in two's complement
+abbrev pub bits_of_field : Field → Fields → ℕ
+bits_of_field Rd f = f.rd
+bits_of_field Rs1 f = f.rs1
+bits_of_field Rs2 f = f.rs2
+bits_of_field Value f = cast_unsigned w32 f.value
+
+-- the bits of a piece at their places in the word
+abbrev pub bits_of_piece : Fields → Piece → ℕ
+bits_of_piece f p = (bits_of_field p.0 f / 2 ^ p.1 % 2 ^ p.2) * 2 ^ p.3
+
+-- all of them together
+abbrev pub placed : Fields → List Piece → ℕ
+placed f [] = 0
+placed f (p ∷ ps) = bits_of_piece f p + placed f ps
+
+-- the fixed bits of the row, and each piece of a field at its place
+unfoldable pub encoding_of : Op → Fields → ℕ
+encoding_of o f = fixed_of o + placed f (pieces_of (shape_of o))
+
+-- the word of thirty-two bits or of sixteen
+unfoldable pub word_of : Op → Fields → Word
+word_of o f = if is_full o then Full (encoding_of o f) else Half (encoding_of o f)
+
+-- the bytes in memory, the lowest first (RISC-V Unprivileged ISA 20191213, section 1.5)
+abbrev pub bytes_of_word : Word → List ℕ
+bytes_of_word (Half n) = to_le_bytes w16 n
+bytes_of_word (Full n) = to_le_bytes w32 n
+
+-- the registers of a class; x0 stands for a register that the shape lacks
+abbrev pub InClass : RegisterClass → ℕ → Type 0
+InClass Absent n = n ≡ 0
+InClass Any n = n < 32
+
+-- from the least value to the greatest, and a multiple of the number
+pub record InLimits (l : Limits) (v : ℤ) : Type 0 where
+  pub low : l.0 ≤ℤ v
+  pub high : v ≤ℤ l.1
+  pub multiple : unsigned_abs v % l.2 ≡ 0
+
+-- the operation takes the fields
+pub record Fits (o : Op) (f : Fields) : Type 0 where
+  pub rd : InClass (classes_of (shape_of o)).0 f.rd
+  pub rs1 : InClass (classes_of (shape_of o)).1 f.rs1
+  pub rs2 : InClass (classes_of (shape_of o)).2 f.rs2
+  pub value : InLimits (limits_of (shape_of o)) f.value
+
+-- the fields of `op rd, rs1, rs2`
+abbrev pub register_fields : ℕ → ℕ → ℕ → Fields
+register_fields rd rs1 rs2 = record { rd = rd; rs1 = rs1; rs2 = rs2; value = pos 0 }
+
+-- the fields of `op rd, rs1, value`
+abbrev pub immediate_fields : ℕ → ℕ → ℤ → Fields
+immediate_fields rd rs1 v = record { rd = rd; rs1 = rs1; rs2 = 0; value = v }
+
+-- twelve bits with a sign hold the value: -2048 to 2047 (RISC-V Unprivileged ISA 20191213, section 2.3)
+abbrev pub is_immediate : ℤ → Bool
+is_immediate v = int_le (negsuc 2047) v && int_le v (pos 2047)
+
+-- the instruction `op rd, rs1, value`, if the value is an immediate
+abbrev pub immediate_instruction : Op → ℕ → ℕ → ℤ → Option (Op × Fields)
+immediate_instruction o rd rs1 v = if is_immediate v then Some (o, immediate_fields rd rs1 v) else None

@@ -1,0 +1,70 @@
+-- Sixteen bytes at a time, and the rows that they make.
+use Rattle.std.proofs.Common.{◌≡◌, ℕ, zero, suc, ◌+◌, ◌-◌, ◌*◌, ◌<◌, ◌≤◌, List, [], ◌++◌, length, take, drop, refl, sym, ap, ◌∙◌, arith, append_assoc, add-one}
+use Rattle.std.proofs.lemmas.List.{take_all, drop_all, append-nil, drop-drop}
+use Rattle.std.proofs.Math.Seq.{take-append_seam, drop-append_seam}
+use Rattle.std.specs.Prelude.{Option}
+use Rattle.rv_text.specs.Streams.{behind, WritesFront}
+use Rattle.rv_text.proofs.StreamLemmas.{behind_behind, front_within}
+use Rattle.rv_store.specs.Image.{byte_row, first_rows, row_count, byte_rows}
+
+-- what is left was all that there was
+pub taken_all : (row left all : List ℕ) → row ++ left ≡ all → left ≡ [] → length row ≤ 16 → (row ≡ take 16 all) × (left ≡ drop 16 all)
+taken_all row left all whole none few =
+    let same : row ≡ all = sym (append-nil row) ∙ ap (λ l. row ++ l) (sym none) ∙ whole in
+    let short : length all ≤ 16 = rw (← same) few in
+    (same ∙ sym (take_all 16 all short), none ∙ sym (drop_all 16 all short))
+
+-- sixteen bytes were taken
+pub taken_full : (row left all : List ℕ) → row ++ left ≡ all → length row ≡ 16 → (row ≡ take 16 all) × (left ≡ drop 16 all)
+taken_full row left all whole full =
+    let front : take (length row) (row ++ left) ≡ row = take-append_seam row left in
+    let back : drop (length row) (row ++ left) ≡ left = drop-append_seam row left in
+    let front' = rw (full, whole) at front in
+    let back' = rw (full, whole) at back in (sym front', sym back')
+
+-- one row more
+pub next_row_is : (start k : ℕ) (bytes row : List ℕ) → row ≡ take 16 (drop (16 * k) bytes) → first_rows start bytes (k + 1) ≡ first_rows start bytes k ++ byte_row (start + 16 * k) row
+next_row_is start k bytes row e = rw (e, add-one) refl
+
+-- there are more rows behind the first ones
+pub record RowsThen (start : ℕ) (bytes : List ℕ) (k n : ℕ) : Type 0 where
+  pub later : List ℕ
+  pub whole : first_rows start bytes n ≡ first_rows start bytes k ++ later
+
+pub rows_then : (start : ℕ) (bytes : List ℕ) (k more : ℕ) → RowsThen start bytes k (k + more)
+rows_then start bytes k zero = record { later = []; whole = let e : k + 0 ≡ k = omega arith in rw e (sym (append-nil (first_rows start bytes k))) }
+rows_then start bytes k (suc more) =
+    let before = rows_then start bytes k more in
+    let e : k + suc more ≡ suc (k + more) = omega arith in
+    record {
+      later = before.later ++ byte_row (start + 16 * (k + more)) (take 16 (drop (16 * (k + more)) bytes));
+      whole = rw e (rw before.whole (append_assoc (first_rows start bytes k) before.later _));
+    }
+
+-- a front of the row that comes next is one of all rows
+pub front_of_rows : (start : ℕ) (bytes row : List ℕ) (k : ℕ) (old taken new : Option (List ℕ)) → k < row_count (length bytes) → row ≡ take 16 (drop (16 * k) bytes) → taken ≡ behind old (first_rows start bytes k) → WritesFront taken (byte_row (start + 16 * k) row) new → WritesFront old (byte_rows start bytes) new
+unfolding byte_rows
+front_of_rows start bytes row k old taken new within e t w =
+    let more = row_count (length bytes) - (k + 1) in
+    let then_ = rows_then start bytes (k + 1) more in
+    let count : k + 1 + more ≡ row_count (length bytes) = omega arith in
+    let whole = rw count at then_.whole in
+    front_within old taken new (first_rows start bytes k) (byte_row (start + 16 * k) row) then_.later _ (whole ∙ ap (λ l. l ++ then_.later) (next_row_is start k bytes row e)) t w
+
+-- sixteen bytes further on
+pub rest_of_rows : (k : ℕ) (bytes left rest : List ℕ) → left ≡ drop (16 * k) bytes → rest ≡ drop 16 left → rest ≡ drop (16 * (k + 1)) bytes
+rest_of_rows k bytes left rest e r =
+    let place : 16 * k + 16 ≡ 16 * (k + 1) = omega arith in
+    r ∙ ap (drop 16) e ∙ drop-drop 16 (16 * k) bytes ∙ ap (λ n. drop n bytes) place
+
+-- the next row was taken
+pub rows_taken : (start : ℕ) (bytes row : List ℕ) (k : ℕ) (old taken new : Option (List ℕ)) → row ≡ take 16 (drop (16 * k) bytes) → taken ≡ behind old (first_rows start bytes k) → new ≡ behind taken (byte_row (start + 16 * k) row) → new ≡ behind old (first_rows start bytes (k + 1))
+rows_taken start bytes row k old taken new e t w =
+    w ∙ ap (λ o. behind o (byte_row (start + 16 * k) row)) t
+    ∙ behind_behind old (first_rows start bytes k) (byte_row (start + 16 * k) row)
+    ∙ ap (behind old) (sym (next_row_is start k bytes row e))
+
+-- all rows were taken
+pub all_rows : (start : ℕ) (bytes : List ℕ) (k : ℕ) (old new : Option (List ℕ)) → k ≡ row_count (length bytes) → new ≡ behind old (first_rows start bytes k) → new ≡ behind old (byte_rows start bytes)
+unfolding byte_rows
+all_rows start bytes k old new e t = t ∙ ap (λ n. behind old (first_rows start bytes n)) e

@@ -1,0 +1,4 @@
+pub mod Text
+pub mod LineBytes
+pub mod Stored
+pub mod Image

@@ -1,0 +1,54 @@
+-- A text as a list of lines, what an edit makes of it, and when an edit is refused. The limits are the project's own.
+use Rattle.std.specs.Prelude.{◌≡◌, ℕ, ◌+◌, ◌-◌, ◌%◌, Bool, ◌&&◌, ◌||◌, ◌==◌, nat_lt, nat_le, List, length, insert, remove, Option, Some, None, Result, Ok, Err, unwrap_or, if◌then◌else◌}
+use Rattle.std.specs.List.{list_any}
+use Rattle.rv_store.specs.declared.edit_error.EditError.{EditError}
+use Rattle.rv_store.specs.declared.edit_error.EditError.TheVariants.{Base, Place, Line, TooMany, Memory}
+
+-- what a store holds: where `.text` begins, and the lines
+pub record Text : Type 0 where
+  pub base : ℕ
+  pub lines : List (List ℕ)
+
+-- a base is a multiple of 4096, at most 0x80000000
+abbrev pub is_base : ℕ → Bool
+is_base base = base % 4096 == 0 && nat_le base 0x80000000
+
+-- an edit, whose place is the number of a line, from 1 on
+pub data Edit : Type 0 where
+  Insert : (place : ℕ) (line : List ℕ) → Edit
+  Delete : (place : ℕ) → Edit
+
+-- a line break stands in the line, or it is longer than 1,000 bytes
+abbrev pub is_no_line : List ℕ → Bool
+is_no_line line = list_any (λ b. b == 10) line || nat_lt 1000 (length line)
+
+-- why an edit is refused, whatever the memory: its place, then its line, then that the text is full
+abbrev pub refusal_of : List (List ℕ) → Edit → Option EditError
+refusal_of lines (Insert place line) =
+    if place == 0 || nat_lt (length lines + 1) place then Some Place
+    else (if is_no_line line then Some Line
+    else (if nat_le 16384 (length lines) then Some TooMany else None))
+refusal_of lines (Delete place) = if place == 0 || nat_lt (length lines) place then Some Place else None
+
+-- the lines with one put in or taken out
+abbrev pub lines_after : List (List ℕ) → Edit → List (List ℕ)
+lines_after lines (Insert place line) = insert lines (place - 1) line
+lines_after lines (Delete place) = remove lines (place - 1)
+
+-- the text after an edit that is not refused
+abbrev pub text_after : Text → Edit → Text
+text_after text edit = record { base = text.base; lines = lines_after text.lines edit }
+
+-- the number of a refusal
+abbrev pub refusal_number : EditError → ℕ
+refusal_number Base = 1
+refusal_number Place = 2
+refusal_number Line = 3
+refusal_number TooMany = 4
+refusal_number Memory = 5
+
+-- An edit gives the text after it, or says why not and changes nothing. Where nothing else refuses it, want of memory
+-- may.
+abbrev pub Edits : {A : Type 0} → Text → Edit → Result A EditError → Text → Type 0
+Edits old edit (Ok _) new = (refusal_of old.lines edit ≡ None) × (new ≡ text_after old edit)
+Edits old edit (Err e) new = (e ≡ unwrap_or (refusal_of old.lines edit) Memory) × (new ≡ old)

@@ -1,0 +1,11 @@
+// Where a text may begin.
+
+ghost use Rattle.std.specs.Prelude.{◌≡◌};
+ghost use Rattle.rv_store.specs.Text.{is_base};
+
+/// Whether `.text` may begin at this address: it is a multiple of 4096, and at most 0x80000000.
+pub fn base_ok(base: u32) -> bool
+    ensures { result ≡ is_base base }
+{
+    base % 4096 == 0 && base <= 0x8000_0000
+}

@@ -1,0 +1,63 @@
+// Why an edit is refused.
+
+ghost use Rattle.std.specs.Prelude.{◌≡◌};
+ghost use Rattle.rv_store.specs.declared.edit_error.EditError.TheVariants.{Memory};
+ghost use Rattle.rv_store.specs.Text.{refusal_number};
+
+use rv_text::TextError;
+use std::alloc::{AllocError, AllocFailed};
+use thiserror::Error;
+
+/// Why an edit was refused. Reasons are tried in this order.
+#[derive(Clone, Copy, Debug, PartialEq, Eq, Error)]
+pub enum EditError {
+    #[error("the base is not a multiple of 4096 up to 0x80000000")]
+    Base,
+    #[error("there is no such line")]
+    Place,
+    #[error("the line holds a line break or is longer than 1000 bytes")]
+    Line,
+    #[error("the text has 16384 lines already")]
+    TooMany,
+    #[error("out of memory")]
+    Memory,
+}
+
+impl EditError {
+    /// The number of the refusal, as it is answered to an editor.
+    pub fn number(self) -> u8
+        ensures { result ≡ refusal_number self }
+    {
+        match self {
+            EditError::Base => 1,
+            EditError::Place => 2,
+            EditError::Line => 3,
+            EditError::TooMany => 4,
+            EditError::Memory => 5,
+        }
+    }
+}
+
+impl From<AllocError> for EditError {
+    ghost from_gives = { λ _ e. e ≡ Memory };
+
+    fn from(_: AllocError) -> Self {
+        EditError::Memory
+    }
+}
+
+impl<T: Drop> From<AllocFailed<T>> for EditError {
+    ghost from_gives = { λ _ e. e ≡ Memory };
+
+    fn from(_: AllocFailed<T>) -> Self {
+        EditError::Memory
+    }
+}
+
+impl From<TextError> for EditError {
+    ghost from_gives = { λ _ e. e ≡ Memory };
+
+    fn from(_: TextError) -> Self {
+        EditError::Memory
+    }
+}

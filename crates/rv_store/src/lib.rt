@@ -1,0 +1,19 @@
+// A text kept as a list of lines, with the code of each line.
+#![tactic(auto)]
+
+mod base;
+mod changed;
+mod edit_error;
+mod image;
+mod line_code;
+mod store;
+#[cfg(test)]
+mod tests;
+mod word_bytes;
+mod words;
+
+pub use base::base_ok;
+pub use changed::{Changed, LineNumbers};
+pub use edit_error::EditError;
+pub use image::{ListError, write_image};
+pub use store::{MAX_LINE_LENGTH, MAX_LINES, Store};

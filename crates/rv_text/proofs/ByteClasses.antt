@@ -1,0 +1,183 @@
+-- Which tokens may begin with a byte, and of which bytes a run consists.
+use Rattle.std.proofs.Common.{◌≡◌, ℕ, zero, suc, ◌-◌, ◌<◌, ◌≤◌, Bool, true, false, not, cond, ◌&&◌, ◌||◌, List, [], ◌∷◌, ◌++◌, length, take, drop, get_or, Some, None, ⊎_elim, refl, subst, ap, ◌∙◌, arith}
+use Rattle.std.specs.Prelude.{is_some, ◌==◌, nat_le}
+use Rattle.std.specs.Char.{is_digit, is_ascii_digit, is_ascii_alphanumeric}
+use Rattle.std.specs.List.{list_all, prefix_len}
+use Rattle.std.proofs.lemmas.Bool.{and_parts, or_cases, and_from, cases_Bool, eqb-true, not-true}
+use Rattle.std.proofs.lemmas.Bool.Decides.{nat_tests}
+use Rattle.std.proofs.lemmas.List.Folds.{list_all-append}
+use Rattle.rv_text.specs.declared.lexeme.TokenKind.{TokenKind}
+use Rattle.rv_text.specs.declared.lexeme.TokenKind.TheVariants.{Word, Number, Local, Str, Char, Sign}
+use Rattle.rv_text.specs.Bytes.{is_word_start, is_sign_byte}
+use Rattle.rv_text.specs.Lexical.{IsOfKind, goes_on}
+use Rattle.rv_text.specs.Numbers.{number_of, after_zero, digits_number, is_local, is_local_number}
+
+-- the longest run at the front
+pub run_longest : (p : ℕ → Bool) (bs : List ℕ) (k : ℕ) → prefix_len p bs < k → k ≤ length bs → list_all p (take k bs) ≡ true → ⊥
+run_longest p bs zero more fits all = absurd (omega arith)
+run_longest p [] (suc k) more fits all = absurd (omega arith)
+run_longest p (b ∷ bs) (suc k) more fits all =
+    let parts = and_parts (p b) (list_all p (take k bs)) all in
+    run_longest p bs k (let more = rw parts.0 at more in omega arith) (omega arith) parts.1
+
+pub run_more : (p : ℕ → Bool) (b : ℕ) (bs : List ℕ) → p b ≡ true → prefix_len p (b ∷ bs) ≡ suc (prefix_len p bs)
+run_more p b bs holds = rw holds (omega arith)
+
+pub run_all : (p : ℕ → Bool) (bs : List ℕ) → list_all p (take (prefix_len p bs) bs) ≡ true
+run_all p [] = refl
+run_all p (b ∷ bs) =
+    ⊎_elim
+    (λ (holds : p b ≡ true). rw (run_more p b bs holds) (and_from (p b) _ holds (run_all p bs)))
+    (λ (no : p b ≡ false). rw no refl)
+    (cases_Bool (p b))
+
+pub run_ends : (bs : List ℕ) → goes_on (drop (prefix_len is_ascii_alphanumeric bs) bs) ≡ false
+run_ends [] = refl
+run_ends (b ∷ bs) =
+    ⊎_elim
+    (λ (holds : is_ascii_alphanumeric b ≡ true). rw (run_more is_ascii_alphanumeric b bs holds) (run_ends bs))
+    (λ (no : is_ascii_alphanumeric b ≡ false). rw no no)
+    (cases_Bool (is_ascii_alphanumeric b))
+
+-- bytes
+pub digit_no_start : (b : ℕ) → is_ascii_digit b ≡ true → is_word_start b ≡ false
+digit_no_start b h = grind (arith, nat_tests)
+
+digit_alphanumeric : (base c : ℕ) → base ≤ 16 → is_digit c base ≡ true → is_ascii_alphanumeric c ≡ true
+digit_alphanumeric base c low h = grind (arith, nat_tests)
+
+pub digit_is_alphanumeric : (c : ℕ) → is_ascii_digit c ≡ true → is_ascii_alphanumeric c ≡ true
+digit_is_alphanumeric c h = grind (arith, nat_tests)
+
+decimal_digit : (c : ℕ) → is_digit c 10 ≡ true → is_ascii_digit c ≡ true
+decimal_digit c h = grind (arith, nat_tests)
+
+letter_x : (c : ℕ) → (c == 0x78 || c == 0x58) ≡ true → is_ascii_alphanumeric c ≡ true
+letter_x c h = grind (arith, nat_tests)
+
+letter_b : (c : ℕ) → (c == 0x62 || c == 0x42) ≡ true → is_ascii_alphanumeric c ≡ true
+letter_b c h = grind (arith, nat_tests)
+
+letter_zero : (c : ℕ) → (c == 0x30) ≡ true → is_ascii_alphanumeric c ≡ true
+letter_zero c h = grind (arith, nat_tests)
+
+-- what is some under a test has passed it
+some_passed : (t : Bool) (v : ℕ) → is_some (cond t (Some v) None) ≡ true → t ≡ true
+some_passed true v h = refl
+some_passed false v h = absurd cc
+
+-- numbers and local labels consist of digits and letters
+digits_alphanumeric : (base : ℕ) (cs : List ℕ) → base ≤ 16 → list_all (λ c. is_digit c base) cs ≡ true → list_all is_ascii_alphanumeric cs ≡ true
+digits_alphanumeric base [] low all = refl
+digits_alphanumeric base (c ∷ cs) low all =
+    let parts = and_parts (is_digit c base) (list_all (λ c. is_digit c base) cs) all in
+    and_from (is_ascii_alphanumeric c) (list_all is_ascii_alphanumeric cs) (digit_alphanumeric base c low parts.0) (digits_alphanumeric base cs low parts.1)
+
+digits_all : (base : ℕ) (cs : List ℕ) → is_some (digits_number base cs) ≡ true → list_all (λ c. is_digit c base) cs ≡ true
+digits_all base [] some = absurd cc
+digits_all base (c ∷ cs) some = (and_parts _ _ (some_passed _ _ some)).0
+
+after_zero_alphanumeric : (cs : List ℕ) → is_some (after_zero cs) ≡ true → list_all is_ascii_alphanumeric cs ≡ true
+after_zero_alphanumeric [] some = refl
+after_zero_alphanumeric (c ∷ cs) some =
+    ⊎_elim
+    (λ (x : (c == 0x78 || c == 0x58) ≡ true). and_from _ _ (letter_x c x) (digits_alphanumeric 16 cs (omega arith) (digits_all 16 cs (rw x at some))))
+    (λ (other : (c == 0x78 || c == 0x58) ≡ false).
+    ⊎_elim
+    (λ (b : (c == 0x62 || c == 0x42) ≡ true). and_from _ _ (letter_b c b) (digits_alphanumeric 2 cs (omega arith) (digits_all 2 cs (rw (other, b) at some))))
+    (λ (no : (c == 0x62 || c == 0x42) ≡ false). digits_alphanumeric 8 (c ∷ cs) (omega arith) (digits_all 8 (c ∷ cs) (rw (other, no) at some)))
+    (cases_Bool (c == 0x62 || c == 0x42)))
+    (cases_Bool (c == 0x78 || c == 0x58))
+
+pub number_alphanumeric : (cs : List ℕ) → is_some (number_of cs) ≡ true → list_all is_ascii_alphanumeric cs ≡ true
+number_alphanumeric [] some = absurd cc
+number_alphanumeric (c ∷ cs) some =
+    ⊎_elim
+    (λ (zero : (c == 0x30) ≡ true). and_from _ _ (letter_zero c zero) (after_zero_alphanumeric cs (rw zero at some)))
+    (λ (other : (c == 0x30) ≡ false). digits_alphanumeric 10 (c ∷ cs) (omega arith) (digits_all 10 (c ∷ cs) (rw other at some)))
+    (cases_Bool (c == 0x30))
+
+pub number_first : (c : ℕ) (cs : List ℕ) → is_some (number_of (c ∷ cs)) ≡ true → is_ascii_digit c ≡ true
+number_first c cs some =
+    ⊎_elim
+    (λ (zero : (c == 0x30) ≡ true). let e = eqb-true c 0x30 zero in rw e refl)
+    (λ (other : (c == 0x30) ≡ false). decimal_digit c (and_parts _ _ (digits_all 10 (c ∷ cs) (rw other at some))).0)
+    (cases_Bool (c == 0x30))
+
+local_number_digits : (cs : List ℕ) → is_local_number cs ≡ true → list_all is_ascii_digit cs ≡ true
+local_number_digits [] h = absurd cc
+local_number_digits (c ∷ cs) h = (and_parts _ _ (and_parts _ _ h).0).1
+
+decimals_alphanumeric : (cs : List ℕ) → list_all is_ascii_digit cs ≡ true → list_all is_ascii_alphanumeric cs ≡ true
+decimals_alphanumeric [] all = refl
+decimals_alphanumeric (c ∷ cs) all =
+    let parts = and_parts (is_ascii_digit c) (list_all is_ascii_digit cs) all in
+    and_from _ _ (digit_is_alphanumeric c parts.0) (decimals_alphanumeric cs parts.1)
+
+-- all but the last, and the last
+last_behind : (c : ℕ) (cs : List ℕ) → take (length cs) (c ∷ cs) ++ get_or (c ∷ cs) (length cs) 0 ∷ [] ≡ c ∷ cs
+last_behind c [] = refl
+last_behind c (d ∷ ds) = ap (λ l. c ∷ l) (last_behind d ds)
+
+local_parts : (c : ℕ) (cs : List ℕ) → is_local (c ∷ cs) ≡ true → (is_local_number (take (length cs) (c ∷ cs)) ≡ true) × ((get_or (c ∷ cs) (length cs) 0 == 0x62 || get_or (c ∷ cs) (length cs) 0 == 0x66) ≡ true)
+local_parts c cs h = let e : length (c ∷ cs) - 1 ≡ length cs = omega arith in and_parts _ _ (rw e at h)
+
+letter_last : (c : ℕ) → (c == 0x62 || c == 0x66) ≡ true → is_ascii_alphanumeric c ≡ true
+letter_last c h = grind (arith, nat_tests)
+
+pub local_alphanumeric : (cs : List ℕ) → is_local cs ≡ true → list_all is_ascii_alphanumeric cs ≡ true
+local_alphanumeric [] h = absurd cc
+local_alphanumeric (c ∷ cs) h =
+    let parts = local_parts c cs h in
+    let digits = take (length cs) (c ∷ cs) in
+    let front = decimals_alphanumeric digits (local_number_digits digits parts.0) in
+    let last = letter_last (get_or (c ∷ cs) (length cs) 0) parts.1 in
+    subst (λ l. list_all is_ascii_alphanumeric l ≡ true) (last_behind c cs) (list_all-append is_ascii_alphanumeric (take (length cs) (c ∷ cs)) (get_or (c ∷ cs) (length cs) 0 ∷ []) ∙ and_from _ _ front (and_from _ _ last refl))
+
+pub local_first : (c : ℕ) (cs : List ℕ) → is_local (c ∷ cs) ≡ true → is_ascii_digit c ≡ true
+local_first c [] h = absurd (let parts = local_parts c [] h in cc)
+local_first c (d ∷ ds) h =
+    (and_parts (is_ascii_digit c) (list_all is_ascii_digit (take (length ds) (d ∷ ds))) (local_number_digits (c ∷ take (length ds) (d ∷ ds)) (local_parts c (d ∷ ds) h).0)).0
+
+-- the class of a byte, by the kinds of tokens that begin with it
+abbrev pub class_of : ℕ → ℕ
+class_of b =
+    cond (is_word_start b) 1 (cond (is_ascii_digit b) 2 (cond (b == 0x22) 3 (cond (b == 0x27) 4 (cond (is_sign_byte b) 5 0))))
+
+abbrev pub class_of_kind : TokenKind → ℕ
+class_of_kind Word = 1
+class_of_kind Number = 2
+class_of_kind Local = 2
+class_of_kind Str = 3
+class_of_kind Char = 4
+class_of_kind Sign = 5
+
+pub start_class : (b : ℕ) → is_word_start b ≡ true → class_of b ≡ 1
+start_class b h = rw h refl
+
+pub digit_class : (b : ℕ) → is_ascii_digit b ≡ true → class_of b ≡ 2
+digit_class b h = rw (digit_no_start b h, h) refl
+
+sign_class : (b : ℕ) → (is_sign_byte b && not (is_word_start b) && not (is_ascii_digit b)) ≡ true → class_of b ≡ 5
+sign_class b h =
+    let outer = and_parts (is_sign_byte b && not (is_word_start b)) (not (is_ascii_digit b)) h in
+    let inner = and_parts (is_sign_byte b) (not (is_word_start b)) outer.0 in
+    let last = and_parts (nat_le 0x21 b && nat_le b 0x7E && not (b == 0x22)) (not (b == 0x27)) inner.0 in
+    let third = and_parts (nat_le 0x21 b && nat_le b 0x7E) (not (b == 0x22)) last.0 in
+    rw (inner.0, not-true (is_word_start b) inner.1, not-true (is_ascii_digit b) outer.1, not-true (b == 0x22) third.1, not-true (b == 0x27) last.1) refl
+
+-- a token begins with a byte of its kind's class
+pub first_class : (kind : TokenKind) (b : ℕ) (bs : List ℕ) → IsOfKind kind (b ∷ bs) → class_of b ≡ class_of_kind kind
+first_class Word b bs h = start_class b (and_parts _ _ h).0
+first_class Number b bs h = digit_class b (number_first b bs h)
+first_class Local b bs h = digit_class b (local_first b bs h)
+first_class Str b bs h = rw h.0 refl
+first_class Char b [] h = absurd h
+first_class Char b (c ∷ cs) h = rw h.0 refl
+first_class Sign b [] h = sign_class b h
+first_class Sign b (c ∷ []) h =
+    ⊎_elim
+    (λ (less : (b == 0x3C && c == 0x3C) ≡ true). let e = eqb-true b 0x3C (and_parts _ _ less).0 in rw e refl)
+    (λ (more : (b == 0x3E && c == 0x3E) ≡ true). let e = eqb-true b 0x3E (and_parts _ _ more).0 in rw e refl)
+    (or_cases _ _ h)
+first_class Sign b (c ∷ d ∷ ds) h = absurd cc

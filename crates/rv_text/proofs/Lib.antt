@@ -1,0 +1,12 @@
+pub mod DigitSteps
+pub mod RowLemmas
+pub mod Runs
+pub mod Steps
+pub mod StreamLemmas
+pub mod StringSteps
+pub mod ByteClasses
+pub mod LexicalLaw
+pub mod LexicalLemmas
+pub mod QuotedLemmas
+pub mod SpellingLemmas
+mod Examples

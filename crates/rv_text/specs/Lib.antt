@@ -1,0 +1,9 @@
+pub mod Bytes
+pub mod Counting
+pub mod Faults
+pub mod Numbers
+pub mod Strings
+pub mod Lexing
+pub mod Lexical
+pub mod Rows
+pub mod Streams

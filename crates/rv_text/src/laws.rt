@@ -1,0 +1,15 @@
+//! What holds of the tokens of every line.
+
+ghost use Rattle.std.specs.Prelude.{ℕ, List, length};
+ghost use Rattle.rv_text.specs.Lexing.{tokens_of};
+ghost use Rattle.rv_text.specs.Lexical.{Reads, Rise};
+
+/// The tokens of every line are lexical, whatever way they are found. Read from its first byte on, the line has blanks,
+/// and tokens each of which is a text of its kind and the longest that begins at its place, up to the line's end, a
+/// comment, or a byte, a run of digits and letters or a quote that begins no token and is the fault. The spans rise,
+/// none is empty, and all lie in the line.
+#[tactic(auto, using(crate::proofs::LexicalLaw::reads, crate::proofs::LexicalLaw::rises))]
+pub fn tokens_are_lexical()
+    ensures reads { (line : List ℕ) → Reads 0 line (tokens_of line).tokens (tokens_of line).fault }
+    ensures rise { (line : List ℕ) → Rise 0 (length line) (tokens_of line).tokens }
+{}

@@ -1,0 +1,153 @@
+//! How a line is cut into tokens.
+
+ghost use Rattle.std.specs.Prelude.{◌≡◌, ◌≤◌, ◌<◌, ◌+◌, IfOk, IfSome, length};
+ghost use Rattle.std.specs.Char.{is_ascii_alphanumeric};
+ghost use Rattle.std.specs.List.{prefix_len};
+ghost use Rattle.rv_text.specs.Bytes.{is_word_byte};
+ghost use Rattle.rv_text.specs.Lexing.{front, quoted, FitsIn, lexed_line, numeral, begins, begins_comment, begins_shift};
+
+use crate::classes::{is_blank, is_sign_byte, is_word_byte, is_word_start};
+use crate::faults::{Fault, FaultNumber};
+use crate::lexeme::{Front, Span, Token, TokenKind};
+use crate::numerals::{is_local, number};
+use crate::strings::{char_len, string_len};
+use crate::token_list::{TextError, Tokens};
+use std::alloc::Global;
+
+// Whether a comment begins here.
+fn begins_comment(bytes: &[u8]) -> bool
+    ensures { result ≡ begins_comment bytes.now }
+{
+    matches!(bytes, [b'#', ..] | [b'/', b'/', ..])
+}
+
+// Whether a sign of two bytes begins here.
+fn begins_shift(bytes: &[u8]) -> bool
+    ensures { result ≡ begins_shift bytes.now }
+{
+    matches!(bytes, [b'<', b'<', ..] | [b'>', b'>', ..])
+}
+
+// How many bytes at the front may stand in a word.
+#[tactic(auto, using(crate::proofs::Runs::run_steps))]
+fn word_len(bytes: &[u8]) -> usize
+    ensures { result ≡ prefix_len is_word_byte bytes.now }
+{
+    let mut n = 0;
+    while n < bytes.len() && is_word_byte(bytes[n]) {
+        n += 1;
+    }
+    n
+}
+
+// How many bytes at the front are digits and letters.
+#[tactic(auto, using(crate::proofs::Runs::run_steps))]
+fn alphanumeric_len(bytes: &[u8]) -> usize
+    ensures { result ≡ prefix_len is_ascii_alphanumeric bytes.now }
+{
+    for (n, b) in bytes.iter().enumerate() {
+        if !b.is_ascii_alphanumeric() {
+            return n;
+        }
+    }
+    bytes.len()
+}
+
+// The run of digits and letters at the front: a number, a local label, or wrong.
+#[tactic(auto, using(crate::proofs::Runs::run_steps))]
+fn numeral(bytes: &[u8]) -> Front
+    requires { 0 < prefix_len is_ascii_alphanumeric bytes.now }
+    ensures exact { result ≡ numeral bytes.now }
+    ensures fits { FitsIn (length bytes.now) result }
+{
+    let len = alphanumeric_len(bytes);
+    let run = &bytes[..len];
+    if number(run).is_some() {
+        Front::Lexeme(TokenKind::Number, len)
+    } else if is_local(run) {
+        Front::Lexeme(TokenKind::Local, len)
+    } else {
+        Front::Wrong(FaultNumber::BadNumber, len)
+    }
+}
+
+// A string or a character of which `len` bytes stand behind its first quote; wrong up to the end of the line where it
+// has no such end. `left` is how many bytes there are with that quote.
+fn quoted(kind: TokenKind, len: Option<usize>, left: usize) -> Front
+    requires some { IfSome len (λ n. n < left) }
+    requires left { 1 ≤ left }
+    ensures exact { result ≡ quoted kind len left }
+    ensures fits { FitsIn left result }
+{
+    match len {
+        Some(n) => Front::Lexeme(kind, n + 1),
+        None => Front::Wrong(FaultNumber::BadString, left),
+    }
+}
+
+// What stands at the front of the bytes.
+#[tactic(auto, using(crate::proofs::Runs::run_steps))]
+fn front(bytes: &[u8]) -> Front
+    ensures exact { result ≡ front bytes.now }
+    ensures fits { FitsIn (length bytes.now) result }
+{
+    let Some(first) = bytes.first().copied() else {
+        return Front::Comment;
+    };
+    if is_blank(first) {
+        Front::Blank
+    } else if begins_comment(bytes) {
+        Front::Comment
+    } else if is_word_start(first) {
+        Front::Lexeme(TokenKind::Word, word_len(bytes))
+    } else if first.is_ascii_digit() {
+        numeral(bytes)
+    } else if first == b'"' {
+        quoted(TokenKind::Str, string_len(&bytes[1..]), bytes.len())
+    } else if first == b'\'' {
+        quoted(TokenKind::Char, char_len(&bytes[1..]), bytes.len())
+    } else if begins_shift(bytes) {
+        Front::Lexeme(TokenKind::Sign, 2)
+    } else if is_sign_byte(first) {
+        Front::Lexeme(TokenKind::Sign, 1)
+    } else {
+        Front::Wrong(FaultNumber::BadByte, 1)
+    }
+}
+
+// The `len` bytes from a place on.
+fn span_at(at: usize, len: usize) -> Span
+    requires { at + len ≤ 1000 }
+    ensures { result ≡ record { from = at; to = at + len } }
+{
+    Span {
+        from: at as u32,
+        to: (at + len) as u32,
+    }
+}
+
+/// The tokens of a line of at most 1,000 bytes, each the longest that begins at its place, up to the end, to a comment,
+/// or to the leftmost lexical fault. The one error is want of memory for the list of tokens.
+pub fn tokens(alloc: Global, line: &[u8]) -> Result<Tokens<'_>, TextError>
+    requires { length line.now ≤ 1000 }
+    ensures { IfOk result (λ t. t ≡ lexed_line line.now) }
+{
+    let mut found = Vec::new(alloc);
+    let mut at = 0;
+    while at < line.len() {
+        match front(&line[at..]) {
+            Front::Blank => at += 1,
+            Front::Comment => return Ok(Tokens::new(line, found, None)),
+            Front::Lexeme(kind, len) => {
+                let span = span_at(at, len);
+                found.push(Token { kind, span })?;
+                at += len;
+            }
+            Front::Wrong(number, len) => {
+                let span = span_at(at, len);
+                return Ok(Tokens::new(line, found, Some(Fault { number, span })));
+            }
+        }
+    }
+    Ok(Tokens::new(line, found, None))
+}

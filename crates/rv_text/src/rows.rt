@@ -1,0 +1,114 @@
+//! Rows of output text.
+
+ghost use Rattle.std.specs.Prelude.{◌≡◌, ◌+◌, ◌-◌, ◌^◌, ◌<◌, ◌≤◌, ◌++◌, ◌∷◌, [], length, decimal};
+ghost use Rattle.rv_text.specs.Rows.{hex, hex_digit};
+ghost use Rattle.rv_text.specs.Streams.{failures_after, Writes};
+
+use crate::streams::{Failed, Sink, write_all};
+use arrayvec::ArrayVec;
+use std::marker::Model;
+
+/// A row of output text, or a part of one: at most 64 bytes, put together without taking memory and then written by
+/// one call. Contracts see the bytes.
+#[derive(Drop)]
+pub struct Row {
+    bytes: ArrayVec<u8, 64>,
+}
+
+impl Model for Row {
+    ghost use Rattle.std.specs.Prelude.{ℕ, List, length, ◌≤◌};
+
+    ghost Value = { List ℕ };
+
+    ghost view = { λ r. r.bytes.items };
+
+    ghost invariant = { λ r. length r.bytes.items ≤ 64 };
+}
+
+// The digit of a number below 16, in lower case.
+fn hex_digit(n: u8) -> u8
+    requires { n < 16 }
+    ensures { result ≡ hex_digit n }
+{
+    if n < 10 { b'0' + n } else { b'a' + (n - 10) }
+}
+
+impl Row {
+    /// A row without a byte.
+    pub fn new() -> Self
+        ensures { result ≡ [] }
+    {
+        Row {
+            bytes: ArrayVec::new(),
+        }
+    }
+
+    // One more byte.
+    fn push_byte(&mut self, byte: u8)
+        requires { length self.old < 64 }
+        ensures { self.new ≡ self.old ++ byte ∷ [] }
+    {
+        self.bytes.push(byte);
+    }
+
+    /// The text as it is.
+    pub fn push_text(&mut self, text: &[u8])
+        requires { length self.old + length text.now ≤ 64 }
+        ensures text { self.new ≡ self.old ++ text.now }
+        ensures length { length self.new ≡ length self.old + length text.now }
+    {
+        self.bytes.try_extend_from_slice(text).unwrap();
+    }
+
+    // The digits of the number, where there is room for them.
+    #[tactic(auto, using(std::proofs::lemmas::Fmt::decimal_digit))]
+    fn push_digits(&mut self, n: u32)
+        requires { length self.old + length (decimal n) ≤ 64 }
+        ensures { self.new ≡ self.old ++ decimal n }
+    {
+        if n < 10 {
+            return self.push_byte(b'0' + n as u8);
+        }
+        self.push_digits(n / 10);
+        self.push_byte(b'0' + (n % 10) as u8);
+    }
+
+    /// The number in decimal, without leading zeros.
+    #[tactic(auto, using(crate::proofs::RowLemmas::decimal_short))]
+    pub fn push_decimal(&mut self, n: u32)
+        requires { length self.old + 10 ≤ 64 }
+        ensures text { self.new ≡ self.old ++ decimal n }
+        ensures length { length self.new ≤ length self.old + 10 }
+    {
+        self.push_digits(n);
+    }
+
+    /// The last `digits` hexadecimal digits of the number in lower case, exactly as many, with leading zeros.
+    pub fn push_hex(&mut self, digits: u8, n: u32)
+        requires { length self.old + digits ≤ 64 }
+        ensures text { self.new ≡ self.old ++ hex digits n }
+        ensures length { length self.new ≡ length self.old + digits }
+    {
+        if digits == 0 {
+            return;
+        }
+        self.push_hex(digits - 1, n / 16);
+        self.push_byte(hex_digit((n % 16) as u8));
+    }
+
+    /// The bytes of the row.
+    pub fn bytes(&self) -> &[u8]
+        ensures { result.now ≡ self.now }
+    {
+        self.bytes.as_slice()
+    }
+
+    /// Writes the row, up to the first failure of the writer.
+    pub fn write_to<W: Sink>(&self, sink: &mut W) -> Result<(), Failed>
+        requires { W.failures sink.old < 2 ^ 64 - 1 }
+        ensures text { Writes (W.taken sink.old) self.now result (W.taken sink.new) }
+        ensures count { W.failures sink.new ≡ failures_after (W.failures sink.old) result }
+    {
+        write_all(sink, self.bytes())
+    }
+}
