@@ -73,7 +73,7 @@ digits_alphanumeric base (c ∷ cs) low all =
     let parts = and_parts (is_digit c base) (list_all (λ c. is_digit c base) cs) all in
     and_from (is_ascii_alphanumeric c) (list_all is_ascii_alphanumeric cs) (digit_alphanumeric base c low parts.0) (digits_alphanumeric base cs low parts.1)
 
-digits_all : (base : ℕ) (cs : List ℕ) → is_some (digits_number base cs) ≡ true → list_all (λ c. is_digit c base) cs ≡ true
+pub digits_all : (base : ℕ) (cs : List ℕ) → is_some (digits_number base cs) ≡ true → list_all (λ c. is_digit c base) cs ≡ true
 digits_all base [] some = absurd cc
 digits_all base (c ∷ cs) some = (and_parts _ _ (some_passed _ _ some)).0
 
@@ -115,11 +115,11 @@ decimals_alphanumeric (c ∷ cs) all =
     and_from _ _ (digit_is_alphanumeric c parts.0) (decimals_alphanumeric cs parts.1)
 
 -- all but the last, and the last
-last_behind : (c : ℕ) (cs : List ℕ) → take (length cs) (c ∷ cs) ++ get_or (c ∷ cs) (length cs) 0 ∷ [] ≡ c ∷ cs
+pub last_behind : (c : ℕ) (cs : List ℕ) → take (length cs) (c ∷ cs) ++ get_or (c ∷ cs) (length cs) 0 ∷ [] ≡ c ∷ cs
 last_behind c [] = refl
 last_behind c (d ∷ ds) = ap (λ l. c ∷ l) (last_behind d ds)
 
-local_parts : (c : ℕ) (cs : List ℕ) → is_local (c ∷ cs) ≡ true → (is_local_number (take (length cs) (c ∷ cs)) ≡ true) × ((get_or (c ∷ cs) (length cs) 0 == 0x62 || get_or (c ∷ cs) (length cs) 0 == 0x66) ≡ true)
+pub local_parts : (c : ℕ) (cs : List ℕ) → is_local (c ∷ cs) ≡ true → (is_local_number (take (length cs) (c ∷ cs)) ≡ true) × ((get_or (c ∷ cs) (length cs) 0 == 0x62 || get_or (c ∷ cs) (length cs) 0 == 0x66) ≡ true)
 local_parts c cs h = let e : length (c ∷ cs) - 1 ≡ length cs = omega arith in and_parts _ _ (rw e at h)
 
 letter_last : (c : ℕ) → (c == 0x62 || c == 0x66) ≡ true → is_ascii_alphanumeric c ≡ true

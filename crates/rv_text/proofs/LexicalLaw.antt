@@ -13,7 +13,7 @@ use Rattle.rv_text.proofs.LexicalLemmas.{Stands, front_stands}
 abbrev ReadsAs : ℕ → List ℕ → Lexed → Type 0
 ReadsAs at bs l = Reads at bs l.tokens l.fault
 
-some_bytes : (kind : TokenKind) (n : ℕ) (bs : List ℕ) → IsOfKind kind (take n bs) → 1 ≤ n
+pub some_bytes : (kind : TokenKind) (n : ℕ) (bs : List ℕ) → IsOfKind kind (take n bs) → 1 ≤ n
 some_bytes kind zero bs h = absurd h
 some_bytes kind (suc n) bs h = omega arith
 

@@ -20,7 +20,7 @@ use Rattle.rv_text.proofs.ByteClasses.{run_longest, run_all, run_ends, run_more,
 use Rattle.rv_text.proofs.QuotedLemmas.{string_sound, string_complete, character_sound, character_complete}
 
 -- a token that begins with a byte of a class is of a kind of that class
-kind_of : (c : ℕ) (kind : TokenKind) (b : ℕ) (bs : List ℕ) → class_of b ≡ c → IsOfKind kind (b ∷ bs) → class_of_kind kind ≡ c
+pub kind_of : (c : ℕ) (kind : TokenKind) (b : ℕ) (bs : List ℕ) → class_of b ≡ c → IsOfKind kind (b ∷ bs) → class_of_kind kind ≡ c
 kind_of c kind b bs own text = sym (first_class kind b bs text) ∙ own
 
 start_in_word : (b : ℕ) → is_word_start b ≡ true → is_word_byte b ≡ true

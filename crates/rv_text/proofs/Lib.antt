@@ -7,6 +7,7 @@ pub mod StringSteps
 pub mod ByteClasses
 pub mod LexicalLaw
 pub mod LexicalLemmas
+pub mod LexicalOnly
 pub mod QuotedLemmas
 pub mod SpellingLemmas
 mod Examples

@@ -1,0 +1,52 @@
+//! The cases, and what can come of one.
+
+use std::alloc::Global;
+
+/// Which call is made.
+#[derive(Clone, Copy, Debug, PartialEq, Eq)]
+pub enum Case {
+    Tokens,
+    Sink,
+    Insert,
+    Delete,
+}
+
+/// What came of the call.
+#[derive(Clone, Copy, Debug, PartialEq, Eq)]
+pub enum Outcome {
+    /// The call was refused, left everything as it was, and was made when asked again.
+    Refused,
+    /// The call was made at once.
+    Made,
+    /// The call answered or left something else.
+    Wrong,
+    /// A request was refused before the call.
+    Unprepared,
+}
+
+/// The case and the number of pads that the input names.
+pub fn read_case(input: &[u8]) -> Option<(Case, u32)> {
+    let line = input.strip_suffix(b"\n")?;
+    for (name, case) in [
+        (b"tokens ".as_slice(), Case::Tokens),
+        (b"sink ", Case::Sink),
+        (b"insert ", Case::Insert),
+        (b"delete ", Case::Delete),
+    ] {
+        if let Some(digits) = line.strip_prefix(name) {
+            let pads = rv_text::digits(10, digits)?;
+            return Some((case, u32::try_from(pads).ok()?));
+        }
+    }
+    None
+}
+
+/// Makes so many requests, and says whether all were granted.
+pub fn pad(alloc: Global, pads: u32) -> bool {
+    for _ in 0..pads {
+        if Box::new(alloc, 0u64).is_err() {
+            return false;
+        }
+    }
+    true
+}

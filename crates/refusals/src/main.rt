@@ -1,0 +1,44 @@
+//! Runs one call whose k-th request for memory is refused, and says what the call answered and left.
+//!
+//! The harness (`tools/refusals`) refuses one request by its number from the start of the process. So a case sets up
+//! what the call needs, takes pads, and then makes the call: more pads bring an earlier request of the call to that
+//! number. Input: the name of the case, a blank, how many pads, a line break.
+#![tactic(auto)]
+
+mod case;
+mod store_case;
+mod text_case;
+
+use case::{Case, Outcome, read_case};
+use std::io;
+use std::io::Read;
+use store_case::{Edit, edit_refused};
+use text_case::{sink_refused, tokens_refused};
+
+// What is printed for an outcome.
+fn verdict(outcome: Outcome) -> &'static str {
+    match outcome {
+        Outcome::Refused => "refused, unchanged, and made when asked again",
+        Outcome::Made => "made",
+        Outcome::Wrong => "WRONG",
+        Outcome::Unprepared => "refused before the call",
+    }
+}
+
+fn main(rt: HostRuntime) -> io::Result<()> {
+    let mut input = [0u8; 64];
+    let n = rt.reader().read(&mut input)?;
+    let (input, _) = input.split_at(n);
+    let Some((case, pads)) = read_case(input) else {
+        println!(rt; "no such case")?;
+        return Ok(());
+    };
+    let outcome = match case {
+        Case::Tokens => tokens_refused(rt.alloc(), pads),
+        Case::Sink => sink_refused(rt.alloc(), pads),
+        Case::Insert => edit_refused(rt.alloc(), pads, Edit::Insert),
+        Case::Delete => edit_refused(rt.alloc(), pads, Edit::Delete),
+    };
+    println!(rt; "{}", verdict(outcome))?;
+    Ok(())
+}

@@ -1,0 +1,62 @@
+use Rattle.std.proofs.Common.{◌≡◌, ◌++◌, take, drop, refl}
+use Rattle.std.proofs.lemmas.Result.{err_from_is_err_and}
+use Rattle.rvedit.proofs.CutLemmas.{unbroken_none, unbroken_join}
+use Rattle.rvedit.proofs.StepLemmas.{answered_none, answered_first, stops_first, answered_then, answered_stops}
+use Rattle.rvedit.proofs.chunk.answer_chunk.Goals as goal
+
+pub returns-in_err-extend_from_slice-clause-err : goal.returns-in_err-extend_from_slice-clause-err
+returns-in_err-extend_from_slice-clause-err g c =
+    let failed = err_from_is_err_and c.from_residual.result c.from_residual.ensures.1 in
+    rw (failed.1, failed.2) (c.args.pending.now.items ++ c.args.chunk.now, c.args.store.now, answered_none _ _ _)
+
+pub returns-in_default-clause-unbroken : goal.returns-in_default-clause-unbroken
+returns-in_default-clause-unbroken g c =
+    rw c.in_ok-extend_from_slice.ensures.items (unbroken_join c.args.pending.now.items c.args.chunk.now c.requires.unbroken (unbroken_none c.args.chunk.now c.in_default.ensures))
+
+pub returns-in_err-extend_from_slice-2-clause-err : goal.returns-in_err-extend_from_slice-2-clause-err
+returns-in_err-extend_from_slice-2-clause-err g c =
+    let failed = err_from_is_err_and c.from_residual-in_err-extend_from_slice-2.result c.from_residual-in_err-extend_from_slice-2.ensures.1 in
+    rw (failed.1, failed.2) (c.args.pending.now.items ++ c.args.chunk.now, c.args.store.now, answered_none _ _ _)
+
+pub returns-in_default-answer_command-clause-err : goal.returns-in_default-answer_command-clause-err
+returns-in_default-answer_command-clause-err g c =
+    let pending = c.args.pending.now.items in
+    let chunk = c.args.chunk.now in
+    let at = c.in-Some.at in
+    let command : c.as_slice.result.now ≡ pending ++ take at chunk = rw (c.as_slice.ensures.value, c.in_ok-extend_from_slice-2.ensures.items, c.split_at.ensures.front) refl in
+    let told = c.in_default-answer_command.ensures.text in
+    stops_first _ c.answer_command.new.store pending chunk _ told.0 at _ _ c.requires.unbroken c.in-Some.ensures command told.1 told.2
+
+pub returns-in_default-answer_commands-clause-err : goal.returns-in_default-answer_commands-clause-err
+returns-in_default-answer_commands-clause-err g c =
+    let pending = c.args.pending.now.items in
+    let chunk = c.args.chunk.now in
+    let at = c.in-Some.at in
+    let command : c.as_slice.result.now ≡ pending ++ take at chunk = rw (c.as_slice.ensures.value, c.in_ok-extend_from_slice-2.ensures.items, c.split_at.ensures.front) refl in
+    let told = c.in-Ok.ensures.text in
+    let next : c.split_at-2.result.1.now ≡ drop 1 (drop at chunk) = rw (c.split_at-2.ensures.back, c.split_at.ensures.back) refl in
+    let first = answered_first _ c.answer_command.new.store pending chunk _ told.0 _ at _ _ c.requires.unbroken c.in-Some.ensures command next told.1 told.2 in
+    answered_stops _ _ _ _ _ _ _ first c.in_default-answer_commands.ensures.err
+
+pub returns-in_err-extend_from_slice-3-clause-err : goal.returns-in_err-extend_from_slice-3-clause-err
+returns-in_err-extend_from_slice-3-clause-err g c =
+    let failed = err_from_is_err_and c.from_residual-in_err-extend_from_slice-3.result c.from_residual-in_err-extend_from_slice-3.ensures.1 in
+    let pending = c.args.pending.now.items in
+    let chunk = c.args.chunk.now in
+    let at = c.in-Some.at in
+    let command : c.as_slice.result.now ≡ pending ++ take at chunk = rw (c.as_slice.ensures.value, c.in_ok-extend_from_slice-2.ensures.items, c.split_at.ensures.front) refl in
+    let told = c.in-Ok.ensures.text in
+    let next : c.split_at-2.result.1.now ≡ drop 1 (drop at chunk) = rw (c.split_at-2.ensures.back, c.split_at.ensures.back) refl in
+    let first = answered_first _ c.answer_command.new.store pending chunk _ told.0 _ at _ _ c.requires.unbroken c.in-Some.ensures command next told.1 told.2 in
+    rw (failed.1, failed.2) (c.in-Ok-answer_commands.rest.now, c.answer_commands.new.store, answered_then _ _ _ _ _ _ _ _ _ first c.in-Ok-answer_commands.ensures.ok)
+
+pub returns-clause-ok : goal.returns-clause-ok
+returns-clause-ok g c =
+    let pending = c.args.pending.now.items in
+    let chunk = c.args.chunk.now in
+    let at = c.in-Some.at in
+    let command : c.as_slice.result.now ≡ pending ++ take at chunk = rw (c.as_slice.ensures.value, c.in_ok-extend_from_slice-2.ensures.items, c.split_at.ensures.front) refl in
+    let told = c.in-Ok.ensures.text in
+    let next : c.split_at-2.result.1.now ≡ drop 1 (drop at chunk) = rw (c.split_at-2.ensures.back, c.split_at.ensures.back) refl in
+    let first = answered_first _ c.answer_command.new.store pending chunk _ told.0 _ at _ _ c.requires.unbroken c.in-Some.ensures command next told.1 told.2 in
+    rw (c.in_ok-extend_from_slice-3.ensures.items, c.clear.ensures.items) (answered_then _ _ _ _ _ _ _ _ _ first c.in-Ok-answer_commands.ensures.ok)

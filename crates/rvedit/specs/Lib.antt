@@ -1,0 +1,6 @@
+pub mod Commands
+pub mod Transcript
+pub mod Outcomes
+pub mod Steps
+pub mod Faults
+pub mod Arguments

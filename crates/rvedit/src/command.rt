@@ -1,0 +1,53 @@
+// The commands of the editor.
+
+ghost use Rattle.std.specs.Prelude.{◌≡◌};
+ghost use Rattle.std.specs.Option.{option_map};
+ghost use Rattle.rvedit.specs.Commands.{place_of, request, request_of};
+
+/// What a command asks for.
+#[derive(Clone, Copy, Debug)]
+pub enum Command<'a> {
+    /// Put a line behind the last one.
+    Append(&'a [u8]),
+    /// Take the line of this number out.
+    Delete(u32),
+    /// Show the image.
+    Image,
+}
+
+// The number of a line.
+fn read_place(digits: &[u8]) -> Option<u32>
+    ensures { result ≡ place_of digits.now }
+{
+    if digits.is_empty() || digits.len() > 9 {
+        return None;
+    }
+    let mut place = 0u32;
+    'digits: for digit in digits {
+        if !digit.is_ascii_digit() {
+            return None;
+        }
+        place = place * 10 + u32::from(*digit - b'0');
+    }
+    Some(place)
+}
+
+/// What the bytes of a command, without its line break, ask for, if anything.
+pub fn read_command(command: &[u8]) -> Option<Command<'_>>
+    ensures { option_map request result ≡ request_of command.now }
+{
+    if command == b"a".as_slice() {
+        return Some(Command::Append(&[]));
+    }
+    if command.starts_with(b"a ") {
+        return Some(Command::Append(&command[2..]));
+    }
+    if command.starts_with(b"d ") {
+        let place = read_place(&command[2..])?;
+        return Some(Command::Delete(place));
+    }
+    if command == b"image".as_slice() {
+        return Some(Command::Image);
+    }
+    None
+}

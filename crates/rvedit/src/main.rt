@@ -1,0 +1,81 @@
+// An editor of assembly text: commands come in, answers go out.
+#![tactic(auto)]
+
+ghost use Rattle.std.specs.Prelude.{◌≡◌, true};
+ghost use Rattle.rv_store.specs.Text.{is_base};
+
+pub mod answer;
+pub mod arguments;
+pub mod chunk;
+pub mod command;
+pub mod numbered;
+pub mod run;
+pub mod run_error;
+#[cfg(test)]
+mod tests;
+
+use arguments::{ArgFault, arguments};
+use run::run;
+use run_error::{RunError, message, status};
+use rv_text::{StdSink, StdSource};
+use std::io;
+use std::process::ExitCode;
+
+// Says something on standard error, if it can be said.
+fn say(rt: &HostRuntime, text: &str) {
+    let _ = rt.eprintln(text);
+}
+
+// Says why a run ended early, and gives the status.
+fn report(rt: &HostRuntime, e: RunError) -> u8 {
+    say(rt, message(&e));
+    status(&e)
+}
+
+// Runs on standard input and output.
+fn edit(rt: &HostRuntime, base: u32) -> u8
+    requires { is_base base ≡ true }
+{
+    let mut source = StdSource::new(rt.reader());
+    let mut sink = StdSink::new(io::writer(rt));
+    match run(rt.alloc(), &mut source, &mut sink, base) {
+        Ok(()) => 0,
+        Err(e) => report(rt, e),
+    }
+}
+
+// Says why the arguments give no base, and gives the status. Help or a usage text that can't be written is a write fault.
+fn refuse(rt: &HostRuntime, fault: ArgFault) -> u8 {
+    let status = fault.status();
+    let written = match fault {
+        ArgFault::Help(text) => rt.print(text).is_ok(),
+        ArgFault::Usage(text) => rt.eprint(text).is_ok(),
+        ArgFault::Base => {
+            say(rt, "rvedit: bad base");
+            true
+        }
+        ArgFault::Memory => {
+            say(rt, message(&RunError::Memory));
+            true
+        }
+    };
+    if written {
+        status
+    } else {
+        report(rt, RunError::Write)
+    }
+}
+
+fn main(rt: HostRuntime) -> ExitCode {
+    let Ok(words) = std::env::args(&rt) else {
+        say(&rt, "rvedit: bad arguments");
+        return ExitCode::from(2);
+    };
+    let Ok(words) = words.collect::<Vec<String>>(rt.alloc()) else {
+        return ExitCode::from(report(&rt, RunError::Memory));
+    };
+    match arguments(rt.alloc(), words.as_slice()) {
+        Ok(base) => ExitCode::from(edit(&rt, base)),
+        Err(fault) => ExitCode::from(refuse(&rt, fault)),
+    }
+}
