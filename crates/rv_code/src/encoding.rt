@@ -1,5 +1,5 @@
 //! The words of instructions.
-ghost use Rattle.std.specs.Prelude.{◌≡◌, ◌+◌, ◌/◌, ◌%◌, ◌^◌, ◌<◌, ◌≤◌, IsTrue, true, false};
+ghost use Rattle.std.specs.Prelude.{◌≡◌, ◌+◌, ◌/◌, ◌%◌, ◌^◌, ◌<◌, ◌≤◌, IsTrue, false};
 ghost use Rattle.std.specs.List.{list_all};
 ghost use Rattle.rv_code.specs.Room.{is_piece, most, room};
 ghost use Rattle.rv_code.specs.Table.{fixed_of, is_full, pieces_of, shape_of};

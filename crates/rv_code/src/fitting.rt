@@ -1,5 +1,5 @@
 //! Whether an operation takes given fields.
-ghost use Rattle.std.specs.Prelude.{◌≡◌, ◌<◌, ◌↔◌, IsTrue};
+ghost use Rattle.std.specs.Prelude.{◌<◌, ◌↔◌, IsTrue};
 ghost use Rattle.rv_code.specs.Encoding.{InClass, InLimits, Fits};
 
 use crate::instruction::Fields;

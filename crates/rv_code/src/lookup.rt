@@ -1,5 +1,5 @@
 //! What the tables say of an operation.
-ghost use Rattle.std.specs.Prelude.{◌≡◌, ◌+◌, ◌<◌, ◌^◌, ◌↔◌, ◌%◌, IsTrue};
+ghost use Rattle.std.specs.Prelude.{◌≡◌, ◌+◌, ◌<◌, ◌^◌, IsTrue};
 ghost use Rattle.std.specs.List.{list_all};
 ghost use Rattle.rv_code.specs.Room.{is_piece, room};
 ghost use Rattle.rv_code.specs.Table.{operation_name, shape_of, fixed_of, mask_of, classes_of, limits_of, pieces_of};

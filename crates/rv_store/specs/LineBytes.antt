@@ -1,7 +1,7 @@
 -- The bytes of a line. So far a line has bytes where it is one of sixteen instructions of RISC-V Unprivileged ISA
 -- 20191213, section 2.4: `NAME rd, rs1, rs2` for an operation on registers, `NAME rd, rs1, LITERAL` for one with an
 -- immediate. Every other line has none.
-use Rattle.std.specs.Prelude.{ℕ, ℤ, pos, negsuc, neg_ℤ, int_le, Bool, ◌&&◌, ◌==◌, List, [], length, map, Option, Some, None, is_some, nat_le, option_map, option_and_then, slice_index_or, if◌then◌else◌, codes, bytes_eq}
+use Rattle.std.specs.Prelude.{ℕ, ℤ, pos, neg_ℤ, Bool, ◌&&◌, ◌==◌, List, [], length, map, Option, Some, None, is_some, nat_le, option_map, option_and_then, slice_index_or, if◌then◌else◌, codes, bytes_eq}
 use Rattle.rv_text.specs.Lexing.{LexedLine, lexed_line, pieces}
 use Rattle.rv_text.specs.Numbers.{number_of}
 use Rattle.rv_code.specs.declared.op.Op.{Op}
@@ -11,7 +11,7 @@ use Rattle.rv_code.specs.declared.word.Word.{Word}
 use Rattle.rv_code.specs.declared.word.Word.TheVariants.{Full}
 use Rattle.rv_code.specs.Table.{shape_of, operation_named}
 use Rattle.rv_code.specs.Registers.{register_named}
-use Rattle.rv_code.specs.Encoding.{word_of, bytes_of_word, register_fields, immediate_fields}
+use Rattle.rv_code.specs.Encoding.{word_of, bytes_of_word, is_immediate, register_fields, immediate_fields}
 
 -- the texts of the tokens
 abbrev pub texts : LexedLine → List (List ℕ)
@@ -28,10 +28,6 @@ literal_of tokens =
     else (if length tokens == 7 && bytes_eq (token_text tokens 5) (codes "-")
     then option_map (λ n. neg_ℤ (pos n)) (number_of (token_text tokens 6))
     else None)
-
--- a value of twelve bits with its sign
-abbrev pub is_immediate : ℤ → Bool
-is_immediate value = int_le (negsuc 2047) value && int_le value (pos 2047)
 
 -- The word by the last operand, which stands from the sixth token on. An immediate that does not fit gives a word of
 -- zeros.

@@ -1,4 +1,4 @@
-// Where a text may begin.
+//! Where a text may begin.
 
 ghost use Rattle.std.specs.Prelude.{◌≡◌};
 ghost use Rattle.rv_store.specs.Text.{is_base};

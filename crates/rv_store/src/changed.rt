@@ -1,4 +1,4 @@
-// What an edit reports.
+//! What an edit reports.
 
 ghost use Rattle.std.specs.Prelude.{◌≡◌, ◌∷◌, [], IfOk};
 

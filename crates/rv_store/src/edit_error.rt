@@ -1,4 +1,4 @@
-// Why an edit is refused.
+//! Why an edit is refused.
 
 ghost use Rattle.std.specs.Prelude.{◌≡◌};
 ghost use Rattle.rv_store.specs.declared.edit_error.EditError.TheVariants.{Memory};

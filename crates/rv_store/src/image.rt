@@ -1,10 +1,10 @@
-// The image of a text.
+//! The image of a text.
 
-ghost use Rattle.std.specs.Prelude.{◌≡◌, ◌-◌, ◌+◌, ◌*◌, ◌^◌, ◌<◌, ◌≤◌, length, codes as text_bytes};
+ghost use Rattle.std.specs.Prelude.{◌≡◌, ◌-◌, ◌+◌, ◌^◌, ◌<◌, ◌≤◌, length};
 ghost use Rattle.std.specs.List.{flat_map};
 ghost use Rattle.rv_text.specs.Streams.{failures_after, Writes};
 ghost use Rattle.rv_store.specs.LineBytes.{bytes_of_code};
-ghost use Rattle.rv_store.specs.Image.{byte_text, byte_row, byte_rows, section_row, text_section, empty_sections, image_of, image_text};
+ghost use Rattle.rv_store.specs.Image.{byte_row, byte_rows, section_row, text_section, empty_sections, image_of, image_text};
 
 use crate::store::Store;
 use crate::word_bytes::WordBytes;

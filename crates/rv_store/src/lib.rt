@@ -1,4 +1,4 @@
-// A text kept as a list of lines, with the code of each line.
+//! A text kept as a list of lines, with the code of each line.
 #![tactic(auto)]
 
 mod base;

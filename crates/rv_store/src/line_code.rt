@@ -1,6 +1,6 @@
-// The word of a line.
+//! The word of a line.
 
-ghost use Rattle.std.specs.Prelude.{◌≡◌, ◌≤◌, ◌<◌, ◌+◌, ◌-◌, ◌^◌, length, IfOk};
+ghost use Rattle.std.specs.Prelude.{◌≡◌, ◌≤◌, ◌<◌, ◌+◌, ◌^◌, length, IfOk};
 ghost use Rattle.rv_code.specs.Table.{shape_of};
 ghost use Rattle.rv_store.specs.LineBytes.{texts, token_text, literal_of, word_by_last, has_commas, word_spelled, word_of_line};
 

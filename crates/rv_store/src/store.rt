@@ -1,6 +1,6 @@
-// The store.
+//! The store.
 
-ghost use Rattle.std.specs.Prelude.{◌≡◌, ◌+◌, ◌-◌, ◌^◌, ◌<◌, ◌≤◌, ◌==◌, ℕ, List, [], length, map, None, if◌then◌else◌, IfOk, IfErr, slice_get, true, false};
+ghost use Rattle.std.specs.Prelude.{◌≡◌, ◌+◌, ◌-◌, ◌^◌, ◌<◌, ◌≤◌, ◌==◌, [], length, map, None, if◌then◌else◌, IfOk, IfErr, slice_get, true, false};
 ghost use Rattle.std.specs.Option.{option_map};
 ghost use Rattle.rv_store.specs.LineBytes.{word_of_line};
 ghost use Rattle.rv_store.specs.Text.{is_base, Insert, Delete, refusal_of, Edits};

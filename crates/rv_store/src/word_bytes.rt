@@ -1,4 +1,4 @@
-// The bytes of the words, one after another.
+//! The bytes of the words, one after another.
 
 ghost use Rattle.std.specs.Prelude.{◌≡◌, ◌∷◌, [], ◌++◌, length, take, drop, IfSome, IfNone};
 ghost use Rattle.std.specs.List.{flat_map};

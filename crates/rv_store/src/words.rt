@@ -1,6 +1,6 @@
-// Lists of words.
+//! Lists of words.
 
-ghost use Rattle.std.specs.Prelude.{◌≡◌, ◌≤◌, ◌<◌, ◌+◌, length, insert, remove, sum_by, IfOk};
+ghost use Rattle.std.specs.Prelude.{◌≡◌, ◌≤◌, ◌+◌, length, insert, remove, IfOk};
 ghost use Rattle.std.specs.List.{flat_map};
 ghost use Rattle.rv_store.specs.LineBytes.{bytes_of_code};
 

@@ -1,6 +1,6 @@
 //! A reader or a writer of which one call fails.
 
-ghost use Rattle.std.specs.Prelude.{◌≡◌, ◌==◌, ◌+◌, ◌-◌, ◌^◌, ◌<◌, ◌≤◌, Option, Some, length, take, IfOk, OnErr, IsErr};
+ghost use Rattle.std.specs.Prelude.{◌≡◌, ◌==◌, ◌+◌, ◌-◌, ◌^◌, ◌<◌, ◌≤◌, Some, length, take, IfOk, OnErr, IsErr};
 ghost use Rattle.rv_text.specs.Streams.{before, behind, IsAtEnd, failures_after, calls_before, after_call, fails_now, failures_to_come};
 
 use crate::streams::{Failed, Sink, Source};

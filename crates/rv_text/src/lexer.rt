@@ -4,7 +4,7 @@ ghost use Rattle.std.specs.Prelude.{◌≡◌, ◌≤◌, ◌<◌, ◌+◌, IfOk
 ghost use Rattle.std.specs.Char.{is_ascii_alphanumeric};
 ghost use Rattle.std.specs.List.{prefix_len};
 ghost use Rattle.rv_text.specs.Bytes.{is_word_byte};
-ghost use Rattle.rv_text.specs.Lexing.{front, quoted, FitsIn, lexed_line, numeral, begins, begins_comment, begins_shift};
+ghost use Rattle.rv_text.specs.Lexing.{front, quoted, FitsIn, lexed_line, numeral, begins_comment, begins_shift};
 
 use crate::classes::{is_blank, is_sign_byte, is_word_byte, is_word_start};
 use crate::faults::{Fault, FaultNumber};

@@ -1,6 +1,6 @@
 //! Strings and characters.
 
-ghost use Rattle.std.specs.Prelude.{◌≡◌, ◌≤◌, ◌<◌, ◌+◌, IfSome, length, min};
+ghost use Rattle.std.specs.Prelude.{◌≡◌, ◌≤◌, ◌<◌, IfSome, length, min};
 ghost use Rattle.std.specs.List.{prefix_len};
 ghost use Rattle.rv_text.specs.Strings.{letter_escape, is_octal, octal_escape, escape, spelled, string_len, char_len, may_stand, escaped_at};
 

@@ -1,4 +1,4 @@
-// The answer to one command.
+//! The answer to one command.
 
 ghost use Rattle.std.specs.Prelude.{◌≡◌, ◌-◌, ◌^◌, ◌<◌, ◌≤◌};
 ghost use Rattle.rv_text.specs.Streams.{failures_after, Writes};

@@ -1,4 +1,4 @@
-// The arguments of the program.
+//! The arguments of the program.
 
 ghost use Rattle.std.specs.Prelude.{◌≡◌, true, IfOk, IfSome};
 ghost use Rattle.rv_store.specs.Text.{is_base};

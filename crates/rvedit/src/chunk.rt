@@ -1,6 +1,6 @@
-// A chunk of the input: how it is read, and how its commands are answered.
+//! A chunk of the input: how it is read, and how its commands are answered.
 
-ghost use Rattle.std.specs.Prelude.{◌≡◌, ◌+◌, ◌-◌, ◌^◌, ◌<◌, ◌≤◌, ◌++◌, length, IfOk, OnOk, OnErr, IfErr};
+ghost use Rattle.std.specs.Prelude.{◌≡◌, ◌-◌, ◌^◌, ◌<◌, ◌++◌, length, IfOk, OnOk, OnErr, IfErr};
 ghost use Rattle.rv_text.specs.Streams.{failures_after};
 ghost use Rattle.rvedit.specs.Outcomes.{failures_by_write};
 ghost use Rattle.rvedit.specs.Steps.{IsUnbroken, Answered, StopsAtWrite, StopsBy, ReadsChunk};

@@ -1,4 +1,4 @@
-// The commands of the editor.
+//! The commands of the editor.
 
 ghost use Rattle.std.specs.Prelude.{◌≡◌};
 ghost use Rattle.std.specs.Option.{option_map};

@@ -1,4 +1,4 @@
-// An editor of assembly text: commands come in, answers go out.
+//! An editor of assembly text: commands come in, answers go out.
 #![tactic(auto)]
 
 ghost use Rattle.std.specs.Prelude.{◌≡◌, true};

@@ -1,4 +1,4 @@
-// Answers with a number.
+//! Answers with a number.
 
 ghost use Rattle.std.specs.Prelude.{◌≡◌, ◌-◌, ◌^◌, ◌<◌, ◌≤◌, length};
 ghost use Rattle.rv_text.specs.Streams.{failures_after, Writes};

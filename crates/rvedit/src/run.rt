@@ -1,4 +1,4 @@
-// The loop over the input.
+//! The loop over the input.
 
 ghost use Rattle.std.specs.Prelude.{◌≡◌, ◌-◌, ◌^◌, ◌<◌, true, OnOk, IfErr};
 ghost use Rattle.rv_store.specs.Text.{is_base};

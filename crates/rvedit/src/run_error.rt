@@ -1,4 +1,4 @@
-// Why a run ends early.
+//! Why a run ends early.
 
 ghost use Rattle.std.specs.Prelude.{◌≡◌};
 ghost use Rattle.rvedit.specs.declared.run_error.RunError.TheVariants.{Memory};

@@ -1,4 +1,4 @@
-// What no clause says: worked inputs, answers in full, and failures in mid-stream.
+//! What no clause says: worked inputs, answers in full, and failures in mid-stream.
 
 ghost use Rattle.std.specs.Prelude.{None};
 
