@@ -28,7 +28,7 @@ impl LineNumbers {
     }
 }
 
-/// The lines that an edit changed, by their numbers after it.
+/// What an edit says of the lines that it changed. Which lines it lists is not promised yet.
 #[derive(Debug, Drop)]
 pub struct Changed {
     pub lines: LineNumbers,

