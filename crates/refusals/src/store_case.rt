@@ -1,5 +1,7 @@
 //! Edits of `rv_store`.
 
+ghost use Rattle.std.specs.Prelude.{◌≡◌, IfOk};
+
 use crate::case::{Outcome, pad};
 use rv_store::{Changed, EditError, Store, write_image};
 use rv_text::{MemSink, Tally};
@@ -41,7 +43,9 @@ struct Trial {
     second: MemSink,
 }
 
-fn make_trial(alloc: Global) -> Result<Trial, EditError> {
+fn make_trial(alloc: Global) -> Result<Trial, EditError>
+    ensures { IfOk result (λ trial. (trial.first.failures ≡ 0) × (trial.second.failures ≡ 0)) }
+{
     let mut store = Store::new(alloc, 0)?;
     let _ = store.insert(1, b"addi a0, a0, 1", &mut Tally::new())?;
     let _ = store.insert(2, b"# no bytes", &mut Tally::new())?;
@@ -64,7 +68,9 @@ fn make(store: &mut Store, edit: Edit) -> Result<Changed, EditError> {
 }
 
 // Whether the store has so many lines and this image.
-fn shows(store: &Store, sink: &mut MemSink, lines: usize, image: &str) -> bool {
+fn shows(store: &Store, sink: &mut MemSink, lines: usize, image: &str) -> bool
+    requires { sink.old.failures ≡ 0 }
+{
     store.len() == lines && write_image(store, sink).is_ok() && sink.bytes() == image.as_bytes()
 }
 
