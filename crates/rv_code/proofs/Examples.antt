@@ -1,116 +1,203 @@
 -- Worked rows, computed from the definitions. The words are those of the assembler of LLVM 14.0.6.
-use Rattle.std.proofs.Common.{◌≡◌, ◌+◌, ◌-◌, ◌^◌, refl, [], ◌∷◌, Some, None, pos, negsuc}
-use Rattle.std.specs.Prelude.{codes, bit_and, if◌then◌else◌}
-use Rattle.rv_code.specs.declared.op.Op.{Op}
-use Rattle.rv_code.specs.declared.op.Shape.{Shape}
-use Rattle.rv_code.specs.declared.op.Shape.TheVariants.{Register}
-use Rattle.rv_code.specs.declared.op.Op.TheVariants.{Add}
-use Rattle.rv_code.specs.declared.op.Op.TheVariants as op
+use Rattle.std.proofs.Common.{◌≡◌, ℕ, ℤ, refl, [], ◌∷◌, Some, None, pos, negsuc}
+use Rattle.rv_ops.specs.declared.op.Op.TheVariants as op
+use Rattle.rv_ops.specs.Table.{row_of, layout_of}
+use Rattle.rv_code.specs.declared.instruction.Fields.{Fields}
 use Rattle.rv_code.specs.declared.word.Word.TheVariants.{Half, Full}
 use Rattle.rv_code.specs.Encoding.{encoding_of, word_of, bytes_of_word, register_fields, immediate_fields, immediate_instruction}
-use Rattle.rv_code.specs.Registers.{register_named, register_names, register_name}
-use Rattle.rv_code.specs.Room.{room}
-use Rattle.rv_code.specs.Table.{operation_named, operation_names, row_of, layout_of, fixed_of, mask_of, is_full, pieces_of, shape_of}
 
--- add a0, s5, t1
-add_word : word_of op.Add (register_fields 10 21 6) ≡ Full 0x006a8533
-unfolding word_of encoding_of row_of layout_of
-add_word = refl
+fields : ℕ → ℕ → ℕ → ℤ → Fields
+fields rd rs1 rs2 v = record { rd = rd; rs1 = rs1; rs2 = rs2; value = v }
+
+-- mul a0, a1, a2
+mul_word : word_of op.Mul (fields 10 11 12 (pos 0)) ≡ Full 0x02c58533
+unfolding word_of encoding_of row_of layout_of fields
+mul_word = refl
 
 -- sub a0, s5, t1
-sub_word : word_of op.Sub (register_fields 10 21 6) ≡ Full 0x406a8533
-unfolding word_of encoding_of row_of layout_of
+sub_word : word_of op.Sub (fields 10 21 6 (pos 0)) ≡ Full 0x406a8533
+unfolding word_of encoding_of row_of layout_of fields
 sub_word = refl
 
--- sll a0, s5, t1
-sll_word : word_of op.Sll (register_fields 10 21 6) ≡ Full 0x006a9533
-unfolding word_of encoding_of row_of layout_of
-sll_word = refl
-
--- slt a0, s5, t1
-slt_word : word_of op.Slt (register_fields 10 21 6) ≡ Full 0x006aa533
-unfolding word_of encoding_of row_of layout_of
-slt_word = refl
-
--- sltu a0, s5, t1
-sltu_word : word_of op.Sltu (register_fields 10 21 6) ≡ Full 0x006ab533
-unfolding word_of encoding_of row_of layout_of
-sltu_word = refl
-
--- xor a0, s5, t1
-xor_word : word_of op.Xor (register_fields 10 21 6) ≡ Full 0x006ac533
-unfolding word_of encoding_of row_of layout_of
-xor_word = refl
-
--- srl a0, s5, t1
-srl_word : word_of op.Srl (register_fields 10 21 6) ≡ Full 0x006ad533
-unfolding word_of encoding_of row_of layout_of
-srl_word = refl
-
--- sra a0, s5, t1
-sra_word : word_of op.Sra (register_fields 10 21 6) ≡ Full 0x406ad533
-unfolding word_of encoding_of row_of layout_of
-sra_word = refl
-
--- or a0, s5, t1
-or_word : word_of op.Or (register_fields 10 21 6) ≡ Full 0x006ae533
-unfolding word_of encoding_of row_of layout_of
-or_word = refl
-
--- and a0, s5, t1
-and_word : word_of op.And (register_fields 10 21 6) ≡ Full 0x006af533
-unfolding word_of encoding_of row_of layout_of
-and_word = refl
-
--- addi zero, zero, -2048
-addi_least_word : word_of op.Addi (immediate_fields 0 0 (negsuc 2047)) ≡ Full 0x80000013
-unfolding word_of encoding_of row_of layout_of
-addi_least_word = refl
-
--- addi t6, t6, -1
-addi_minus_one_word : word_of op.Addi (immediate_fields 31 31 (negsuc 0)) ≡ Full 0xffff8f93
-unfolding word_of encoding_of row_of layout_of
-addi_minus_one_word = refl
-
--- addi ra, t5, 0
-addi_zero_word : word_of op.Addi (immediate_fields 1 30 (pos 0)) ≡ Full 0x000f0093
-unfolding word_of encoding_of row_of layout_of
-addi_zero_word = refl
-
 -- addi a0, s5, 1
-addi_word : word_of op.Addi (immediate_fields 10 21 (pos 1)) ≡ Full 0x001a8513
-unfolding word_of encoding_of row_of layout_of
+addi_word : word_of op.Addi (fields 10 21 0 (pos 1)) ≡ Full 0x001a8513
+unfolding word_of encoding_of row_of layout_of fields
 addi_word = refl
 
+-- addi zero, zero, -2048
+addi_least_word : word_of op.Addi (fields 0 0 0 (negsuc 2047)) ≡ Full 0x80000013
+unfolding word_of encoding_of row_of layout_of fields
+addi_least_word = refl
+
 -- addi t6, zero, 2047
-addi_greatest_word : word_of op.Addi (immediate_fields 31 0 (pos 2047)) ≡ Full 0x7ff00f93
-unfolding word_of encoding_of row_of layout_of
+addi_greatest_word : word_of op.Addi (fields 31 0 0 (pos 2047)) ≡ Full 0x7ff00f93
+unfolding word_of encoding_of row_of layout_of fields
 addi_greatest_word = refl
 
--- slti a0, s5, 1
-slti_word : word_of op.Slti (immediate_fields 10 21 (pos 1)) ≡ Full 0x001aa513
-unfolding word_of encoding_of row_of layout_of
-slti_word = refl
+-- srai a0, a1, 31
+srai_word : word_of op.Srai (fields 10 11 0 (pos 31)) ≡ Full 0x41f5d513
+unfolding word_of encoding_of row_of layout_of fields
+srai_word = refl
 
--- sltiu a0, s5, 1
-sltiu_word : word_of op.Sltiu (immediate_fields 10 21 (pos 1)) ≡ Full 0x001ab513
-unfolding word_of encoding_of row_of layout_of
-sltiu_word = refl
+-- lui a0, 0xfffff
+lui_word : word_of op.Lui (fields 10 0 0 (pos 1048575)) ≡ Full 0xfffff537
+unfolding word_of encoding_of row_of layout_of fields
+lui_word = refl
 
--- xori a0, s5, 1
-xori_word : word_of op.Xori (immediate_fields 10 21 (pos 1)) ≡ Full 0x001ac513
-unfolding word_of encoding_of row_of layout_of
-xori_word = refl
+-- jal ra, -1048576
+jal_least_word : word_of op.Jal (fields 1 0 0 (negsuc 1048575)) ≡ Full 0x800000ef
+unfolding word_of encoding_of row_of layout_of fields
+jal_least_word = refl
 
--- ori a0, s5, 1
-ori_word : word_of op.Ori (immediate_fields 10 21 (pos 1)) ≡ Full 0x001ae513
-unfolding word_of encoding_of row_of layout_of
-ori_word = refl
+-- jal ra, 1048574
+jal_greatest_word : word_of op.Jal (fields 1 0 0 (pos 1048574)) ≡ Full 0x7ffff0ef
+unfolding word_of encoding_of row_of layout_of fields
+jal_greatest_word = refl
 
--- andi a0, s5, 1
-andi_word : word_of op.Andi (immediate_fields 10 21 (pos 1)) ≡ Full 0x001af513
-unfolding word_of encoding_of row_of layout_of
-andi_word = refl
+-- jalr ra, -4(a0)
+jalr_word : word_of op.Jalr (fields 1 10 0 (negsuc 3)) ≡ Full 0xffc500e7
+unfolding word_of encoding_of row_of layout_of fields
+jalr_word = refl
+
+-- lw a0, -2048(s5)
+lw_word : word_of op.Lw (fields 10 21 0 (negsuc 2047)) ≡ Full 0x800aa503
+unfolding word_of encoding_of row_of layout_of fields
+lw_word = refl
+
+-- sw a0, -2048(s5)
+sw_word : word_of op.Sw (fields 0 21 10 (negsuc 2047)) ≡ Full 0x80aaa023
+unfolding word_of encoding_of row_of layout_of fields
+sw_word = refl
+
+-- beq a0, a1, 4094
+beq_greatest_word : word_of op.Beq (fields 0 10 11 (pos 4094)) ≡ Full 0x7eb50fe3
+unfolding word_of encoding_of row_of layout_of fields
+beq_greatest_word = refl
+
+-- beq a0, a1, -4096
+beq_least_word : word_of op.Beq (fields 0 10 11 (negsuc 4095)) ≡ Full 0x80b50063
+unfolding word_of encoding_of row_of layout_of fields
+beq_least_word = refl
+
+-- csrrs a0, mhartid, zero
+csrrs_word : word_of op.Csrrs (fields 10 0 0 (pos 3860)) ≡ Full 0xf1402573
+unfolding word_of encoding_of row_of layout_of fields
+csrrs_word = refl
+
+-- csrrwi zero, mtvec, 31
+csrrwi_word : word_of op.Csrrwi (fields 0 31 0 (pos 773)) ≡ Full 0x305fd073
+unfolding word_of encoding_of row_of layout_of fields
+csrrwi_word = refl
+
+-- fence iorw, iorw
+fence_word : word_of op.Fence (fields 0 15 15 (pos 0)) ≡ Full 0x0ff0000f
+unfolding word_of encoding_of row_of layout_of fields
+fence_word = refl
+
+-- fence.tso
+fence_tso_word : word_of op.FenceTso (fields 0 0 0 (pos 0)) ≡ Full 0x8330000f
+unfolding word_of encoding_of row_of layout_of fields
+fence_tso_word = refl
+
+-- ebreak
+ebreak_word : word_of op.Ebreak (fields 0 0 0 (pos 0)) ≡ Full 0x00100073
+unfolding word_of encoding_of row_of layout_of fields
+ebreak_word = refl
+
+-- c.addi4spn a0, sp, 16
+c_addi4spn_word : word_of op.CAddi4spn (fields 10 0 0 (pos 16)) ≡ Half 0x0808
+unfolding word_of encoding_of row_of layout_of fields
+c_addi4spn_word = refl
+
+-- c.lw a0, 4(a1)
+c_lw_word : word_of op.CLw (fields 10 11 0 (pos 4)) ≡ Half 0x41c8
+unfolding word_of encoding_of row_of layout_of fields
+c_lw_word = refl
+
+-- c.sw a0, 4(a1)
+c_sw_word : word_of op.CSw (fields 0 11 10 (pos 4)) ≡ Half 0xc1c8
+unfolding word_of encoding_of row_of layout_of fields
+c_sw_word = refl
+
+-- c.nop
+c_nop_word : word_of op.CNop (fields 0 0 0 (pos 0)) ≡ Half 0x0001
+unfolding word_of encoding_of row_of layout_of fields
+c_nop_word = refl
+
+-- c.addi a0, 1
+c_addi_word : word_of op.CAddi (fields 10 0 0 (pos 1)) ≡ Half 0x0505
+unfolding word_of encoding_of row_of layout_of fields
+c_addi_word = refl
+
+-- c.li a0, -32
+c_li_word : word_of op.CLi (fields 10 0 0 (negsuc 31)) ≡ Half 0x5501
+unfolding word_of encoding_of row_of layout_of fields
+c_li_word = refl
+
+-- c.addi16sp sp, 496
+c_addi16sp_word : word_of op.CAddi16sp (fields 0 0 0 (pos 496)) ≡ Half 0x617d
+unfolding word_of encoding_of row_of layout_of fields
+c_addi16sp_word = refl
+
+-- c.lui a0, 0xfffe0
+c_lui_word : word_of op.CLui (fields 10 0 0 (pos 1048544)) ≡ Half 0x7501
+unfolding word_of encoding_of row_of layout_of fields
+c_lui_word = refl
+
+-- c.srai a0, 31
+c_srai_word : word_of op.CSrai (fields 10 0 0 (pos 31)) ≡ Half 0x857d
+unfolding word_of encoding_of row_of layout_of fields
+c_srai_word = refl
+
+-- c.andi a0, -1
+c_andi_word : word_of op.CAndi (fields 10 0 0 (negsuc 0)) ≡ Half 0x997d
+unfolding word_of encoding_of row_of layout_of fields
+c_andi_word = refl
+
+-- c.sub a0, a1
+c_sub_word : word_of op.CSub (fields 10 0 11 (pos 0)) ≡ Half 0x8d0d
+unfolding word_of encoding_of row_of layout_of fields
+c_sub_word = refl
+
+-- c.j -2048
+c_j_word : word_of op.CJ (fields 0 0 0 (negsuc 2047)) ≡ Half 0xb001
+unfolding word_of encoding_of row_of layout_of fields
+c_j_word = refl
+
+-- c.beqz a0, -256
+c_beqz_word : word_of op.CBeqz (fields 0 10 0 (negsuc 255)) ≡ Half 0xd101
+unfolding word_of encoding_of row_of layout_of fields
+c_beqz_word = refl
+
+-- c.slli a0, 31
+c_slli_word : word_of op.CSlli (fields 10 0 0 (pos 31)) ≡ Half 0x057e
+unfolding word_of encoding_of row_of layout_of fields
+c_slli_word = refl
+
+-- c.lwsp a0, 4(sp)
+c_lwsp_word : word_of op.CLwsp (fields 10 0 0 (pos 4)) ≡ Half 0x4512
+unfolding word_of encoding_of row_of layout_of fields
+c_lwsp_word = refl
+
+-- c.jr ra
+c_jr_word : word_of op.CJr (fields 0 1 0 (pos 0)) ≡ Half 0x8082
+unfolding word_of encoding_of row_of layout_of fields
+c_jr_word = refl
+
+-- c.mv a0, a1
+c_mv_word : word_of op.CMv (fields 10 0 11 (pos 0)) ≡ Half 0x852e
+unfolding word_of encoding_of row_of layout_of fields
+c_mv_word = refl
+
+-- c.ebreak
+c_ebreak_word : word_of op.CEbreak (fields 0 0 0 (pos 0)) ≡ Half 0x9002
+unfolding word_of encoding_of row_of layout_of fields
+c_ebreak_word = refl
+
+-- c.swsp a0, 252(sp)
+c_swsp_word : word_of op.CSwsp (fields 0 0 10 (pos 252)) ≡ Half 0xdfaa
+unfolding word_of encoding_of row_of layout_of fields
+c_swsp_word = refl
 
 -- sub a0, a1, a2, as its bytes stand in memory
 sub_bytes : bytes_of_word (word_of op.Sub (register_fields 10 11 12)) ≡ 0x33 ∷ 0x85 ∷ 0xc5 ∷ 0x40 ∷ []
@@ -134,49 +221,3 @@ least_immediate = refl
 
 below_immediate : immediate_instruction op.Addi 10 10 (negsuc 2048) ≡ None
 below_immediate = refl
-
--- each row and each layout stands at its own place
-row_of-operation : (o : Op) → (row_of o).0 ≡ o
-unfolding row_of
-row_of-operation Add = refl
-row_of-operation _ = refl
-
-layout_of-shape : (s : Shape) → (layout_of s).0 ≡ s
-unfolding layout_of
-layout_of-shape Register = refl
-layout_of-shape _ = refl
-
--- the fixed bits and the pieces of the fields part the word
-mask-pieces : (o : Op) → mask_of o + room (pieces_of (shape_of o)) ≡ 2 ^ (if is_full o then 32 else 16) - 1
-unfolding row_of layout_of
-mask-pieces Add = refl
-mask-pieces _ = refl
-
-fixed_within_mask : (o : Op) → bit_and (fixed_of o) (mask_of o) ≡ fixed_of o
-unfolding row_of
-fixed_within_mask Add = refl
-fixed_within_mask _ = refl
-
-named_sub : operation_named (codes "SUB") ≡ Some op.Sub
-unfolding operation_named operation_names
-named_sub = refl
-
-named_nop : operation_named (codes "nop") ≡ None
-unfolding operation_named operation_names
-named_nop = refl
-
-named_fp : register_named (codes "fP") ≡ Some 8
-unfolding register_named register_names
-named_fp = refl
-
-named_x31 : register_named (codes "X31") ≡ Some 31
-unfolding register_named register_names
-named_x31 = refl
-
-named_x32 : register_named (codes "x32") ≡ None
-unfolding register_named register_names
-named_x32 = refl
-
-name_of_x8 : register_name 8 ≡ codes "s0"
-unfolding register_name
-name_of_x8 = refl

@@ -1,15 +1,21 @@
 -- Which fields the operations of a shape take.
-use Rattle.std.proofs.Common.{Bool, true, false, cond, Option, Some, None, ap, leb, leb-true, le-leb, ◌≤◌, ◌&&◌}
+use Rattle.std.proofs.Common.{inl, inr, zero, suc, Bool, true, false, cond, Option, Some, None, ap, leb, leb-true, le-leb, ◌≤◌, ◌&&◌}
 use Rattle.std.specs.Option.{IfSome}
 use Rattle.std.specs.Prelude.{IsSome}
 use Rattle.std.proofs.lemmas.Bool.{and_parts}
 use Rattle.std.proofs.Common.{◌≡◌, ℕ, ◌<◌, refl, sym, subst, arith}
-use Rattle.std.specs.Prelude.{ℤ, pos, negsuc, ◌≤ℤ◌, unsigned_abs, ◌%◌}
+use Rattle.std.specs.Prelude.{ℤ, pos, negsuc, ◌≤ℤ◌, ◌<ℤ◌, ◌⊎◌, unsigned_abs, ◌%◌}
 use Rattle.std.proofs.lemmas.Int.{ints}
-use Rattle.rv_code.specs.declared.op.Op.{Op}
-use Rattle.rv_code.specs.declared.op.Shape.TheVariants.{Register, Immediate}
-use Rattle.rv_code.specs.Table.{layout_of, shape_of, classes_of, limits_of}
+use Rattle.rv_ops.specs.declared.op.Op.{Op}
+use Rattle.rv_ops.specs.declared.op.Shape.TheVariants.{Register, Immediate}
+use Rattle.rv_ops.specs.Table.{layout_of, shape_of, classes_of, limits_of}
 use Rattle.rv_code.specs.Encoding.{is_immediate, Fits, InClass, InLimits, register_fields, immediate_fields}
+
+-- a gap that begins above its end is empty
+no_gap : (v : ℤ) → (v <ℤ pos 1) ⊎ (pos 0 <ℤ v)
+no_gap (pos zero) = inl (omega (arith, ints))
+no_gap (pos (suc n)) = inr (omega (arith, ints))
+no_gap (negsuc n) = inl (omega (arith, ints))
 
 pub register_fields-fit : (o : Op) (a b c : ℕ) → shape_of o ≡ Register → a < 32 → b < 32 → c < 32 → Fits o (register_fields a b c)
 unfolding layout_of
@@ -17,7 +23,7 @@ register_fields-fit o a b c e ha hb hc = record {
   rd = subst (λ s. InClass (classes_of s).0 a) (sym e) ha;
   rs1 = subst (λ s. InClass (classes_of s).1 b) (sym e) hb;
   rs2 = subst (λ s. InClass (classes_of s).2 c) (sym e) hc;
-  value = subst (λ s. InLimits (limits_of s) (pos 0)) (sym e) (record { low = omega (arith, ints); high = omega (arith, ints); multiple = refl });
+  value = subst (λ s. InLimits (limits_of s) (pos 0)) (sym e) (record { low = omega (arith, ints); high = omega (arith, ints); multiple = refl; gap = no_gap (pos 0) });
 }
 
 pub record IsTwelveBits (v : ℤ) : Type 0 where
@@ -33,7 +39,7 @@ immediate_fields-fit o a b v e ha hb h = record {
   rd = subst (λ s. InClass (classes_of s).0 a) (sym e) ha;
   rs1 = subst (λ s. InClass (classes_of s).1 b) (sym e) hb;
   rs2 = subst (λ s. InClass (classes_of s).2 0) (sym e) refl;
-  value = subst (λ s. InLimits (limits_of s) v) (sym e) (record { low = h.low; high = h.high; multiple = one_divides v });
+  value = subst (λ s. InLimits (limits_of s) v) (sym e) (record { low = h.low; high = h.high; multiple = one_divides v; gap = no_gap v });
 }
 
 pub immediate_fields-only : (o : Op) (a b : ℕ) (v : ℤ) → shape_of o ≡ Immediate → Fits o (immediate_fields a b v) → IsTwelveBits v

@@ -1,5 +1,13 @@
+pub mod Apart
+pub mod Decoded
 pub mod Examples
 pub mod FittingFields
-pub mod Layouts
-pub mod Naming
+pub mod FullWords
+pub mod HalfWords
+pub mod Masks
+pub mod Pieces
+pub mod Reach
+pub mod Reading
+pub mod Shapes
+pub mod Values
 pub mod Words

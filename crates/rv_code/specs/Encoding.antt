@@ -1,13 +1,13 @@
--- The word of an instruction: RISC-V Unprivileged ISA 20191213, chapter 2.
-use Rattle.std.specs.Prelude.{Bool, ◌&&◌, int_le, negsuc, Option, Some, None, ◌≡◌, ℕ, ℤ, pos, ◌+◌, ◌*◌, ◌/◌, ◌%◌, ◌^◌, ◌<◌, ◌≤ℤ◌, List, [], ◌∷◌, if◌then◌else◌, unsigned_abs}
+-- The word of an instruction: RISC-V Unprivileged ISA 20191213, chapters 2, 7, 9 and 16.
+use Rattle.std.specs.Prelude.{Bool, ◌&&◌, int_le, negsuc, Option, Some, None, ◌≡◌, ℕ, ℤ, pos, ◌+◌, ◌*◌, ◌/◌, ◌%◌, ◌^◌, ◌<◌, ◌≤◌, ◌≤ℤ◌, ◌<ℤ◌, ◌⊎◌, List, [], ◌∷◌, if◌then◌else◌, unsigned_abs}
 use Rattle.std.specs.Int.{cast_unsigned, to_le_bytes, w16, w32}
-use Rattle.rv_code.specs.Table.{Limits, Piece, shape_of, fixed_of, is_full, classes_of, limits_of, pieces_of}
+use Rattle.rv_ops.specs.Table.{Limits, Piece, shape_of, fixed_of, is_full, classes_of, limits_of, pieces_of}
 use Rattle.rv_code.specs.declared.instruction.Fields.{Fields}
-use Rattle.rv_code.specs.declared.op.Op.{Op}
-use Rattle.rv_code.specs.declared.table.Field.{Field}
-use Rattle.rv_code.specs.declared.table.Field.TheVariants.{Rd, Rs1, Rs2, Value}
-use Rattle.rv_code.specs.declared.table.RegisterClass.{RegisterClass}
-use Rattle.rv_code.specs.declared.table.RegisterClass.TheVariants.{Absent, Any}
+use Rattle.rv_ops.specs.declared.op.Op.{Op}
+use Rattle.rv_ops.specs.declared.layouts.Field.{Field}
+use Rattle.rv_ops.specs.declared.layouts.Field.TheVariants.{Rd, Rs1, Rs2, Value}
+use Rattle.rv_ops.specs.declared.layouts.RegisterClass.{RegisterClass}
+use Rattle.rv_ops.specs.declared.layouts.RegisterClass.TheVariants.{Absent, Any, NotZero, NotSp, Prime, Set}
 use Rattle.rv_code.specs.declared.word.Word.{Word}
 use Rattle.rv_code.specs.declared.word.Word.TheVariants.{Half, Full}
 
@@ -40,16 +40,22 @@ abbrev pub bytes_of_word : Word → List ℕ
 bytes_of_word (Half n) = to_le_bytes w16 n
 bytes_of_word (Full n) = to_le_bytes w32 n
 
--- the registers of a class; x0 stands for a register that the shape lacks
+-- the registers of a class; x0 stands for a register that the shape lacks, and the number of a register for
+-- the bits of a set
 abbrev pub InClass : RegisterClass → ℕ → Type 0
 InClass Absent n = n ≡ 0
 InClass Any n = n < 32
+InClass NotZero n = (0 < n) × (n < 32)
+InClass NotSp n = (0 < n) × (n < 32) × (n ≡ 2 → ⊥)
+InClass Prime n = (8 ≤ n) × (n < 16)
+InClass Set n = (0 < n) × (n < 16)
 
--- from the least value to the greatest, and a multiple of the number
+-- from the least value to the greatest, a multiple of the number, and not in the gap
 pub record InLimits (l : Limits) (v : ℤ) : Type 0 where
   pub low : l.0 ≤ℤ v
   pub high : v ≤ℤ l.1
   pub multiple : unsigned_abs v % l.2 ≡ 0
+  pub gap : (v <ℤ l.3) ⊎ (l.4 <ℤ v)
 
 -- the operation takes the fields
 pub record Fits (o : Op) (f : Fields) : Type 0 where

@@ -1,5 +1,2 @@
+pub mod Decoding
 pub mod Encoding
-pub mod Names
-pub mod Registers
-pub mod Room
-pub mod Table

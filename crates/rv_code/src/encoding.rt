@@ -1,18 +1,16 @@
 //! The words of instructions.
-ghost use Rattle.std.specs.Prelude.{◌≡◌, ◌+◌, ◌/◌, ◌%◌, ◌^◌, ◌<◌, ◌≤◌, IsTrue, false};
+ghost use Rattle.std.specs.Prelude.{◌≡◌, ◌+◌, ◌/◌, ◌%◌, ◌^◌, ◌<◌, ◌≤◌, IsTrue};
 ghost use Rattle.std.specs.List.{list_all};
-ghost use Rattle.rv_code.specs.Room.{is_piece, most, room};
-ghost use Rattle.rv_code.specs.Table.{fixed_of, is_full, pieces_of, shape_of};
+ghost use Rattle.rv_ops.specs.Room.{is_piece, most, room};
+ghost use Rattle.rv_ops.specs.Table.{fixed_of, pieces_of, shape_of};
 ghost use Rattle.rv_code.specs.Encoding.{bits_of_field, bits_of_piece, placed, encoding_of, word_of};
 
 use crate::instruction::{Fields, Ins};
-use crate::lookup::{fixed, pieces};
-use crate::op::Op;
-use crate::table::Field;
 use crate::word::Word;
+use rv_ops::{Field, Op, Piece, fixed, is_full, pieces};
 
 /// `count` bits of a number, from the bit `lowest` on.
-fn cut(number: u32, lowest: u32, count: u32) -> u32
+pub fn cut(number: u32, lowest: u32, count: u32) -> u32
     requires lowest { lowest < 32 }
     requires count { count < 32 }
     ensures { result ≡ number / 2 ^ lowest % 2 ^ count }
@@ -33,7 +31,7 @@ fn field_number(fields: &Fields, field: Field) -> u32
 }
 
 /// The bits of a piece at their places in the word.
-fn put(piece: &(Field, u32, u32, u32), fields: &Fields) -> u32
+fn put(piece: &Piece, fields: &Fields) -> u32
     requires { IsTrue (is_piece piece.now) }
     ensures value { result ≡ bits_of_piece fields.now piece.now }
     ensures most { result ≤ most piece.now }
@@ -42,7 +40,7 @@ fn put(piece: &(Field, u32, u32, u32), fields: &Fields) -> u32
 }
 
 /// The fixed bits, and each piece of a field at its place.
-fn assembled(fixed: u32, mut pieces: &[(Field, u32, u32, u32)], fields: &Fields) -> u32
+fn assembled(fixed: u32, mut pieces: &[Piece], fields: &Fields) -> u32
     requires pieces { IsTrue (list_all is_piece pieces.now) }
     requires room { fixed + room pieces.now < 2 ^ 32 }
     ensures value { result ≡ fixed + placed fields.now pieces.entry.now }
@@ -56,16 +54,8 @@ fn assembled(fixed: u32, mut pieces: &[(Field, u32, u32, u32)], fields: &Fields)
     word
 }
 
-/// Whether an operation's words have thirty-two bits.
-fn is_full(op: Op) -> bool
-    ensures value { result ≡ is_full op }
-    ensures short { is_full op ≡ false → fixed_of op + room (pieces_of (shape_of op)) < 2 ^ 16 }
-{
-    fixed(op) % 4 == 3
-}
-
-/// The bits of the word.
-fn bits(op: Op, fields: &Fields) -> u32
+/// The word of an operation with these fields, as a number.
+pub fn bits(op: Op, fields: &Fields) -> u32
     ensures value { result ≡ encoding_of op fields.now }
     ensures most { result ≤ fixed_of op + room (pieces_of (shape_of op)) }
 {

@@ -1,12 +1,9 @@
 //! Whether an operation takes given fields.
-ghost use Rattle.std.specs.Prelude.{◌<◌, ◌↔◌, IsTrue};
+ghost use Rattle.std.specs.Prelude.{◌<◌, ◌<ℤ◌, ◌⊎◌, ◌↔◌, IsTrue};
 ghost use Rattle.rv_code.specs.Encoding.{InClass, InLimits, Fits};
 
 use crate::instruction::Fields;
-use crate::lookup::{classes, limits};
-use crate::op::Op;
-use crate::register::Reg;
-use crate::table::RegisterClass;
+use rv_ops::{Limits, Op, Reg, RegisterClass, classes, limits};
 
 fn in_class(class: RegisterClass, register: Reg) -> bool
     ensures { IsTrue result ↔ InClass class register }
@@ -15,17 +12,34 @@ fn in_class(class: RegisterClass, register: Reg) -> bool
     match class {
         RegisterClass::Absent => number == 0,
         RegisterClass::Any => number < 32,
+        RegisterClass::NotZero => 0 < number && number < 32,
+        RegisterClass::NotSp => 0 < number && number < 32 && number != 2,
+        RegisterClass::Prime => 8 <= number && number < 16,
+        RegisterClass::Set => 0 < number && number < 16,
     }
 }
 
-fn in_limits(limits: &(i32, i32, u32), value: i32) -> bool
+/// Whether a value is not in the gap from the first to the last.
+fn outside(first: i32, last: i32, value: i32) -> bool
+    ensures { IsTrue result ↔ ((value <ℤ first) ⊎ (last <ℤ value)) }
+{
+    if value < first {
+        return true;
+    }
+    last < value
+}
+
+fn in_limits(limits: &Limits, value: i32) -> bool
     requires { 0 < limits.now.2 }
     ensures { IsTrue result ↔ InLimits limits.now value }
 {
     if value < limits.0 || limits.1 < value {
         return false;
     }
-    value.unsigned_abs() % limits.2 == 0
+    if value.unsigned_abs() % limits.2 != 0 {
+        return false;
+    }
+    outside(limits.3, limits.4, value)
 }
 
 /// Whether the operation takes the fields.

@@ -1,19 +1,19 @@
 //! Instructions.
 ghost use Rattle.std.specs.Prelude.{◌≡◌, ◌↔◌, ◌≤ℤ◌, pos, negsuc, IsSome, IfSome};
-ghost use Rattle.rv_code.specs.Table.{shape_of};
+ghost use Rattle.rv_ops.specs.Table.{shape_of};
 
 use crate::fitting::fits;
-use crate::op::{Op, Shape};
-use crate::register::Reg;
+use rv_ops::{Op, Reg, Shape};
 use std::marker::Model;
 
-/// The fields of an instruction; one that its shape lacks is x0 or 0.
+/// The fields of an instruction; one that its shape lacks is x0 or 0. The immediate of a `csrrwi` and its kin
+/// stands in `rs1`, and a fence has its predecessors in `rs1` and its successors in `rs2`.
 #[derive(Clone, Copy, Debug, PartialEq, Eq)]
 pub struct Fields {
     pub rd: Reg,
     pub rs1: Reg,
     pub rs2: Reg,
-    /// The immediate.
+    /// The immediate, the displacement of a branch or jump, or the number of a control and status register.
     pub value: i32,
 }
 
@@ -25,7 +25,7 @@ pub struct Ins {
 }
 
 impl Model for Ins {
-    ghost use Rattle.rv_code.specs.declared.op.Op.{Op};
+    ghost use Rattle.rv_ops.specs.declared.op.Op.{Op};
     ghost use Rattle.rv_code.specs.declared.instruction.Fields.{Fields};
     ghost use Rattle.rv_code.specs.Encoding.{Fits};
 

@@ -1,250 +1,191 @@
 //! What no contract says: that the definitions are those of the public standard.
+mod full_words;
+mod half_words;
+mod not_taken;
+
 use super::*;
+use full_words::FULL_WORDS;
+use half_words::HALF_WORDS;
+use not_taken::NOT_TAKEN;
+use rv_ops::{Op, Reg, Shape, name_of, op_by_name, shape};
+use std::process::Abort;
 use std::test::Fail;
 
-/// Name, rd, rs1, rs2 and word, as `llvm-mc -triple=riscv32 -show-encoding -riscv-no-aliases` of LLVM 14.0.6 has it.
-const REGISTER_WORDS: [(&str, u8, u8, u8, u32); 40] = [
-    ("add", 0, 0, 0, 0x0000_0033),
-    ("add", 31, 31, 31, 0x01ff_8fb3),
-    ("add", 1, 0, 31, 0x01f0_00b3),
-    ("add", 10, 21, 6, 0x006a_8533),
-    ("sub", 0, 0, 0, 0x4000_0033),
-    ("sub", 31, 31, 31, 0x41ff_8fb3),
-    ("sub", 1, 0, 31, 0x41f0_00b3),
-    ("sub", 10, 21, 6, 0x406a_8533),
-    ("sll", 0, 0, 0, 0x0000_1033),
-    ("sll", 31, 31, 31, 0x01ff_9fb3),
-    ("sll", 1, 0, 31, 0x01f0_10b3),
-    ("sll", 10, 21, 6, 0x006a_9533),
-    ("slt", 0, 0, 0, 0x0000_2033),
-    ("slt", 31, 31, 31, 0x01ff_afb3),
-    ("slt", 1, 0, 31, 0x01f0_20b3),
-    ("slt", 10, 21, 6, 0x006a_a533),
-    ("sltu", 0, 0, 0, 0x0000_3033),
-    ("sltu", 31, 31, 31, 0x01ff_bfb3),
-    ("sltu", 1, 0, 31, 0x01f0_30b3),
-    ("sltu", 10, 21, 6, 0x006a_b533),
-    ("xor", 0, 0, 0, 0x0000_4033),
-    ("xor", 31, 31, 31, 0x01ff_cfb3),
-    ("xor", 1, 0, 31, 0x01f0_40b3),
-    ("xor", 10, 21, 6, 0x006a_c533),
-    ("srl", 0, 0, 0, 0x0000_5033),
-    ("srl", 31, 31, 31, 0x01ff_dfb3),
-    ("srl", 1, 0, 31, 0x01f0_50b3),
-    ("srl", 10, 21, 6, 0x006a_d533),
-    ("sra", 0, 0, 0, 0x4000_5033),
-    ("sra", 31, 31, 31, 0x41ff_dfb3),
-    ("sra", 1, 0, 31, 0x41f0_50b3),
-    ("sra", 10, 21, 6, 0x406a_d533),
-    ("or", 0, 0, 0, 0x0000_6033),
-    ("or", 31, 31, 31, 0x01ff_efb3),
-    ("or", 1, 0, 31, 0x01f0_60b3),
-    ("or", 10, 21, 6, 0x006a_e533),
-    ("and", 0, 0, 0, 0x0000_7033),
-    ("and", 31, 31, 31, 0x01ff_ffb3),
-    ("and", 1, 0, 31, 0x01f0_70b3),
-    ("and", 10, 21, 6, 0x006a_f533),
-];
+fn register<T: Abort>(rt: &T, number: u8) -> Reg {
+    Reg::new(number).expect(rt, "a register")
+}
 
-/// Name, rd, rs1, value and word, from the same.
-const IMMEDIATE_WORDS: [(&str, u8, u8, i64, u32); 30] = [
-    ("addi", 0, 0, -2048, 0x8000_0013),
-    ("addi", 31, 31, -1, 0xffff_8f93),
-    ("addi", 1, 30, 0, 0x000f_0093),
-    ("addi", 10, 21, 1, 0x001a_8513),
-    ("addi", 31, 0, 2047, 0x7ff0_0f93),
-    ("slti", 0, 0, -2048, 0x8000_2013),
-    ("slti", 31, 31, -1, 0xffff_af93),
-    ("slti", 1, 30, 0, 0x000f_2093),
-    ("slti", 10, 21, 1, 0x001a_a513),
-    ("slti", 31, 0, 2047, 0x7ff0_2f93),
-    ("sltiu", 0, 0, -2048, 0x8000_3013),
-    ("sltiu", 31, 31, -1, 0xffff_bf93),
-    ("sltiu", 1, 30, 0, 0x000f_3093),
-    ("sltiu", 10, 21, 1, 0x001a_b513),
-    ("sltiu", 31, 0, 2047, 0x7ff0_3f93),
-    ("xori", 0, 0, -2048, 0x8000_4013),
-    ("xori", 31, 31, -1, 0xffff_cf93),
-    ("xori", 1, 30, 0, 0x000f_4093),
-    ("xori", 10, 21, 1, 0x001a_c513),
-    ("xori", 31, 0, 2047, 0x7ff0_4f93),
-    ("ori", 0, 0, -2048, 0x8000_6013),
-    ("ori", 31, 31, -1, 0xffff_ef93),
-    ("ori", 1, 30, 0, 0x000f_6093),
-    ("ori", 10, 21, 1, 0x001a_e513),
-    ("ori", 31, 0, 2047, 0x7ff0_6f93),
-    ("andi", 0, 0, -2048, 0x8000_7013),
-    ("andi", 31, 31, -1, 0xffff_ff93),
-    ("andi", 1, 30, 0, 0x000f_7093),
-    ("andi", 10, 21, 1, 0x001a_f513),
-    ("andi", 31, 0, 2047, 0x7ff0_7f93),
-];
+fn operation<T: Abort>(rt: &T, name: &str) -> Op {
+    op_by_name(name.as_bytes()).expect(rt, "an operation")
+}
 
-/// The names of x0 to x31: RISC-V Unprivileged ISA 20191213, chapter 25, table 25.1.
-const REGISTER_NAMES: [&str; 32] = [
-    "zero", "ra", "sp", "gp", "tp", "t0", "t1", "t2", "s0", "s1", "a0", "a1", "a2", "a3", "a4",
-    "a5", "a6", "a7", "s2", "s3", "s4", "s5", "s6", "s7", "s8", "s9", "s10", "s11", "t3", "t4",
-    "t5", "t6",
-];
-
-#[test]
-fn register_words(rt: HostRuntime) {
-    for (name, rd, rs1, rs2, word) in REGISTER_WORDS {
-        let op = op_by_name(name.as_bytes()).expect(&rt, "an operation");
-        let rd = Reg::new(rd).expect(&rt, "a register");
-        let rs1 = Reg::new(rs1).expect(&rt, "a register");
-        let rs2 = Reg::new(rs2).expect(&rt, "a register");
-        match shape(op) {
-            Shape::Register => {
-                let ins = Ins::register(op, rd, rs1, rs2);
-                assert_eq!(rt; encode(&ins), Word::Full(word), "{name}");
-                assert_eq!(rt;
-                    encode(&ins).bytes().as_slice(),
-                    word.to_le_bytes().as_slice(),
-                    "{name}"
-                );
-                assert_eq!(rt;
-                    Ins::try_new(
-                        op,
-                        Fields {
-                            rd,
-                            rs1,
-                            rs2,
-                            value: 0
-                        }
-                    ),
-                    Some(ins),
-                    "{name}"
-                );
-                assert!(rt;
-                    Ins::try_new(
-                        op,
-                        Fields {
-                            rd,
-                            rs1,
-                            rs2,
-                            value: 1
-                        }
-                    )
-                    .is_none(),
-                    "{name}"
-                );
-            }
-            Shape::Immediate => assert!(rt; false, "{name} has no value"),
-        }
-        assert_eq!(rt; word & row(op).mask, row(op).fixed, "{name}");
+fn fields<T: Abort>(rt: &T, rd: u8, rs1: u8, rs2: u8, value: i32) -> Fields {
+    Fields {
+        rd: register(rt, rd),
+        rs1: register(rt, rs1),
+        rs2: register(rt, rs2),
+        value,
     }
 }
 
 #[test]
-fn immediate_words(rt: HostRuntime) {
-    for (name, rd, rs1, value, word) in IMMEDIATE_WORDS {
-        let op = op_by_name(name.as_bytes()).expect(&rt, "an operation");
-        let rd = Reg::new(rd).expect(&rt, "a register");
-        let rs1 = Reg::new(rs1).expect(&rt, "a register");
-        match shape(op) {
-            Shape::Immediate => {
-                let ins = Ins::immediate(op, rd, rs1, value).expect(&rt, "twelve bits");
-                assert_eq!(rt; encode(&ins), Word::Full(word), "{name} {value}");
-                assert_eq!(rt;
-                    encode(&ins).bytes().as_slice(),
-                    word.to_le_bytes().as_slice(),
-                    "{name} {value}"
-                );
-                for beyond in [-2049, 2048, 1 << 32, i64::MIN, i64::MAX] {
-                    assert!(rt;
-                        Ins::immediate(op, rd, rs1, beyond).is_none(),
-                        "{name} {beyond}"
-                    );
-                }
-            }
-            Shape::Register => assert!(rt; false, "{name} has a value"),
-        }
-        assert_eq!(rt; word & row(op).mask, row(op).fixed, "{name}");
+fn instructions_of_full_words(rt: HostRuntime) {
+    for row in &FULL_WORDS {
+        let (name, rd, rs1, rs2, value, word) = *row;
+        let op = operation(&rt, name);
+        let ins = Ins::try_new(op, fields(&rt, rd, rs1, rs2, value)).expect(&rt, "an instruction");
+        assert_eq!(rt; encode(&ins), Word::Full(word), "{name} {value}");
+        assert_eq!(rt; decode32(word), Some(ins), "{name} {value}");
     }
 }
 
 #[test]
-fn half_word_bytes(rt: HostRuntime) {
-    assert_eq!(rt;
-        Word::Half(0x4501).bytes().as_slice(),
-        [0x01, 0x45].as_slice()
-    );
+fn instructions_of_half_words(rt: HostRuntime) {
+    for row in &HALF_WORDS {
+        let (name, rd, rs1, rs2, value, word) = *row;
+        let op = operation(&rt, name);
+        let ins = Ins::try_new(op, fields(&rt, rd, rs1, rs2, value)).expect(&rt, "an instruction");
+        assert_eq!(rt; encode(&ins), Word::Half(word), "{name} {value}");
+        assert_eq!(rt; decode16(word), Some(ins), "{name} {value}");
+    }
 }
 
 #[test]
-fn register_names(rt: HostRuntime) -> Result<(), Fail> {
-    for number in 0..32 {
-        let register = Reg::new(number).expect(&rt, "a register");
-        assert_eq!(rt; register.number(), number);
-        let name = REGISTER_NAMES[usize::from(number)];
-        assert_eq!(rt; reg_name(register), name);
-        assert_eq!(rt; reg_by_name(name.as_bytes()), Some(register), "{name}");
-        let plain = format!(in rt.alloc(); "x{number}")?;
-        assert_eq!(rt; reg_by_name(plain.as_bytes()), Some(register), "{plain}");
-        let upper = format!(in rt.alloc(); "X{number}")?;
-        assert_eq!(rt; reg_by_name(upper.as_bytes()), Some(register), "{upper}");
+fn operands_not_taken(rt: HostRuntime) {
+    for row in &NOT_TAKEN {
+        let (name, rd, rs1, rs2, value) = *row;
+        let op = operation(&rt, name);
+        let fields = fields(&rt, rd, rs1, rs2, value);
+        assert!(rt; Ins::try_new(op, fields).is_none(), "{name} {value}");
     }
-    assert!(rt; Reg::new(32).is_none());
-    assert!(rt; Reg::new(255).is_none());
-    for (name, number) in [
-        ("fp", 8),
-        ("FP", 8),
-        ("A0", 10),
-        ("Sp", 2),
-        ("sP", 2),
-        ("ZERO", 0),
+}
+
+/// `mul a0, a1, a2`, `csrrs a0, mhartid, zero`, `fence iorw, iorw`, `fence.tso`.
+#[test]
+fn worked_words(rt: HostRuntime) {
+    for row in &[
+        (0x02c5_8533, "mul", 10, 11, 12, 0),
+        (0xf140_2573, "csrrs", 10, 0, 0, 0xf14),
+        (0x0ff0_000f, "fence", 0, 15, 15, 0),
+        (0x8330_000f, "fence.tso", 0, 0, 0, 0),
     ] {
-        assert_eq!(rt; reg_by_name(name.as_bytes()), Reg::new(number), "{name}");
+        let (word, name, rd, rs1, rs2, value) = *row;
+        let ins = decode32(word).expect(&rt, "an instruction");
+        assert_eq!(rt; name_of(ins.op()), name);
+        assert_eq!(rt; *ins.fields(), fields(&rt, rd, rs1, rs2, value), "{name}");
     }
-    for name in ["x32", "", "a8", "x00", "x", "s12", "t7", "a0 ", "r1"] {
-        assert!(rt; reg_by_name(name.as_bytes()).is_none(), "{name}");
+}
+
+/// A fence with empty sets, `slli` with 0x20 above, `mret`, `slli` with bit 25, and words whose low bits are not 11.
+#[test]
+fn words_of_no_instruction(rt: HostRuntime) {
+    for word in [
+        0x0000_000f,
+        0x4000_1013,
+        0x3020_0073,
+        0x0200_1013,
+        0x0000_0000,
+        0xffff_ffff,
+        0x02c5_8532,
+        0x02c5_8531,
+        0x02c5_8530,
+        0x0000_9002,
+        0x1001_9002,
+    ] {
+        assert!(rt; decode32(word).is_none(), "{word}");
     }
+}
+
+/// What the standard reserves and keeps for hints, and the halves of longer words.
+#[test]
+fn halves_of_no_instruction(rt: HostRuntime) {
+    for word in [
+        0x0000, 0x0501, 0x6101, 0x8002, 0x1502, 0x0005, 0x8533, 0x0073,
+    ] {
+        assert!(rt; decode16(word).is_none(), "{word}");
+    }
+}
+
+/// FNV-1a, of 64 bits.
+fn digest(from: u64, text: &[u8]) -> u64 {
+    let mut hash = from;
+    for byte in text {
+        hash = (hash ^ u64::from(*byte)).wrapping_mul(0x0000_0100_0000_01b3);
+    }
+    hash
+}
+
+/// A line for each half word that decodes: the word, the name, rd, rs1, rs2 and the value. The number of lines and their
+/// digest are those of the disassemblers of LLVM 14.0.6 (`llvm-mc -disassemble -triple=riscv32 -mattr=+c`) and of GNU
+/// binutils 2.40 (`objdump -m riscv:rv32 -M no-aliases`), which agree, over all 65,536 half words, without what the standard
+/// keeps for hints or reserves in RV32C (section 16.8: x0 or the value 0 where the form has none, shift amounts
+/// that are 0 or above 31), without `c.unimp` and without words of floating point.
+#[test]
+fn every_half_word(rt: HostRuntime) -> Result<(), Fail> {
+    let mut hash = 0xcbf2_9ce4_8422_2325;
+    let mut count = 0;
+    for word in 0..=u16::MAX {
+        if let Some(ins) = decode16(word) {
+            assert_eq!(rt; encode(&ins), Word::Half(word));
+            let name = name_of(ins.op());
+            let (rd, rs1, rs2) = (
+                ins.fields().rd.number(),
+                ins.fields().rs1.number(),
+                ins.fields().rs2.number(),
+            );
+            let value = ins.fields().value;
+            let line = format!(in rt.alloc(); "{word:04x} {name} {rd} {rs1} {rs2} {value}\n")?;
+            hash = digest(hash, line.as_bytes());
+            count = u32::wrapping_add(count, 1);
+        }
+    }
+    assert_eq!(rt; count, 28461);
+    assert_eq!(rt; hash, 0xf119_a830_0454_ebc4);
     Ok(())
 }
 
 #[test]
-fn operation_names(rt: HostRuntime) {
-    let ops = [
-        Op::Add,
-        Op::Sub,
-        Op::Sll,
-        Op::Slt,
-        Op::Sltu,
-        Op::Xor,
-        Op::Srl,
-        Op::Sra,
-        Op::Or,
-        Op::And,
-        Op::Addi,
-        Op::Slti,
-        Op::Sltiu,
-        Op::Xori,
-        Op::Ori,
-        Op::Andi,
-    ];
-    let lower = [
-        "add", "sub", "sll", "slt", "sltu", "xor", "srl", "sra", "or", "and", "addi", "slti",
-        "sltiu", "xori", "ori", "andi",
-    ];
-    let upper = [
-        "ADD", "SUB", "SLL", "SLT", "SLTU", "XOR", "SRL", "SRA", "OR", "AND", "ADDI", "SLTI",
-        "SLTIU", "XORI", "ORI", "ANDI",
-    ];
-    let mixed = [
-        "Add", "sUb", "slL", "SLt", "sLtU", "xOR", "SrL", "srA", "oR", "aNd", "ADDi", "sltI",
-        "SlTiU", "XoRi", "Ori", "anDI",
-    ];
-    for place in 0..16 {
-        let op = ops[place];
-        assert_eq!(rt; name_of(op), lower[place]);
-        assert_eq!(rt; row(op).name, lower[place]);
-        assert_eq!(rt; row(op).shape, shape(op));
-        for name in [lower[place], upper[place], mixed[place]] {
-            assert_eq!(rt; op_by_name(name.as_bytes()), Some(op), "{name}");
+fn immediates(rt: HostRuntime) {
+    let register = register(&rt, 10);
+    let op = operation(&rt, "addi");
+    match shape(op) {
+        Shape::Immediate => {
+            for value in [-2049, 2048, 1 << 32, i64::MIN, i64::MAX] {
+                assert!(rt;
+                    Ins::immediate(op, register, register, value).is_none(),
+                    "{value}"
+                );
+            }
+            let least = Ins::immediate(op, register, register, -2048).expect(&rt, "twelve bits");
+            assert_eq!(rt; encode(&least), Word::Full(0x8005_0513));
+            let greatest = Ins::immediate(op, register, register, 2047).expect(&rt, "twelve bits");
+            assert_eq!(rt; encode(&greatest), Word::Full(0x7ff5_0513));
         }
+        _ => assert!(rt; false, "addi has an immediate"),
     }
-    for name in ["nop", "", "ad", "addd", "add ", "add.", "subi", "c.add"] {
-        assert!(rt; op_by_name(name.as_bytes()).is_none(), "{name}");
+}
+
+#[test]
+fn three_registers(rt: HostRuntime) {
+    let (rd, rs1, rs2) = (register(&rt, 10), register(&rt, 21), register(&rt, 6));
+    let op = operation(&rt, "sub");
+    match shape(op) {
+        Shape::Register => {
+            let ins = Ins::register(op, rd, rs1, rs2);
+            assert_eq!(rt; encode(&ins), Word::Full(0x406a_8533));
+        }
+        _ => assert!(rt; false, "sub has three registers"),
     }
+}
+
+#[test]
+fn bytes_in_memory(rt: HostRuntime) {
+    assert_eq!(rt;
+        Word::Half(0x4501).bytes().as_slice(),
+        [0x01, 0x45].as_slice()
+    );
+    assert_eq!(rt;
+        Word::Full(0x40c5_8533).bytes().as_slice(),
+        [0x33, 0x85, 0xc5, 0x40].as_slice()
+    );
 }

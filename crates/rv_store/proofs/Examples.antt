@@ -2,8 +2,8 @@
 use Rattle.std.specs.Prelude.{◌≡◌, [], ◌∷◌, ◌++◌, true, false, None, Some, codes, refl, replicate}
 use Rattle.std.specs.Fmt.{digits}
 use Rattle.rv_code.specs.Encoding.{word_of, encoding_of}
-use Rattle.rv_code.specs.Table.{row_of, layout_of, operation_named, operation_names}
-use Rattle.rv_code.specs.Registers.{register_named, register_names}
+use Rattle.rv_ops.specs.Table.{row_of, layout_of, operation_named, operation_names}
+use Rattle.rv_ops.specs.Registers.{register_named, register_names}
 use Rattle.rv_text.specs.Rows.{hex}
 use Rattle.rv_store.specs.declared.edit_error.EditError.TheVariants.{Place, Line, TooMany}
 use Rattle.rv_store.specs.Text.{Insert, Delete, is_base, refusal_of, lines_after}
@@ -47,6 +47,18 @@ empty = refl
 other_name : bytes_of_line (codes "addx a0, a0, 1") ≡ []
 unfolding word_of_line operation_named operation_names
 other_name = refl
+
+multiply : bytes_of_line (codes "mul a0, a1, a2") ≡ []
+unfolding word_of_line operation_named operation_names register_named register_names row_of
+multiply = refl
+
+shift : bytes_of_line (codes "slli a0, a1, 2") ≡ []
+unfolding word_of_line operation_named operation_names register_named register_names row_of
+shift = refl
+
+compressed : bytes_of_line (codes "c.add a0, a1, a2") ≡ []
+unfolding word_of_line operation_named operation_names register_named register_names row_of
+compressed = refl
 
 label : bytes_of_line (codes "x: add a0, a0, a0") ≡ []
 unfolding word_of_line operation_named operation_names

@@ -1,16 +1,16 @@
 -- The bytes of a line. So far a line has bytes where it is one of sixteen instructions of RISC-V Unprivileged ISA
 -- 20191213, section 2.4: `NAME rd, rs1, rs2` for an operation on registers, `NAME rd, rs1, LITERAL` for one with an
 -- immediate. Every other line has none.
-use Rattle.std.specs.Prelude.{ℕ, ℤ, pos, neg_ℤ, Bool, ◌&&◌, ◌==◌, List, [], length, map, Option, Some, None, is_some, nat_le, option_map, option_and_then, slice_index_or, if◌then◌else◌, codes, bytes_eq}
+use Rattle.std.specs.Prelude.{ℕ, ℤ, pos, neg_ℤ, ◌/◌, ◌%◌, Bool, not, ◌&&◌, ◌==◌, List, [], length, map, Option, Some, None, is_some, nat_le, option_map, option_and_then, slice_index_or, if◌then◌else◌, codes, bytes_eq}
 use Rattle.rv_text.specs.Lexing.{LexedLine, lexed_line, pieces}
 use Rattle.rv_text.specs.Numbers.{number_of}
-use Rattle.rv_code.specs.declared.op.Op.{Op}
-use Rattle.rv_code.specs.declared.op.Shape.{Shape}
-use Rattle.rv_code.specs.declared.op.Shape.TheVariants.{Register, Immediate}
+use Rattle.rv_ops.specs.declared.op.Op.{Op}
+use Rattle.rv_ops.specs.declared.op.Shape.{Shape}
+use Rattle.rv_ops.specs.declared.op.Shape.TheVariants.{Register, Immediate}
 use Rattle.rv_code.specs.declared.word.Word.{Word}
 use Rattle.rv_code.specs.declared.word.Word.TheVariants.{Full}
-use Rattle.rv_code.specs.Table.{shape_of, operation_named}
-use Rattle.rv_code.specs.Registers.{register_named}
+use Rattle.rv_ops.specs.Table.{shape_of, fixed_of, operation_named}
+use Rattle.rv_ops.specs.Registers.{register_named}
 use Rattle.rv_code.specs.Encoding.{word_of, bytes_of_word, is_immediate, register_fields, immediate_fields}
 
 -- the texts of the tokens
@@ -29,17 +29,23 @@ literal_of tokens =
     then option_map (λ n. neg_ℤ (pos n)) (number_of (token_text tokens 6))
     else None)
 
+-- the operations that multiply or divide have this bit (RISC-V Unprivileged ISA 20191213, chapter 7); no line of theirs
+-- has bytes so far
+abbrev pub multiplies : Op → Bool
+multiplies op = fixed_of op / 0x2000000 % 2 == 1
+
 -- The word by the last operand, which stands from the sixth token on. An immediate that does not fit gives a word of
 -- zeros.
 abbrev pub word_by_last : Shape → Op → ℕ → ℕ → List (List ℕ) → Option Word
 word_by_last Register op rd rs1 tokens =
-    if length tokens == 6
+    if length tokens == 6 && not (multiplies op)
     then option_map (λ rs2. word_of op (register_fields rd rs1 rs2)) (register_named (token_text tokens 5))
     else None
 word_by_last Immediate op rd rs1 tokens =
     option_map
     (λ value. if is_immediate value then word_of op (immediate_fields rd rs1 value) else Full 0)
     (literal_of tokens)
+word_by_last s op rd rs1 tokens = None
 
 -- the third and the fifth token are commas
 abbrev pub has_commas : List (List ℕ) → Bool

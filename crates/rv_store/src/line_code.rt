@@ -1,10 +1,11 @@
 //! The word of a line.
 
 ghost use Rattle.std.specs.Prelude.{◌≡◌, ◌≤◌, ◌<◌, ◌+◌, ◌^◌, length, IfOk};
-ghost use Rattle.rv_code.specs.Table.{shape_of};
-ghost use Rattle.rv_store.specs.LineBytes.{texts, token_text, literal_of, word_by_last, has_commas, word_spelled, word_of_line};
+ghost use Rattle.rv_ops.specs.Table.{shape_of};
+ghost use Rattle.rv_store.specs.LineBytes.{texts, token_text, literal_of, word_by_last, has_commas, multiplies, word_spelled, word_of_line};
 
-use rv_code::{Ins, Op, Reg, Shape, Word, encode, op_by_name, reg_by_name, shape};
+use rv_code::{Ins, Word, encode};
+use rv_ops::{Op, Reg, Shape, fixed, op_by_name, reg_by_name, shape};
 use rv_text::{Count, TextError, Tokens, number, tokens};
 use std::alloc::Global;
 
@@ -40,6 +41,13 @@ fn literal(tokens: &Tokens<'_>) -> Option<i64>
     None
 }
 
+// Whether an operation multiplies or divides.
+fn multiplies(op: Op) -> bool
+    ensures { result ≡ multiplies op }
+{
+    fixed(op) / 0x200_0000 % 2 == 1
+}
+
 // The word by the last operand, which stands from the sixth token on.
 fn word_by_last(op: Op, rd: Reg, rs1: Reg, tokens: &Tokens<'_>) -> Option<Word>
     requires { 6 ≤ length tokens.now.tokens }
@@ -47,7 +55,7 @@ fn word_by_last(op: Op, rd: Reg, rs1: Reg, tokens: &Tokens<'_>) -> Option<Word>
 {
     match shape(op) {
         Shape::Register => {
-            if tokens.tokens().len() != 6 {
+            if tokens.tokens().len() != 6 || multiplies(op) {
                 return None;
             }
             let rs2 = reg_by_name(text_at(tokens, 5))?;
@@ -60,6 +68,7 @@ fn word_by_last(op: Op, rd: Reg, rs1: Reg, tokens: &Tokens<'_>) -> Option<Word>
                 None => Some(Word::Full(0)),
             }
         }
+        _ => None,
     }
 }
 

@@ -1,6 +1,6 @@
 use Rattle.std.proofs.Common.{◌≡◌, ◌+◌, ◌≤◌, length, IsTrue}
 use Rattle.std.specs.List.{list_all}
-use Rattle.rv_code.specs.Room.{is_piece, room}
+use Rattle.rv_ops.specs.Room.{is_piece, room}
 use Rattle.rv_code.specs.Encoding.{placed}
 use Rattle.rv_code.proofs.encoding.assembled.Given as goal
 

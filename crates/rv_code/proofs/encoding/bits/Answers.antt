@@ -1,5 +1,5 @@
 use Rattle.std.proofs.Common.{◌+◌, ◌∙◌, ap}
-use Rattle.rv_code.specs.Table.{fixed_of}
+use Rattle.rv_ops.specs.Table.{fixed_of}
 use Rattle.rv_code.specs.Encoding.{encoding_of, placed}
 use Rattle.rv_code.proofs.encoding.bits.Goals as goal
 

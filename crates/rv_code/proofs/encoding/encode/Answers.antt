@@ -1,6 +1,6 @@
 use Rattle.std.proofs.Common.{◌≡◌, true, false, ◌∙◌, ap, sym}
 use Rattle.rv_code.specs.declared.word.Word.TheVariants.{Half, Full}
-use Rattle.rv_code.specs.Table.{is_full}
+use Rattle.rv_ops.specs.Table.{is_full}
 use Rattle.rv_code.specs.Encoding.{encoding_of}
 use Rattle.rv_code.proofs.Words.{word_of-full, word_of-half}
 use Rattle.rv_code.proofs.encoding.encode.Goals as goal

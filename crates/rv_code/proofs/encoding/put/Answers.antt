@@ -1,5 +1,5 @@
 use Rattle.std.proofs.Common.{◌/◌, ◌%◌, ◌^◌, ◌∙◌, ap}
-use Rattle.rv_code.proofs.Layouts.{is_placed, shifted}
+use Rattle.rv_code.proofs.Pieces.{is_placed, shifted}
 use Rattle.rv_code.proofs.encoding.put.Goals as goal
 
 pub returns-clause-value : goal.returns-clause-value

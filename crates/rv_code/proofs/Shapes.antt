@@ -1,0 +1,36 @@
+-- What is proved of each shape, and by it of each operation.
+use Rattle.std.proofs.Common.{◌≡◌, ℕ, ℤ, ◌+◌, ◌-◌, ◌^◌, bit_and, ap, ◌∙◌, cond, ltb}
+use denote.Enum.Declared.{tag_of}
+use Rattle.rv_ops.specs.declared.op.Shape.{Shape}
+use Rattle.rv_ops.specs.contracts.op.Shape.{the_type as shape_type}
+use Rattle.rv_ops.specs.Room.{room}
+use Rattle.rv_ops.specs.Table.{classes_of, limits_of, pieces_of}
+use Rattle.rv_code.specs.declared.instruction.Fields.{Fields}
+use Rattle.rv_code.specs.Encoding.{placed, InClass, InLimits}
+use Rattle.rv_code.specs.Decoding.{fields_at}
+
+-- the operations of the shape take the fields
+pub record FitsShape (s : Shape) (f : Fields) : Type 0 where
+  pub rd : InClass (classes_of s).0 f.rd
+  pub rs1 : InClass (classes_of s).1 f.rs1
+  pub rs2 : InClass (classes_of s).2 f.rs2
+  pub value : InLimits (limits_of s) f.value
+
+-- the bits that no field fills: the first 13 shapes have 32 bits, the others 16
+unfoldable pub mask_of_shape : Shape → ℕ
+mask_of_shape s = cond (ltb (tag_of shape_type s) 13) (2 ^ 32 - 1) (2 ^ 16 - 1) - room (pieces_of s)
+
+-- a word of these fixed bits and fields gives them back
+pub record IsRead (s : Shape) (n : ℕ) (f : Fields) : Type 0 where
+  pub fields : fields_at s (n + placed f (pieces_of s)) ≡ f
+  pub fixed : bit_and (n + placed f (pieces_of s)) (mask_of_shape s) ≡ n
+
+pub fields_same : {rd rd' rs1 rs1' rs2 rs2' : ℕ} {v v' : ℤ} → rd ≡ rd' → rs1 ≡ rs1' → rs2 ≡ rs2' → v ≡ v' →
+    ◌≡◌ {A = Fields} (record { rd = rd; rs1 = rs1; rs2 = rs2; value = v }) (record { rd = rd'; rs1 = rs1'; rs2 = rs2'; value = v' })
+fields_same {rd} {rd'} {rs1} {rs1'} {rs2} {rs2'} {v} {v'} a b c d =
+    let of_parts : ℕ → ℕ → ℕ → ℤ → Fields = λ x y z w. record { rd = x; rs1 = y; rs2 = z; value = w } in
+    ap (λ x. of_parts x rs1 rs2 v) a ∙ ap (λ y. of_parts rd' y rs2 v) b ∙ ap (λ z. of_parts rd' rs1' z v) c ∙ ap (λ w. of_parts rd' rs1' rs2' w) d
+
+pub same_fields : (f : Fields) (rd rs1 rs2 : ℕ) (v : ℤ) → rd ≡ f.rd → rs1 ≡ f.rs1 → rs2 ≡ f.rs2 → v ≡ f.value →
+    ◌≡◌ {A = Fields} (record { rd = rd; rs1 = rs1; rs2 = rs2; value = v }) f
+same_fields f rd rs1 rs2 v a b c d = fields_same a b c d

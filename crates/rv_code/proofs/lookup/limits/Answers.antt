@@ -1,9 +1,0 @@
-use Rattle.std.proofs.Common.{◌≡◌, ◌<◌, ◌∙◌, ap, sym, subst}
-use Rattle.rv_code.specs.Table.{Limits, limits_of, shape_of}
-use Rattle.rv_code.proofs.Layouts.{has_multiple}
-use Rattle.rv_code.proofs.lookup.limits.Goals as goal
-
-pub returns-clause-multiple : goal.returns-clause-multiple
-returns-clause-multiple c =
-    let e : ◌≡◌ {A = Limits} c.shape_limits.result (limits_of (shape_of c.args.op)) = c.shape_limits.ensures ∙ ap (λ s. limits_of s) c.shape.ensures in
-    subst (λ l. 0 < l.2) (sym e) (has_multiple c.args.op)

@@ -1,7 +1,0 @@
-use Rattle.std.proofs.Common.{◌∙◌, ap}
-use Rattle.rv_code.specs.Table.{operation_named}
-use Rattle.rv_code.proofs.Naming.{operation_named-name}
-use Rattle.rv_code.proofs.names.name_of.Goals as goal
-
-pub returns-clause-read : goal.returns-clause-read
-returns-clause-read c = ap operation_named c.row.ensures.name ∙ operation_named-name c.args.op

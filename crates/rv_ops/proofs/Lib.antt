@@ -1,0 +1,3 @@
+mod Examples
+pub mod LayoutFacts
+pub mod Naming

@@ -1,0 +1,29 @@
+use Rattle.std.proofs.Common.{◌<◌, ◌∙◌, sym, subst}
+use Rattle.std.specs.Option.{IfSome}
+use Rattle.std.proofs.lemmas.Option.{IfSome_then}
+use Rattle.rv_ops.specs.Csrs.{csr_names, csr_named, IsNameOfCsr}
+use Rattle.rv_ops.proofs.Naming.{csr_named-found, csr_named-only, made_number}
+use Rattle.rv_ops.proofs.names.csr_by_name.Goals as goal
+
+pub returns-clause-value : goal.returns-clause-value
+unfolding csr_named csr_names
+returns-clause-value c =
+    let text = c.args.name.now in
+    let below = IfSome_then (csr_named text) (csr_named-found text) (λ n f. f.0) in
+    made_number 4096 c.first_number.result c.and_then.result (subst (λ r. IfSome r (λ n. n < 4096)) (sym c.first_number.ensures) below) c.and_then.ensures
+    ∙ c.first_number.ensures
+
+pub returns-clause-below : goal.returns-clause-below
+returns-clause-below c =
+    let text = c.args.name.now in
+    subst (λ r. IfSome r (λ n. n < 4096)) (sym (returns-clause-value c))
+    (IfSome_then (csr_named text) (csr_named-found text) (λ n f. f.0))
+
+pub returns-clause-found : goal.returns-clause-found
+returns-clause-found c =
+    let text = c.args.name.now in
+    subst (λ r. IfSome r (λ n. IsNameOfCsr n text)) (sym (returns-clause-value c))
+    (IfSome_then (csr_named text) (csr_named-found text) (λ n f. f.1))
+
+pub returns-clause-only : goal.returns-clause-only
+returns-clause-only c = λ n h. returns-clause-value c ∙ csr_named-only c.args.name.now n h

@@ -1,0 +1,167 @@
+//! The operations, and the shapes of their instructions.
+
+/// An operation, in the order of the table.
+#[derive(Clone, Copy, Debug, PartialEq, Eq)]
+pub enum Op {
+    Lui,
+    Auipc,
+    Jal,
+    Jalr,
+    Beq,
+    Bne,
+    Blt,
+    Bge,
+    Bltu,
+    Bgeu,
+    Lb,
+    Lh,
+    Lw,
+    Lbu,
+    Lhu,
+    Sb,
+    Sh,
+    Sw,
+    Addi,
+    Slti,
+    Sltiu,
+    Xori,
+    Ori,
+    Andi,
+    Slli,
+    Srli,
+    Srai,
+    Add,
+    Sub,
+    Sll,
+    Slt,
+    Sltu,
+    Xor,
+    Srl,
+    Sra,
+    Or,
+    And,
+    Mul,
+    Mulh,
+    Mulhsu,
+    Mulhu,
+    Div,
+    Divu,
+    Rem,
+    Remu,
+    Csrrw,
+    Csrrs,
+    Csrrc,
+    Csrrwi,
+    Csrrsi,
+    Csrrci,
+    Fence,
+    FenceTso,
+    Ecall,
+    Ebreak,
+    CAddi4spn,
+    CLw,
+    CSw,
+    CNop,
+    CAddi,
+    CJal,
+    CLi,
+    CAddi16sp,
+    CLui,
+    CSrli,
+    CSrai,
+    CAndi,
+    CSub,
+    CXor,
+    COr,
+    CAnd,
+    CJ,
+    CBeqz,
+    CBnez,
+    CSlli,
+    CLwsp,
+    CJr,
+    CMv,
+    CEbreak,
+    CJalr,
+    CAdd,
+    CSwsp,
+}
+
+/// The operands of an instruction, as they are written, and which fields of its word hold them. An apostrophe
+/// marks a register of x8 to x15.
+#[derive(Clone, Copy, Debug, PartialEq, Eq)]
+pub enum Shape {
+    /// `rd, value`: the upper 20 bits.
+    Upper,
+    /// `rd, target`.
+    Jump,
+    /// `rd, value(rs1)`.
+    JumpRegister,
+    /// `rs1, rs2, target`.
+    Branch,
+    /// `rd, value(rs1)`.
+    Load,
+    /// `rs2, value(rs1)`.
+    Store,
+    /// `rd, rs1, value`.
+    Immediate,
+    /// `rd, rs1, value`: the shift amount.
+    Shift,
+    /// `rd, rs1, rs2`.
+    Register,
+    /// `rd, value, rs1`: the number of a control and status register.
+    Csr,
+    /// `rd, value, immediate`: the immediate stands in the place of rs1.
+    CsrImmediate,
+    /// `predecessors, successors`: two sets, in the places of rs1 and rs2.
+    Fence,
+    /// No operand.
+    Whole,
+    /// `rd', sp, value`.
+    CStackAddress,
+    /// `rd', value(rs1')`.
+    CLoad,
+    /// `rs2', value(rs1')`.
+    CStore,
+    /// No operand, in sixteen bits.
+    CWhole,
+    /// `rd, value`: not 0.
+    CImmediate,
+    /// `target`.
+    CJump,
+    /// `rd, value`: six bits with a sign.
+    CLoadImmediate,
+    /// `sp, value`.
+    CStackAdjust,
+    /// `rd, value`: the upper 20 bits, six bits of them with a sign.
+    CUpper,
+    /// `rd', value`: the shift amount.
+    CShiftRight,
+    /// `rd', value`.
+    CAndImmediate,
+    /// `rd', rs2'`.
+    CRegisters,
+    /// `rs1', target`.
+    CBranch,
+    /// `rd, value`: the shift amount.
+    CShiftLeft,
+    /// `rd, value(sp)`.
+    CLoadStack,
+    /// `rs1`.
+    CJumpRegister,
+    /// `rd, rs2`.
+    CTwoRegisters,
+    /// `rs2, value(sp)`.
+    CStoreStack,
+}
+
+/// What the table says of an operation.
+#[derive(Clone, Copy, Debug)]
+pub struct Row {
+    pub name: &'static str,
+    pub shape: Shape,
+    /// The bits of the word that no field fills.
+    pub fixed: u32,
+    /// Which bits of the word are fixed.
+    pub mask: u32,
+}
