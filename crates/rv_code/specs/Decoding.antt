@@ -15,7 +15,8 @@ use Rattle.rv_code.specs.Encoding.{Fits, encoding_of}
 
 -- the bits of a piece at their places in the field, if it is a piece of this one
 abbrev pub bits_from_piece : Field → ℕ → Piece → ℕ
-bits_from_piece field w p = cond (nat_eq (tag_of field_type field) (tag_of field_type p.0)) ((w / 2 ^ p.3 % 2 ^ p.2) * 2 ^ p.1) 0
+bits_from_piece field w p =
+    cond (nat_eq (tag_of field_type field) (tag_of field_type p.0)) ((w / 2 ^ p.3 % 2 ^ p.2) * 2 ^ p.1) 0
 
 -- all of them together
 abbrev pub gathered : Field → ℕ → List Piece → ℕ
@@ -56,14 +57,15 @@ Code = Op × ℕ × ℕ
 abbrev pub code_of : Row → Code
 code_of row = (row.0, row.3, row.4)
 
--- the word is of none of the operations
+-- the word is of none of the operations, nor can it be of one whose fixed bits it lacks
 abbrev pub IsWordOfNone : List Code → ℕ → Type 0
 IsWordOfNone [] w = Unit
 IsWordOfNone (c ∷ cs) w = (bit_and w c.2 ≡ c.1 → IsWordOf c.0 w → ⊥) × IsWordOfNone cs w
 
 -- the most that a piece can give a field
 abbrev pub most_from_piece : Field → Piece → ℕ
-most_from_piece field p = cond (nat_eq (tag_of field_type field) (tag_of field_type p.0)) (2 ^ p.2 * 2 ^ p.1 - 2 ^ p.1) 0
+most_from_piece field p =
+    cond (nat_eq (tag_of field_type field) (tag_of field_type p.0)) (2 ^ p.2 * 2 ^ p.1 - 2 ^ p.1) 0
 
 -- the most that the pieces of a field add up to
 abbrev pub reach : Field → List Piece → ℕ

@@ -87,7 +87,7 @@ fn signed(sign: Sign, number: u32) -> i32
     }
 }
 
-/// The fields that a word has as one of the operation.
+/// The fields that a word has by the layout of an operation.
 fn fields_of(op: Op, word: u32) -> Fields
     ensures { result ≡ fields_at (shape_of op) word }
 {
@@ -106,7 +106,7 @@ fn fields_of(op: Op, word: u32) -> Fields
     }
 }
 
-/// The operation's instruction of a word, if it has one.
+/// The instruction of the operation that a word is, if it is one.
 fn instruction_of(op: Op, word: u32) -> Option<Ins>
     ensures found { IfSome result (λ i. Fits i.0 i.1 × (encoding_of i.0 i.1 ≡ word)) }
     ensures none { IfNone result (IsWordOf op word → ⊥) }
@@ -121,7 +121,7 @@ fn instruction_of(op: Op, word: u32) -> Option<Ins>
     Some(Ins::new(op, fields))
 }
 
-/// The row's instruction of a word, if it has one.
+/// The instruction of a row that a word is, if it is one. Most words fail the test of the fixed bits.
 fn instruction_of_row(row: &Entry, word: u32) -> Option<Ins>
     ensures found { IfSome result (λ i. Fits i.0 i.1 × (encoding_of i.0 i.1 ≡ word)) }
     ensures none { IfNone result (bit_and word row.now.4 ≡ row.now.3 → IsWordOf row.now.0 word → ⊥) }
@@ -132,7 +132,7 @@ fn instruction_of_row(row: &Entry, word: u32) -> Option<Ins>
     instruction_of(row.0, word)
 }
 
-/// The instruction of a word that the first of the rows has which has one.
+/// The instruction that a word is by the first of the rows of which it is one.
 fn first_instruction(mut rows: &[Entry], word: u32) -> Option<Ins>
     ensures found { IfSome result (λ i. Fits i.0 i.1 × (encoding_of i.0 i.1 ≡ word)) }
     ensures none { IfNone result (IsWordOfNone (map (λ row. (row.0, row.3, row.4)) rows.entry.now) word) }

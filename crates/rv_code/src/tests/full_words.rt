@@ -1,6 +1,6 @@
-//! Words of the public standard: name, rd, rs1, rs2, value and word, as
-//! `llvm-mc -triple=riscv32 -mattr=+m -show-encoding -riscv-no-aliases` of LLVM 14.0.6 has them. Each slot takes its
-//! least and its greatest operand, and each scattered bit of an immediate stands alone once.
+//! Words of the public standard: name, rd, rs1, rs2, value and word, as `llvm-mc -triple=riscv32 -mattr=+m
+//! -show-encoding -riscv-no-aliases` of LLVM 14.0.6 has them. Each slot takes its least and its greatest operand,
+//! and each scattered bit of an immediate stands alone once.
 
 pub const FULL_WORDS: [(&str, u8, u8, u8, i32, u32); 348] = [
     ("lui", 0, 0, 0, 0, 0x0000_0037),

@@ -1,6 +1,6 @@
-//! Words of the public standard: name, rd, rs1, rs2, value and word, as
-//! `llvm-mc -triple=riscv32 -mattr=+c -show-encoding -riscv-no-aliases` of LLVM 14.0.6 has them. Each slot takes its
-//! least and its greatest operand, and each scattered bit of an immediate stands alone once.
+//! Words of the public standard: name, rd, rs1, rs2, value and word, as `llvm-mc -triple=riscv32 -mattr=+c
+//! -show-encoding -riscv-no-aliases` of LLVM 14.0.6 has them. Each slot takes its least and its greatest operand,
+//! and each scattered bit of an immediate stands alone once.
 
 pub const HALF_WORDS: [(&str, u8, u8, u8, i32, u16); 136] = [
     ("c.addi4spn", 8, 0, 0, 4, 0x0040),

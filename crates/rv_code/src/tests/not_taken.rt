@@ -1,6 +1,6 @@
-//! Operands that an operation does not take: name, rd, rs1, rs2 and value. They stand beyond the ends of their slot, between
-//! its multiples, in a slot that the form lacks, or in what the standard reserves or keeps for hints: RISC-V Unprivileged
-//! ISA 20191213, sections 2.2 to 2.8, 9.1 and 16.2 to 16.8.
+//! Operands that an operation does not take: name, rd, rs1, rs2 and value. They stand beyond the ends of their
+//! slot, between its multiples, in a slot that the form lacks, or in what the standard reserves or keeps for
+//! hints: RISC-V Unprivileged ISA 20191213, sections 2.2 to 2.8, 9.1 and 16.2 to 16.8.
 
 pub const NOT_TAKEN: [(&str, u8, u8, u8, i32); 114] = [
     ("lui", 1, 0, 0, -1),

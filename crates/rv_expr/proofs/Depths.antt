@@ -1,0 +1,30 @@
+-- The greatest depth of a run, found from its front on.
+use Rattle.std.proofs.Common.{◌≡◌, ℕ, ◌≤◌, List, [], ◌∷◌, max, refl, arith, ⊎_elim}
+use Rattle.std.proofs.Math.Nat.{le-max_left, max-eq_left, max-eq_right, max-le}
+use Rattle.std.proofs.lemmas.Bool.{cases_lt}
+use Rattle.rv_expr.specs.Roles.{Role}
+use Rattle.rv_expr.specs.Depth.{depth_behind, depth_from}
+
+-- it is not below the depth at the front
+pub depth-least : (depth : ℕ) (rs : List Role) → depth ≤ depth_from depth rs
+depth-least depth [] = omega arith
+depth-least depth (r ∷ rs) = le-max_left depth (depth_from (depth_behind depth r) rs)
+
+-- of four numbers the greatest, grouped in two ways
+greatest : (m d e x : ℕ) → d ≤ m → e ≤ x → max m (max d x) ≡ max (max m e) x
+greatest m d e x dm ex =
+    ⊎_elim
+    (λ above.
+    let mx : m ≤ x = omega arith in
+    let dx : d ≤ x = omega arith in
+    let both : max m e ≤ x = max-le mx ex in
+    rw (max-eq_right dx, max-eq_right mx, max-eq_right both) refl)
+    (λ below.
+    let em : e ≤ m = omega arith in
+    let both : max d x ≤ m = max-le dm below in
+    rw (max-eq_left em, max-eq_left both, max-eq_left below) refl)
+    (cases_lt m x)
+
+pub depth_step : (deepest depth : ℕ) (r : Role) (rs : List Role) → depth ≤ deepest → max deepest (depth_from depth (r ∷ rs)) ≡ max (max deepest (depth_behind depth r)) (depth_from (depth_behind depth r) rs)
+depth_step deepest depth r rs h =
+    greatest deepest depth (depth_behind depth r) (depth_from (depth_behind depth r) rs) h (depth-least (depth_behind depth r) rs)

@@ -1,0 +1,11 @@
+pub mod Tree
+pub mod Faults
+pub mod Arithmetic
+pub mod Value
+pub mod Roles
+pub mod Reading
+pub mod Grammar
+pub mod Depth
+pub mod OpenAtOnce
+pub mod Refusals
+pub mod ReaderState
