@@ -20,5 +20,6 @@ pub use evaluation::{Names, value};
 pub use faults::{ReadFault, ValueFault};
 pub use laws::{depth_is_open_at_once, reads_the_grammar};
 pub use naming::Name;
+pub use parts::label_number;
 pub use reading::read;
 pub use tree::{BinaryOp, Direction, Expr, LabelReference, UnaryOp};

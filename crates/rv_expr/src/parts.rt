@@ -47,8 +47,8 @@ fn direction(letter: u8) -> Option<Direction>
     }
 }
 
-// The number of a local label.
-fn label_number(text: &[u8]) -> Option<u16>
+/// The number of a local label, which decimal digits spell; none where it is 2^16 or more, as that of no label is.
+pub fn label_number(text: &[u8]) -> Option<u16>
     ensures { result ≡ label_number text.now }
 {
     u16::try_from(digits(10, text)?).ok()

@@ -338,3 +338,17 @@ fn numbers_faults(rt: HostRuntime) -> Result<(), Fail> {
     );
     Ok(())
 }
+
+#[test]
+fn numbers_of_labels(rt: HostRuntime) {
+    for (text, number) in [
+        (b"0".as_slice(), Some(0)),
+        (b"10", Some(10)),
+        (b"9999", Some(9999)),
+        (b"65536", None),
+        (b"1b", None),
+        (b"", None),
+    ] {
+        assert_eq!(rt; label_number(text), number);
+    }
+}

@@ -1,0 +1,5 @@
+pub mod LabelLemmas
+pub mod Ranges
+pub mod RunLemmas
+pub mod StatementLemmas
+mod Examples

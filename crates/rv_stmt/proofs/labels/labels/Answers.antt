@@ -1,0 +1,31 @@
+use Rattle.std.proofs.Common.{◌+◌, ◌++◌, drop, append-nil, ap, ◌∙◌, sym}
+use Rattle.rv_stmt.specs.Labels.{labelled}
+use Rattle.rv_stmt.proofs.LabelLemmas.{one_label, same_body, two_more, no_labels, body_here}
+use Rattle.rv_stmt.proofs.labels.labels.Goals as goal
+
+pub loop-labels-preserved : goal.loop-labels-preserved
+loop-labels-preserved c =
+    let line = c.args.line.now in
+    let place = c.loop-labels.place in
+    let found = sym c.in_ok-label.ensures ∙ c.in-Some.is in
+    let pushed = c.in_ok-push.ensures.items in
+    record {
+      within = two_more line place _ found c.loop-labels.invariant.within;
+      labels =
+          ap (λ ls. ls ++ (labelled (drop (place + 2) line)).labels) pushed
+          ∙ one_label line place _ found c.loop-labels.labels.items
+          ∙ c.loop-labels.invariant.labels;
+      body = same_body line place _ found ∙ c.loop-labels.invariant.body;
+    }
+
+pub returns-clause-labels : goal.returns-clause-labels
+returns-clause-labels c =
+    let none = no_labels c.args.line.now c.loop-labels.place (sym c.in_ok-label.ensures ∙ c.in_default.is) in
+    sym (append-nil c.loop-labels.labels.items)
+    ∙ ap (λ ls. c.loop-labels.labels.items ++ ls) (sym none)
+    ∙ c.loop-labels.invariant.labels
+
+pub returns-clause-body : goal.returns-clause-body
+returns-clause-body c =
+    sym (body_here c.args.line.now c.loop-labels.place (sym c.in_ok-label.ensures ∙ c.in_default.is))
+    ∙ c.loop-labels.invariant.body

@@ -1,0 +1,14 @@
+use Rattle.std.proofs.Common.{◌≡◌, ◌≤◌, ◌++◌, ◌-◌, length, drop}
+use Rattle.rv_stmt.specs.Labels.{labelled}
+use Rattle.rv_stmt.proofs.labels.labels.Given as goal
+
+-- the labels so far and those of what is left are those of the line
+abbrev pub invariant-loop-labels : goal.invariant-loop-labels
+invariant-loop-labels l = record {
+  within : l.place ≤ length l.line;
+  labels : l.labels.items ++ (labelled (drop l.place l.line)).labels ≡ (labelled l.line).labels;
+  body : (labelled (drop l.place l.line)).body ≡ (labelled l.line).body;
+}
+
+abbrev pub decreases-loop-labels : goal.decreases-loop-labels
+decreases-loop-labels l = length l.line - l.place

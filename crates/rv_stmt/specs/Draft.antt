@@ -1,0 +1,40 @@
+-- An instruction while its operands are read.
+use Rattle.std.specs.Prelude.{ℕ, ℤ, List, [], ◌∷◌, ◌++◌, Option}
+use Rattle.rv_text.specs.declared.lexeme.Span.{Span}
+use Rattle.rv_code.specs.declared.instruction.Fields.{Fields as CodeFields}
+use Rattle.rv_expr.specs.Tree.{Tree}
+use Rattle.rv_stmt.specs.declared.operand.Modifier.{Modifier}
+use Rattle.rv_stmt.specs.declared.operand.Role.{Role}
+
+abbrev pub Fields : Type 0
+Fields = CodeFields
+
+abbrev pub fields : ℕ → ℕ → ℕ → ℤ → Fields
+fields rd rs1 rs2 v = record { rd = rd; rs1 = rs1; rs2 = rs2; value = v }
+
+-- an expression of an operand, its modifier, what its value is for, and the span at which its faults are told
+pub record Operand : Type 0 where
+  pub tree : Tree
+  pub modifier : Option Modifier
+  pub role : Role
+  pub span : Span
+
+-- the fields that are filled, and the operands that wait for their values
+pub record Draft : Type 0 where
+  pub fields : Fields
+  pub operands : List Operand
+
+abbrev pub with_rd : Draft → ℕ → Draft
+with_rd d n = record { fields = fields n d.fields.rs1 d.fields.rs2 d.fields.value; operands = d.operands }
+
+abbrev pub with_rs1 : Draft → ℕ → Draft
+with_rs1 d n = record { fields = fields d.fields.rd n d.fields.rs2 d.fields.value; operands = d.operands }
+
+abbrev pub with_rs2 : Draft → ℕ → Draft
+with_rs2 d n = record { fields = fields d.fields.rd d.fields.rs1 n d.fields.value; operands = d.operands }
+
+abbrev pub with_value : Draft → ℤ → Draft
+with_value d v = record { fields = fields d.fields.rd d.fields.rs1 d.fields.rs2 v; operands = d.operands }
+
+abbrev pub with_operand : Draft → Operand → Draft
+with_operand d o = record { fields = d.fields; operands = d.operands ++ (o ∷ []) }

@@ -1,0 +1,117 @@
+//! Which way of writing an instruction a name and a number of operands choose.
+
+ghost use Rattle.std.specs.Prelude.{◌≡◌, map, IsTrue, IfSome, IsSome};
+ghost use Rattle.std.specs.List.{list_all};
+ghost use Rattle.rv_stmt.specs.Forms.{slots_of, own_form, forms_named, named_form, has_registers, other_forms, chosen, form_of};
+ghost use Rattle.rv_stmt.specs.Views.{reading_of, form_view};
+
+use crate::expressions::Reading;
+use crate::forms::FORMS;
+use crate::names::is_name;
+use crate::slots::{OPERANDS, Slot};
+use rv_code::Fields;
+use rv_ops::{Op, Reg, Shape, op_by_name, shape};
+use rv_text::FaultNumber;
+
+/// A way to write an instruction: its operation, the fields where no operand fills them, and the operands.
+#[derive(Clone, Copy)]
+pub struct Form {
+    /// Whether it is the operation's own way, and not one of another name or with operands left out.
+    pub own: bool,
+    pub op: Op,
+    pub fields: Fields,
+    pub slots: &'static [Slot],
+}
+
+// The operands of a shape.
+#[tactic(auto, unfolding(crate::specs::Forms::slots_of))]
+fn slots(shape: Shape) -> &'static [Slot]
+    ensures { result.now ≡ slots_of shape }
+{
+    OPERANDS[shape as usize].1
+}
+
+// The operation's own way.
+fn own_form(op: Op) -> Form
+    ensures { form_view result ≡ own_form op }
+{
+    let fields = Fields {
+        rd: Reg::ZERO,
+        rs1: Reg::ZERO,
+        rs2: Reg::ZERO,
+        value: 0,
+    };
+    Form {
+        own: true,
+        op,
+        fields,
+        slots: slots(shape(op)),
+    }
+}
+
+// The way of a row of the table of other ways.
+fn form_of_row(row: &(&'static str, Op, (u8, u8, u8, i32), &'static [Slot])) -> Option<Form>
+    ensures registers { IsTrue (has_registers row.now.2) → IsSome result }
+    ensures form { IfSome result (λ f. form_view f ≡ (named_form row.now.0.now row.now.1 row.now.2 row.now.3.now).1) }
+{
+    let (rd, rs1, rs2, value) = row.2;
+    let fields = Fields {
+        rd: Reg::new(rd)?,
+        rs1: Reg::new(rs1)?,
+        rs2: Reg::new(rs2)?,
+        value,
+    };
+    Some(Form {
+        own: false,
+        op: row.1,
+        fields,
+        slots: row.3,
+    })
+}
+
+// The first of these ways that has the name and so many operands; `fault` where none has the name.
+fn other_form(
+    mut forms: &[(&'static str, Op, (u8, u8, u8, i32), &'static [Slot])],
+    name: &[u8],
+    count: usize,
+    unknown: FaultNumber,
+) -> Reading<Form>
+    requires { IsTrue (list_all (λ row. has_registers row.2) forms.now) }
+    ensures { reading_of form_view result
+        ≡ chosen unknown count (forms_named (map (λ row. named_form row.0.now row.1 row.2 row.3.now) forms.entry.now) name.now) }
+{
+    let mut fault = unknown;
+    while let [row, rest @ ..] = forms {
+        if is_name(row.0, name) {
+            if row.3.len() == count {
+                return match form_of_row(row) {
+                    Some(form) => Ok(form),
+                    None => Err(FaultNumber::OperandCount),
+                };
+            }
+            fault = FaultNumber::OperandCount;
+        }
+        forms = rest;
+    }
+    Err(fault)
+}
+
+/// The way of a name that takes so many operands.
+///
+/// # Errors
+///
+/// `UnknownName` if the name has no way at all, else `OperandCount`.
+#[tactic(auto, unfolding(crate::specs::Forms::other_forms))]
+pub fn form_of(name: &[u8], count: usize) -> Reading<Form>
+    ensures { reading_of form_view result ≡ form_of name.now count }
+{
+    let Some(op) = op_by_name(name) else {
+        return other_form(&FORMS, name, count, FaultNumber::UnknownName);
+    };
+    let form = own_form(op);
+    if form.slots.len() == count {
+        Ok(form)
+    } else {
+        other_form(&FORMS, name, count, FaultNumber::OperandCount)
+    }
+}

@@ -1,0 +1,163 @@
+//! Operands in memory: `offset(register)`.
+
+ghost use Rattle.std.specs.Prelude.{◌≡◌, ◌+◌, ◌<◌, ◌≤◌, ◌^◌, IfOk, IfSome, option_map, length, take, drop};
+ghost use Rattle.rv_stmt.specs.Operands.{base_at, base_of, offset, closed_within, group_from, group_of, base_behind, modified_memory, plain_memory, memory};
+ghost use Rattle.rv_stmt.specs.Views.{reading_of, value_of, located_of};
+
+use crate::expressions::{Reading, Value, modified_value, plain};
+use crate::registers::Takes;
+use crate::runs::open_behind;
+use crate::token_range::TokenRange;
+use rv_ops::{Reg, Shape, reg_by_name};
+use rv_text::FaultNumber;
+use std::alloc::{AllocError, Global};
+
+/// A place in memory: the offset from a register, which may be absent.
+#[derive(Drop)]
+pub struct Located {
+    pub base: Reg,
+    pub offset: Option<Value>,
+}
+
+// The register between `(` and `)` from a place on.
+fn base_at(run: &TokenRange<'_>, place: usize) -> Option<Reg>
+    requires { place + 2 < 2 ^ 64 }
+    ensures { result ≡ base_at run.now place }
+{
+    if !(run.sign_at(b"(", place) && run.sign_at(b")", place + 2)) {
+        return None;
+    }
+    let name = run.word_at(place + 1)?;
+    reg_by_name(name)
+}
+
+/// The register in parentheses at the end of some tokens.
+pub fn base_of(run: &TokenRange<'_>) -> Option<Reg>
+    ensures { result ≡ base_of run.now }
+{
+    let length = run.len();
+    if length < 3 {
+        return None;
+    }
+    base_at(run, length - 3)
+}
+
+// How many tokens there are up to the parenthesis that closes the first.
+fn closed_within(run: &TokenRange<'_>) -> Option<usize>
+    ensures value { result ≡ closed_within 0 run.now }
+    ensures within { IfSome result (λ n. n ≤ length run.now) }
+{
+    let mut rest = run.skip(0);
+    let mut depth = 0;
+    let mut length = 0;
+    while let Some((token, behind)) = rest.split_first() {
+        depth = open_behind(depth, token);
+        length += 1;
+        if depth == 0 {
+            return Some(length);
+        }
+        rest = behind;
+    }
+    None
+}
+
+// How many tokens a modifier has with its parentheses: `%`, a name if there is one, and up to the parenthesis that
+// closes the first.
+#[tactic(auto, using(crate::proofs::Ranges::length_behind))]
+fn group_of(run: &TokenRange<'_>) -> Option<usize>
+    ensures value { result ≡ group_of run.now }
+    ensures within { IfSome result (λ n. n ≤ length run.now) }
+{
+    let open = if run.word_at(1).is_some() { 2 } else { 1 };
+    if !run.sign_at(b"(", open) {
+        return None;
+    }
+    match closed_within(&run.skip(open)) {
+        Some(length) => Some(open + length),
+        None => None,
+    }
+}
+
+// The register in parentheses behind a modifier, if nothing else follows.
+fn base_behind(run: &TokenRange<'_>, place: usize) -> Option<Reg>
+    ensures { result ≡ base_behind run.now place }
+{
+    let length = run.len();
+    if length < 3 || length - 3 != place {
+        return None;
+    }
+    base_at(run, place)
+}
+
+// The offset before a base; none where nothing stands there.
+fn offset(alloc: Global, run: &TokenRange<'_>) -> Result<Reading<Option<Value>>, AllocError>
+    ensures { IfOk result (λ r. reading_of (option_map value_of) r ≡ offset run.now) }
+{
+    if run.len() == 0 {
+        return Ok(Ok(None));
+    }
+    match plain(alloc, run)? {
+        Ok(value) => Ok(Ok(Some(value))),
+        Err(fault) => Ok(Err(fault)),
+    }
+}
+
+// A place in memory whose offset has a modifier.
+fn modified_memory(
+    alloc: Global,
+    shape: Shape,
+    takes: Takes,
+    run: &TokenRange<'_>,
+) -> Result<Reading<Located>, AllocError>
+    ensures { IfOk result (λ r. reading_of located_of r ≡ modified_memory shape takes run.now) }
+{
+    let Some(length) = group_of(run) else {
+        return Ok(Err(FaultNumber::BadRegister));
+    };
+    let base = match takes.taken(base_behind(run, length)) {
+        Ok(base) => base,
+        Err(fault) => return Ok(Err(fault)),
+    };
+    match modified_value(alloc, shape, &run.part(0, length))? {
+        Ok(value) => Ok(Ok(Located {
+            base,
+            offset: Some(value),
+        })),
+        Err(fault) => Ok(Err(fault)),
+    }
+}
+
+// A place in memory whose offset has no modifier.
+fn plain_memory(
+    alloc: Global,
+    takes: Takes,
+    run: &TokenRange<'_>,
+) -> Result<Reading<Located>, AllocError>
+    ensures { IfOk result (λ r. reading_of located_of r ≡ plain_memory takes run.now) }
+{
+    let base = match takes.taken(base_of(run)) {
+        Ok(base) => base,
+        Err(fault) => return Ok(Err(fault)),
+    };
+    match offset(alloc, &run.part(0, run.len().saturating_sub(3)))? {
+        Ok(offset) => Ok(Ok(Located { base, offset })),
+        Err(fault) => Ok(Err(fault)),
+    }
+}
+
+/// The place in memory that some tokens are: `offset(register)`, where the register is one of those taken and the
+/// offset has a modifier that the shape takes, or none.
+pub fn memory(
+    alloc: Global,
+    shape: Shape,
+    takes: Takes,
+    run: &TokenRange<'_>,
+) -> Result<Reading<Located>, AllocError>
+    ensures { IfOk result (λ r. reading_of located_of r ≡ memory shape takes run.now) }
+{
+    if run.sign_at(b"%", 0) {
+        modified_memory(alloc, shape, takes, run)
+    } else {
+        plain_memory(alloc, takes, run)
+    }
+}

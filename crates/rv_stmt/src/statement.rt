@@ -1,0 +1,140 @@
+//! Statements: the labels of a line and its body.
+
+ghost use Rattle.std.specs.Prelude.{◌≡◌, ◌<◌, ◌^◌, Ok, length, map, IfOk};
+ghost use Rattle.std.specs.List.{list_any};
+ghost use Rattle.rv_stmt.specs.Forms.{form_of};
+ghost use Rattle.rv_stmt.specs.Statement.{takes_two_words, drafted, formed, body_of, statement_of_lexed};
+ghost use Rattle.rv_stmt.specs.Views.{operand_of, draft_of, form_view, run_of, body_view, statement_view};
+
+use crate::draft::Draft;
+use crate::form::{Form, form_of};
+use crate::label::Label;
+use crate::labels::labels;
+use crate::operand::{Operand, Role};
+use crate::runs::{Run, runs};
+use crate::token_range::TokenRange;
+use rv_code::Fields;
+use rv_ops::Op;
+use rv_text::{Fault, FaultNumber, Span, TokenKind, Tokens};
+use std::alloc::{AllocError, Global};
+
+/// An instruction, or those that a name stands for: the operation, its fields, and the operands whose values are still
+/// to come.
+#[derive(Drop)]
+pub struct Instruction {
+    /// The name as it is written.
+    pub name: Span,
+    pub op: Op,
+    /// The fields that the operands gave, and 0 where a value is still to come.
+    pub fields: Fields,
+    pub operands: Vec<Operand>,
+}
+
+/// What follows the labels of a line. Directives are not read yet: their names are unknown.
+#[derive(Drop)]
+pub enum Body {
+    /// Nothing.
+    Empty,
+    /// One instruction, written in its own way.
+    Instr(Instruction),
+    /// One or two instructions, by another name, with operands left out, or with an address that takes two.
+    Pseudo(Instruction),
+    /// What is wrong with the line.
+    Faulty(Fault),
+}
+
+/// The statement of a line.
+#[derive(Drop)]
+pub struct Stmt {
+    /// The labels, from left to right.
+    pub labels: Vec<Label>,
+    pub body: Body,
+}
+
+// Whether two words stand for an instruction with these operands.
+fn takes_two_words(mut operands: &[Operand]) -> bool
+    ensures { result ≡ list_any takes_two_words (map operand_of operands.entry.now) }
+{
+    while let [operand, rest @ ..] = operands {
+        if operand.role == Role::PairTarget {
+            return true;
+        }
+        operands = rest;
+    }
+    false
+}
+
+// The body of an instruction whose operands are read.
+fn drafted(form: &Form, name: Span, draft: Draft) -> Body
+    ensures { body_view result ≡ drafted (form_view form.now) name (Ok (draft_of draft)) }
+{
+    let Draft { fields, operands } = draft;
+    let one_word = !takes_two_words(operands.as_slice());
+    let instruction = Instruction {
+        name,
+        op: form.op,
+        fields,
+        operands,
+    };
+    if form.own && one_word {
+        Body::Instr(instruction)
+    } else {
+        Body::Pseudo(instruction)
+    }
+}
+
+// The body of an instruction that is written in this way.
+fn formed(alloc: Global, form: &Form, name: Span, runs: &[Run<'_>]) -> Result<Body, AllocError>
+    ensures { IfOk result (λ b. body_view b ≡ formed name (map run_of runs.now) (Ok (form_view form.now))) }
+{
+    let draft = Draft::new(alloc, form.fields);
+    match draft.operands(alloc, form.op, form.slots, runs)? {
+        Ok(draft) => Ok(drafted(form, name, draft)),
+        Err(fault) => Ok(Body::Faulty(fault)),
+    }
+}
+
+// The body of a name and its runs.
+fn named(alloc: Global, name: &[u8], span: Span, runs: &[Run<'_>]) -> Result<Body, AllocError>
+    ensures { IfOk result (λ b. body_view b ≡ formed span (map run_of runs.now) (form_of name.now (length runs.now))) }
+{
+    match form_of(name, runs.len()) {
+        Ok(form) => formed(alloc, &form, span, runs),
+        Err(number) => Ok(Body::Faulty(Fault { number, span })),
+    }
+}
+
+// The body that some tokens are.
+#[tactic(auto, using(crate::proofs::StatementLemmas::count_of_runs))]
+fn body_of(alloc: Global, tokens: &TokenRange<'_>) -> Result<Body, AllocError>
+    ensures { IfOk result (λ b. body_view b ≡ body_of tokens.now) }
+{
+    let Some(((kind, text, span), behind)) = tokens.split_first() else {
+        return Ok(Body::Empty);
+    };
+    match kind {
+        TokenKind::Word => {
+            let runs = runs(alloc, &behind, span.to)?;
+            named(alloc, text, span, runs.as_slice())
+        }
+        _ => Ok(Body::Faulty(Fault {
+            number: FaultNumber::NoStatement,
+            span,
+        })),
+    }
+}
+
+/// The statement of a line's tokens.
+#[tactic(auto, using(crate::proofs::StatementLemmas::all_pieces, crate::proofs::StatementLemmas::count_of_pieces))]
+pub fn statement(alloc: Global, tokens: &Tokens<'_>) -> Result<Stmt, AllocError>
+    requires { length tokens.now.tokens < 2 ^ 31 }
+    ensures { IfOk result (λ s. statement_view s ≡ statement_of_lexed tokens.now) }
+{
+    let line = TokenRange::new(tokens, 0, tokens.tokens().len());
+    let (labels, place) = labels(alloc, &line)?;
+    let body = match tokens.fault() {
+        Some(fault) => Body::Faulty(fault),
+        None => body_of(alloc, &line.skip(place))?,
+    };
+    Ok(Stmt { labels, body })
+}
