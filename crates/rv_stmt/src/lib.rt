@@ -17,6 +17,8 @@ mod runs;
 mod sets;
 mod slots;
 mod statement;
+#[cfg(test)]
+mod tests;
 mod token_range;
 
 pub use error::StmtError;
