@@ -5,6 +5,7 @@ use Rattle.std.proofs.lemmas.Int.{ints}
 use Rattle.std.proofs.lemmas.Nat.{shl_whole, mod_below, pow_pos}
 use Rattle.std.proofs.lemmas.Bool.{and_parts}
 use Rattle.std.specs.List.{list_all}
+use Rattle.rv_ops.specs.declared.layouts.RegisterClass.TheVariants.{Absent}
 use Rattle.rv_ops.specs.declared.op.Op.{Op}
 use Rattle.rv_ops.specs.declared.op.Op.TheVariants.{Lui}
 use Rattle.rv_ops.specs.contracts.op.Shape.{the_type as shape_type}
@@ -12,7 +13,7 @@ use Rattle.rv_ops.specs.declared.layouts.TheConstants.{LAYOUTS}
 use Rattle.rv_ops.specs.declared.op.Shape.{Shape}
 use Rattle.rv_ops.specs.declared.op.Shape.TheVariants.{Upper}
 use Rattle.rv_ops.specs.Room.{is_piece, room}
-use Rattle.rv_ops.specs.Table.{row_of, layout_of, Piece, is_full, limits_of, sign_of, pieces_of, shape_of, fixed_of}
+use Rattle.rv_ops.specs.Table.{row_of, layout_of, Piece, is_full, classes_of, limits_of, sign_of, pieces_of, shape_of, fixed_of}
 
 pub record IsPlaced (p : Piece) : Type 0 where
   pub field : p.1 + p.2 ≤ 32
@@ -77,8 +78,23 @@ slice_index_or-map f [] n d = refl
 slice_index_or-map f (x ∷ xs) zero d = refl
 slice_index_or-map f (x ∷ xs) (suc n) d = slice_index_or-map f xs n d
 
--- the limits of a shape, looked up in the column of the limits
-pub limits_column : (s : Shape) → slice_index_or (map (λ layout. layout.2) LAYOUTS) (tag_of shape_type s) (pos 0, pos 0, 0, pos 0, pos 0) ≡ limits_of s
+-- what the layouts say of a shape, looked up in one column
+pub classes_column : (s : Shape) → slice_index_or (map (λ row. row.1) LAYOUTS) (tag_of shape_type s) (Absent, Absent, Absent) ≡ classes_of s
+unfolding layout_of
+classes_column Upper = refl
+classes_column _ = refl
+
+pub limits_column : (s : Shape) → slice_index_or (map (λ row. row.2) LAYOUTS) (tag_of shape_type s) (pos 0, pos 0, 0, pos 0, pos 0) ≡ limits_of s
 unfolding layout_of
 limits_column Upper = refl
 limits_column _ = refl
+
+pub sign_column : (s : Shape) → slice_index_or (map (λ row. row.3) LAYOUTS) (tag_of shape_type s) (pos 0, pos 0) ≡ sign_of s
+unfolding layout_of
+sign_column Upper = refl
+sign_column _ = refl
+
+pub pieces_column : (s : Shape) → slice_index_or (map (λ row. row.4.now) LAYOUTS) (tag_of shape_type s) [] ≡ pieces_of s
+unfolding layout_of
+pieces_column Upper = refl
+pieces_column _ = refl

@@ -41,6 +41,16 @@ pub type Sign = (i32, i32);
 /// word.
 pub type Piece = (Field, u32, u32, u32);
 
+/// What the layouts say of a shape.
+#[derive(Clone, Copy)]
+pub struct Layout {
+    pub classes: Classes,
+    pub limits: Limits,
+    pub sign: Sign,
+    /// The pieces of the words that the fields fill.
+    pub pieces: &'static [Piece],
+}
+
 /// Each shape with the classes of its registers, the limits and the sign of its value, and the pieces of its
 /// words that the fields fill: RISC-V Unprivileged ISA 20191213, sections 2.2 to 2.8, 9.1 and 16.2 to 16.5.
 pub const LAYOUTS: [(Shape, Classes, Limits, Sign, &[Piece]); 31] = [

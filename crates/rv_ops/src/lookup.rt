@@ -1,10 +1,11 @@
 //! What the tables say of an operation.
-ghost use Rattle.std.specs.Prelude.{◌≡◌, ◌+◌, ◌<◌, ◌^◌, ◌≤ℤ◌, false, IsTrue, map, length, slice_index_or, pos, negsuc};
+ghost use Rattle.std.specs.Prelude.{◌≡◌, [], ◌+◌, ◌<◌, ◌^◌, ◌≤ℤ◌, false, IsTrue, map, length, slice_index_or, pos, negsuc};
 ghost use Rattle.std.specs.List.{list_all};
 ghost use Rattle.rv_ops.specs.Room.{is_piece, room};
+ghost use Rattle.rv_ops.specs.declared.layouts.RegisterClass.TheVariants.{Absent};
 ghost use Rattle.rv_ops.specs.Table.{is_full, operation_name, shape_of, fixed_of, mask_of, classes_of, limits_of, sign_of, pieces_of};
 
-use crate::layouts::{Classes, LAYOUTS, Limits, Piece, Sign};
+use crate::layouts::{Classes, LAYOUTS, Layout, Limits, Piece, Sign};
 use crate::op::{Op, Row, Shape};
 use crate::table::TABLE;
 
@@ -26,28 +27,24 @@ pub fn row(op: Op) -> Row
 }
 
 /// The shape of an operation's instructions.
-#[tactic(auto, unfolding(crate::specs::Table::row_of))]
 pub fn shape(op: Op) -> Shape
     ensures { result ≡ shape_of op }
 {
-    let its_row = &TABLE[op as usize];
-    its_row.2
+    row(op).shape
 }
 
 /// The fixed bits of an operation's words.
-#[tactic(auto, unfolding(crate::specs::Table::row_of))]
 pub fn fixed(op: Op) -> u32
     ensures { result ≡ fixed_of op }
 {
-    TABLE[op as usize].3
+    row(op).fixed
 }
 
 /// Which bits of an operation's words are fixed.
-#[tactic(auto, unfolding(crate::specs::Table::row_of))]
 pub fn mask(op: Op) -> u32
     ensures { result ≡ mask_of op }
 {
-    TABLE[op as usize].4
+    row(op).mask
 }
 
 /// Whether an operation's words have 32 bits. The others have 16.
@@ -58,47 +55,38 @@ pub fn is_full(op: Op) -> bool
     fixed(op) % 4 == 3
 }
 
-#[tactic(auto, unfolding(crate::specs::Table::layout_of))]
-fn shape_classes(shape: Shape) -> Classes
-    ensures { result ≡ classes_of shape }
-{
-    LAYOUTS[shape as usize].1
-}
-
-/// The limits in a layout.
-fn limits_at(layouts: &[(Shape, Classes, Limits, Sign, &[Piece])], index: usize) -> Limits
+/// The layout of a row.
+fn layout_at(layouts: &[(Shape, Classes, Limits, Sign, &'static [Piece])], index: usize) -> Layout
     requires { index < length layouts.now }
-    ensures { result ≡ slice_index_or (map (λ layout. layout.2) layouts.now) index (pos 0, pos 0, 0, pos 0, pos 0) }
+    ensures classes { result.classes ≡ slice_index_or (map (λ row. row.1) layouts.now) index (Absent, Absent, Absent) }
+    ensures limits { result.limits ≡ slice_index_or (map (λ row. row.2) layouts.now) index (pos 0, pos 0, 0, pos 0, pos 0) }
+    ensures sign { result.sign ≡ slice_index_or (map (λ row. row.3) layouts.now) index (pos 0, pos 0) }
+    ensures pieces { result.pieces.now ≡ slice_index_or (map (λ row. row.4.now) layouts.now) index [] }
 {
-    layouts[index].2
+    let row = &layouts[index];
+    Layout {
+        classes: row.1,
+        limits: row.2,
+        sign: row.3,
+        pieces: row.4,
+    }
 }
 
-fn shape_limits(shape: Shape) -> Limits
-    ensures { result ≡ limits_of shape }
+/// The layout of a shape's words.
+fn layout(shape: Shape) -> Layout
+    ensures classes { result.classes ≡ classes_of shape }
+    ensures limits { result.limits ≡ limits_of shape }
+    ensures sign { result.sign ≡ sign_of shape }
+    ensures pieces { result.pieces.now ≡ pieces_of shape }
 {
-    limits_at(&LAYOUTS, shape as usize)
-}
-
-#[tactic(auto, unfolding(crate::specs::Table::layout_of))]
-fn shape_sign(shape: Shape) -> Sign
-    ensures { result ≡ sign_of shape }
-{
-    LAYOUTS[shape as usize].3
-}
-
-#[tactic(auto, unfolding(crate::specs::Table::layout_of))]
-fn shape_pieces(shape: Shape) -> &'static [Piece]
-    ensures { result.now ≡ pieces_of shape }
-{
-    let layout = &LAYOUTS[shape as usize];
-    layout.4
+    layout_at(&LAYOUTS, shape as usize)
 }
 
 /// The classes of the registers that an operation takes.
 pub fn classes(op: Op) -> Classes
     ensures { result ≡ classes_of (shape_of op) }
 {
-    shape_classes(shape(op))
+    layout(shape(op)).classes
 }
 
 /// The limits of the value that an operation takes.
@@ -106,7 +94,7 @@ pub fn limits(op: Op) -> Limits
     ensures value { result ≡ limits_of (shape_of op) }
     ensures multiple { 0 < result.2 }
 {
-    shape_limits(shape(op))
+    layout(shape(op)).limits
 }
 
 /// The sign of the value that an operation takes: a number in the word above the first stands for itself less
@@ -116,7 +104,7 @@ pub fn sign(op: Op) -> Sign
     ensures low { negsuc 1073741823 ≤ℤ result.1 }
     ensures high { result.1 ≤ℤ pos 1073741824 }
 {
-    shape_sign(shape(op))
+    layout(shape(op)).sign
 }
 
 /// The pieces of an operation's words that its fields fill.
@@ -125,5 +113,5 @@ pub fn pieces(op: Op) -> &'static [Piece]
     ensures placed { IsTrue (list_all is_piece result.now) }
     ensures room { fixed_of op + room result.now < 2 ^ 32 }
 {
-    shape_pieces(shape(op))
+    layout(shape(op)).pieces
 }

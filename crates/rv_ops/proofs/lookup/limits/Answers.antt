@@ -5,5 +5,5 @@ use Rattle.rv_ops.proofs.lookup.limits.Goals as goal
 
 pub returns-clause-multiple : goal.returns-clause-multiple
 returns-clause-multiple c =
-    let e : ◌≡◌ {A = Limits} c.shape_limits.result (limits_of (shape_of c.args.op)) = c.shape_limits.ensures ∙ ap (λ s. limits_of s) c.shape.ensures in
+    let e : ◌≡◌ {A = Limits} c.layout.result.limits (limits_of (shape_of c.args.op)) = c.layout.ensures.limits ∙ ap (λ s. limits_of s) c.shape.ensures in
     subst (λ l. 0 < l.2) (sym e) (has_multiple c.args.op)

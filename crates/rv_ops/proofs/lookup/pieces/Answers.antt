@@ -7,10 +7,10 @@ use Rattle.rv_ops.proofs.lookup.pieces.Goals as goal
 
 pub returns-clause-placed : goal.returns-clause-placed
 returns-clause-placed c =
-    let e : c.shape_pieces.result.now ≡ pieces_of (shape_of c.args.op) = c.shape_pieces.ensures ∙ ap pieces_of c.shape.ensures in
+    let e : c.layout.result.pieces.now ≡ pieces_of (shape_of c.args.op) = c.layout.ensures.pieces ∙ ap pieces_of c.shape.ensures in
     subst (λ ps. IsTrue (list_all is_piece ps)) (sym e) (are_pieces c.args.op)
 
 pub returns-clause-room : goal.returns-clause-room
 returns-clause-room c =
-    let e : c.shape_pieces.result.now ≡ pieces_of (shape_of c.args.op) = c.shape_pieces.ensures ∙ ap pieces_of c.shape.ensures in
+    let e : c.layout.result.pieces.now ≡ pieces_of (shape_of c.args.op) = c.layout.ensures.pieces ∙ ap pieces_of c.shape.ensures in
     subst (λ ps. fixed_of c.args.op + room ps < 2 ^ 32) (sym e) (has_room c.args.op)

@@ -5,10 +5,10 @@ use Rattle.rv_ops.proofs.lookup.sign.Goals as goal
 
 pub returns-clause-low : goal.returns-clause-low
 returns-clause-low c =
-    let e : ◌≡◌ {A = Sign} c.shape_sign.result (sign_of (shape_of c.args.op)) = c.shape_sign.ensures ∙ ap (λ s. sign_of s) c.shape.ensures in
+    let e : ◌≡◌ {A = Sign} c.layout.result.sign (sign_of (shape_of c.args.op)) = c.layout.ensures.sign ∙ ap (λ s. sign_of s) c.shape.ensures in
     subst (λ sign. negsuc 1073741823 ≤ℤ sign.1) (sym e) (has_low_sign c.args.op)
 
 pub returns-clause-high : goal.returns-clause-high
 returns-clause-high c =
-    let e : ◌≡◌ {A = Sign} c.shape_sign.result (sign_of (shape_of c.args.op)) = c.shape_sign.ensures ∙ ap (λ s. sign_of s) c.shape.ensures in
+    let e : ◌≡◌ {A = Sign} c.layout.result.sign (sign_of (shape_of c.args.op)) = c.layout.ensures.sign ∙ ap (λ s. sign_of s) c.shape.ensures in
     subst (λ sign. sign.1 ≤ℤ pos 1073741824) (sym e) (has_high_sign c.args.op)
