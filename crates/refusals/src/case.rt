@@ -7,6 +7,8 @@ use std::alloc::Global;
 pub enum Case {
     Tokens,
     Sink,
+    Expression,
+    Statement,
     Insert,
     Delete,
 }
@@ -30,6 +32,8 @@ pub fn read_case(input: &[u8]) -> Option<(Case, u32)> {
     for (name, case) in [
         (b"tokens ".as_slice(), Case::Tokens),
         (b"sink ", Case::Sink),
+        (b"expression ", Case::Expression),
+        (b"statement ", Case::Statement),
         (b"insert ", Case::Insert),
         (b"delete ", Case::Delete),
     ] {

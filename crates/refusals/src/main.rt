@@ -6,10 +6,12 @@
 #![tactic(auto)]
 
 mod case;
+mod statement_case;
 mod store_case;
 mod text_case;
 
 use case::{Case, Outcome, read_case};
+use statement_case::{expression_refused, statement_refused};
 use std::io;
 use std::io::Read;
 use store_case::{Edit, edit_refused};
@@ -36,6 +38,8 @@ fn main(rt: HostRuntime) -> io::Result<()> {
     let outcome = match case {
         Case::Tokens => tokens_refused(rt.alloc(), pads),
         Case::Sink => sink_refused(rt.alloc(), pads),
+        Case::Expression => expression_refused(rt.alloc(), pads),
+        Case::Statement => statement_refused(rt.alloc(), pads),
         Case::Insert => edit_refused(rt.alloc(), pads, Edit::Insert),
         Case::Delete => edit_refused(rt.alloc(), pads, Edit::Delete),
     };
