@@ -10,10 +10,11 @@ use Rattle.rv_ops.specs.declared.op.Op.TheVariants.{Lui, CNop, CAddi, CAddi16sp,
 use Rattle.rv_ops.specs.declared.op.Shape.TheVariants.{Upper}
 use Rattle.rv_ops.specs.declared.table.TheConstants.{TABLE}
 use Rattle.rv_ops.specs.contracts.op.Op.{the_type as op_type}
-use Rattle.rv_ops.specs.Table.{Row, row_of, layout_of, mask_of, fixed_of}
+use Rattle.rv_ops.specs.Table.{Row, row_of, shape_of, layout_of, mask_of, fixed_of}
 use Rattle.rv_code.specs.declared.instruction.Fields.{Fields}
 use Rattle.rv_code.specs.Encoding.{encoding_of, Fits}
 use Rattle.rv_code.proofs.Reading.{encoding-mask}
+use Rattle.rv_code.proofs.Shapes.{FitsShape, fits_shape}
 
 -- the place of an operation in the table
 abbrev pub number : Op → ℕ
@@ -69,33 +70,33 @@ told o p =
 same_op : (o p : Op) → is_same o p ≡ true → o ≡ p
 same_op o p e = tag_one op_type tt o p (eqb-true _ _ e)
 
-c_nop-c_addi : (f g : Fields) → Fits CNop f → Fits CAddi g → encoding_of CNop f ≡ encoding_of CAddi g → ⊥
+c_nop-c_addi : (f g : Fields) → FitsShape (shape_of CNop) f → FitsShape (shape_of CAddi) g → encoding_of CNop f ≡ encoding_of CAddi g → ⊥
 unfolding encoding_of row_of layout_of
 c_nop-c_addi f g h k e = absurd (omega arith)
 
-c_addi16sp-c_lui : (f g : Fields) → Fits CAddi16sp f → Fits CLui g → encoding_of CAddi16sp f ≡ encoding_of CLui g → ⊥
+c_addi16sp-c_lui : (f g : Fields) → FitsShape (shape_of CAddi16sp) f → FitsShape (shape_of CLui) g → encoding_of CAddi16sp f ≡ encoding_of CLui g → ⊥
 unfolding encoding_of row_of layout_of
 c_addi16sp-c_lui f g h k e = absurd (omega arith)
 
-c_jr-c_mv : (f g : Fields) → Fits CJr f → Fits CMv g → encoding_of CJr f ≡ encoding_of CMv g → ⊥
+c_jr-c_mv : (f g : Fields) → FitsShape (shape_of CJr) f → FitsShape (shape_of CMv) g → encoding_of CJr f ≡ encoding_of CMv g → ⊥
 unfolding encoding_of row_of layout_of
 c_jr-c_mv f g h k e = absurd (omega arith)
 
-c_jalr-c_add : (f g : Fields) → Fits CJalr f → Fits CAdd g → encoding_of CJalr f ≡ encoding_of CAdd g → ⊥
+c_jalr-c_add : (f g : Fields) → FitsShape (shape_of CJalr) f → FitsShape (shape_of CAdd) g → encoding_of CJalr f ≡ encoding_of CAdd g → ⊥
 unfolding encoding_of row_of layout_of
 c_jalr-c_add f g h k e = absurd (omega arith)
 
-c_ebreak-c_jalr : (f g : Fields) → Fits CEbreak f → Fits CJalr g → encoding_of CEbreak f ≡ encoding_of CJalr g → ⊥
+c_ebreak-c_jalr : (f g : Fields) → FitsShape (shape_of CEbreak) f → FitsShape (shape_of CJalr) g → encoding_of CEbreak f ≡ encoding_of CJalr g → ⊥
 unfolding encoding_of row_of layout_of
 c_ebreak-c_jalr f g h k e = absurd (omega arith)
 
-c_ebreak-c_add : (f g : Fields) → Fits CEbreak f → Fits CAdd g → encoding_of CEbreak f ≡ encoding_of CAdd g → ⊥
+c_ebreak-c_add : (f g : Fields) → FitsShape (shape_of CEbreak) f → FitsShape (shape_of CAdd) g → encoding_of CEbreak f ≡ encoding_of CAdd g → ⊥
 unfolding encoding_of row_of layout_of
 c_ebreak-c_add f g h k e = absurd (omega arith)
 
 -- the operations have no word in common
 abbrev AreApart : Op → Op → Type 0
-AreApart o p = (f g : Fields) → Fits o f → Fits p g → encoding_of o f ≡ encoding_of p g → ⊥
+AreApart o p = (f g : Fields) → FitsShape (shape_of o) f → FitsShape (shape_of p) g → encoding_of o f ≡ encoding_of p g → ⊥
 
 carried : (o p a b : Op) → (is_same o a && is_same p b) ≡ true → AreApart a b → AreApart o p
 carried o p a b e h =
@@ -137,9 +138,9 @@ one_operation o p f g hf hg e =
     elim (or_cases _ _ (told o p)) [
       | inl same ↦ same_op o p same
       | inr more ↦ elim (or_cases _ _ more) [
-        | inl pair ↦ absurd (pair_apart o p pair f g hf hg e)
+        | inl pair ↦ absurd (pair_apart o p pair f g (fits_shape o f hf) (fits_shape p g hg) e)
         | inr more ↦ elim (or_cases _ _ more) [
-          | inl pair ↦ absurd (pair_apart p o pair g f hg hf (sym e))
+          | inl pair ↦ absurd (pair_apart p o pair g f (fits_shape p g hg) (fits_shape o f hf) (sym e))
           | inr other ↦ absurd (eqb-false _ _ (not-true _ other) under)
         ]
       ]

@@ -1,5 +1,5 @@
 -- Which fields the operations of a shape take.
-use Rattle.std.proofs.Common.{inl, inr, zero, suc, Bool, true, false, cond, Option, Some, None, ap, leb, leb-true, le-leb, ◌≤◌, ◌&&◌}
+use Rattle.std.proofs.Common.{inl, inr, zero, suc, Bool, true, false, cond, Option, Some, None, ap, leb, leb-true, le-leb, lt-ltb, IsTrue, ◌≤◌, ◌&&◌}
 use Rattle.std.specs.Option.{IfSome}
 use Rattle.std.specs.Prelude.{IsSome}
 use Rattle.std.proofs.lemmas.Bool.{and_parts}
@@ -9,7 +9,7 @@ use Rattle.std.proofs.lemmas.Int.{ints}
 use Rattle.rv_ops.specs.declared.op.Op.{Op}
 use Rattle.rv_ops.specs.declared.op.Shape.TheVariants.{Register, Immediate}
 use Rattle.rv_ops.specs.Table.{layout_of, shape_of, classes_of, limits_of}
-use Rattle.rv_code.specs.Encoding.{is_immediate, Fits, InClass, InLimits, register_fields, immediate_fields}
+use Rattle.rv_code.specs.Encoding.{is_immediate, is_in, Fits, InLimits, register_fields, immediate_fields}
 
 -- a gap that begins above its end is empty
 no_gap : (v : ℤ) → (v <ℤ pos 1) ⊎ (pos 0 <ℤ v)
@@ -20,9 +20,9 @@ no_gap (negsuc n) = inl (omega (arith, ints))
 pub register_fields-fit : (o : Op) (a b c : ℕ) → shape_of o ≡ Register → a < 32 → b < 32 → c < 32 → Fits o (register_fields a b c)
 unfolding layout_of
 register_fields-fit o a b c e ha hb hc = record {
-  rd = subst (λ s. InClass (classes_of s).0 a) (sym e) ha;
-  rs1 = subst (λ s. InClass (classes_of s).1 b) (sym e) hb;
-  rs2 = subst (λ s. InClass (classes_of s).2 c) (sym e) hc;
+  rd = subst (λ s. IsTrue (is_in (classes_of s).0 a)) (sym e) (lt-ltb a 32 ha);
+  rs1 = subst (λ s. IsTrue (is_in (classes_of s).1 b)) (sym e) (lt-ltb b 32 hb);
+  rs2 = subst (λ s. IsTrue (is_in (classes_of s).2 c)) (sym e) (lt-ltb c 32 hc);
   value = subst (λ s. InLimits (limits_of s) (pos 0)) (sym e) (record { low = omega (arith, ints); high = omega (arith, ints); multiple = refl; gap = no_gap (pos 0) });
 }
 
@@ -36,9 +36,9 @@ one_divides v = omega arith
 pub immediate_fields-fit : (o : Op) (a b : ℕ) (v : ℤ) → shape_of o ≡ Immediate → a < 32 → b < 32 → IsTwelveBits v → Fits o (immediate_fields a b v)
 unfolding layout_of
 immediate_fields-fit o a b v e ha hb h = record {
-  rd = subst (λ s. InClass (classes_of s).0 a) (sym e) ha;
-  rs1 = subst (λ s. InClass (classes_of s).1 b) (sym e) hb;
-  rs2 = subst (λ s. InClass (classes_of s).2 0) (sym e) refl;
+  rd = subst (λ s. IsTrue (is_in (classes_of s).0 a)) (sym e) (lt-ltb a 32 ha);
+  rs1 = subst (λ s. IsTrue (is_in (classes_of s).1 b)) (sym e) (lt-ltb b 32 hb);
+  rs2 = subst (λ s. IsTrue (is_in (classes_of s).2 0)) (sym e) refl;
   value = subst (λ s. InLimits (limits_of s) v) (sym e) (record { low = h.low; high = h.high; multiple = one_divides v; gap = no_gap v });
 }
 

@@ -11,7 +11,7 @@ use Rattle.rv_code.specs.Decoding.{fields_at}
 use Rattle.rv_code.proofs.FullWords.{read_upper, read_jump, read_jump_register, read_branch, read_load, read_store, read_immediate, read_shift, read_register, read_csr, read_csr_immediate, read_fence, read_whole}
 use Rattle.rv_code.proofs.HalfWords.{read_c_stack_address, read_c_load, read_c_store, read_c_whole, read_c_immediate, read_c_jump, read_c_load_immediate, read_c_stack_adjust, read_c_upper, read_c_shift_right, read_c_and_immediate, read_c_registers, read_c_branch, read_c_shift_left, read_c_load_stack, read_c_jump_register, read_c_two_registers, read_c_store_stack}
 use Rattle.rv_code.proofs.Masks.{and_ones, and_7f, and_707f, and_e003, and_ec03, and_ef83, and_f003, and_f07f, and_fc03, and_fc63, and_ffff, and_f00fffff, and_fe00707f, and_ffffffff}
-use Rattle.rv_code.proofs.Shapes.{FitsShape, IsRead, mask_of_shape}
+use Rattle.rv_code.proofs.Shapes.{FitsShape, IsRead, fits_shape, mask_of_shape}
 
 read : (s : Shape) (n : ℕ) (f : Fields) → bit_and n (mask_of_shape s) ≡ n → FitsShape s f → IsRead s n f
 unfolding mask_of_shape layout_of
@@ -93,7 +93,7 @@ fixed-mask _ = refl
 is_read : (o : Op) (f : Fields) → Fits o f → IsRead (shape_of o) (fixed_of o) f
 is_read o f h =
     read (shape_of o) (fixed_of o) f (sym (ap (λ m. bit_and (fixed_of o) m) (mask-shape o)) ∙ fixed-mask o)
-    (record { rd = h.rd; rs1 = h.rs1; rs2 = h.rs2; value = h.value })
+    (fits_shape o f h)
 
 -- the fields of the word are those that it was made of
 pub fields_at-encoding : (o : Op) (f : Fields) → Fits o f → fields_at (shape_of o) (encoding_of o f) ≡ f

@@ -1,13 +1,15 @@
 -- What is proved of each shape, and by it of each operation.
 use Rattle.std.proofs.Common.{◌≡◌, ℕ, ℤ, ◌+◌, ◌-◌, ◌^◌, bit_and, ap, ◌∙◌, cond, ltb}
 use denote.Enum.Declared.{tag_of}
+use Rattle.rv_ops.specs.declared.op.Op.{Op}
 use Rattle.rv_ops.specs.declared.op.Shape.{Shape}
 use Rattle.rv_ops.specs.contracts.op.Shape.{the_type as shape_type}
 use Rattle.rv_ops.specs.Room.{room}
-use Rattle.rv_ops.specs.Table.{classes_of, limits_of, pieces_of}
+use Rattle.rv_ops.specs.Table.{shape_of, classes_of, limits_of, pieces_of}
 use Rattle.rv_code.specs.declared.instruction.Fields.{Fields}
-use Rattle.rv_code.specs.Encoding.{placed, InClass, InLimits}
+use Rattle.rv_code.specs.Encoding.{placed, Fits, InLimits}
 use Rattle.rv_code.specs.Decoding.{fields_at}
+use Rattle.rv_code.proofs.Classes.{InClass, in_class}
 
 -- the operations of the shape take the fields
 pub record FitsShape (s : Shape) (f : Fields) : Type 0 where
@@ -15,6 +17,14 @@ pub record FitsShape (s : Shape) (f : Fields) : Type 0 where
   pub rs1 : InClass (classes_of s).1 f.rs1
   pub rs2 : InClass (classes_of s).2 f.rs2
   pub value : InLimits (limits_of s) f.value
+
+pub fits_shape : (o : Op) (f : Fields) → Fits o f → FitsShape (shape_of o) f
+fits_shape o f h = record {
+  rd = in_class _ _ h.rd;
+  rs1 = in_class _ _ h.rs1;
+  rs2 = in_class _ _ h.rs2;
+  value = h.value;
+}
 
 -- the bits that no field fills: the first 13 shapes have 32 bits, the others 16
 unfoldable pub mask_of_shape : Shape → ℕ

@@ -1,5 +1,5 @@
 -- The word of an instruction: RISC-V Unprivileged ISA 20191213, chapters 2, 7, 9 and 16.
-use Rattle.std.specs.Prelude.{Bool, ◌&&◌, int_le, negsuc, Option, Some, None, ◌≡◌, ℕ, ℤ, pos, ◌+◌, ◌*◌, ◌/◌, ◌%◌, ◌^◌, ◌<◌, ◌≤◌, ◌≤ℤ◌, ◌<ℤ◌, ◌⊎◌, List, [], ◌∷◌, if◌then◌else◌, unsigned_abs}
+use Rattle.std.specs.Prelude.{Bool, IsTrue, ◌&&◌, ◌==◌, not, nat_lt, nat_le, int_le, negsuc, Option, Some, None, ◌≡◌, ℕ, ℤ, pos, ◌+◌, ◌*◌, ◌/◌, ◌%◌, ◌^◌, ◌≤ℤ◌, ◌<ℤ◌, ◌⊎◌, List, [], ◌∷◌, if◌then◌else◌, unsigned_abs}
 use Rattle.std.specs.Int.{cast_unsigned, to_le_bytes, w16, w32}
 use Rattle.rv_ops.specs.Table.{Limits, Piece, shape_of, fixed_of, is_full, classes_of, limits_of, pieces_of}
 use Rattle.rv_code.specs.declared.instruction.Fields.{Fields}
@@ -42,13 +42,13 @@ bytes_of_word (Full n) = to_le_bytes w32 n
 
 -- the registers of a class; x0 stands for a register that the shape lacks, and the number of a register for
 -- the bits of a set
-abbrev pub InClass : RegisterClass → ℕ → Type 0
-InClass Absent n = n ≡ 0
-InClass Any n = n < 32
-InClass NotZero n = (0 < n) × (n < 32)
-InClass NotSp n = (0 < n) × (n < 32) × (n ≡ 2 → ⊥)
-InClass Prime n = (8 ≤ n) × (n < 16)
-InClass Set n = (0 < n) × (n < 16)
+abbrev pub is_in : RegisterClass → ℕ → Bool
+is_in Absent n = n == 0
+is_in Any n = nat_lt n 32
+is_in NotZero n = nat_lt 0 n && nat_lt n 32
+is_in NotSp n = nat_lt 0 n && nat_lt n 32 && not (n == 2)
+is_in Prime n = nat_le 8 n && nat_lt n 16
+is_in Set n = nat_lt 0 n && nat_lt n 16
 
 -- from the least value to the greatest, a multiple of the number, and not in the gap
 pub record InLimits (l : Limits) (v : ℤ) : Type 0 where
@@ -59,9 +59,9 @@ pub record InLimits (l : Limits) (v : ℤ) : Type 0 where
 
 -- the operation takes the fields
 pub record Fits (o : Op) (f : Fields) : Type 0 where
-  pub rd : InClass (classes_of (shape_of o)).0 f.rd
-  pub rs1 : InClass (classes_of (shape_of o)).1 f.rs1
-  pub rs2 : InClass (classes_of (shape_of o)).2 f.rs2
+  pub rd : IsTrue (is_in (classes_of (shape_of o)).0 f.rd)
+  pub rs1 : IsTrue (is_in (classes_of (shape_of o)).1 f.rs1)
+  pub rs2 : IsTrue (is_in (classes_of (shape_of o)).2 f.rs2)
   pub value : InLimits (limits_of (shape_of o)) f.value
 
 -- the fields of `op rd, rs1, rs2`

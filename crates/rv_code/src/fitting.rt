@@ -1,12 +1,14 @@
 //! Whether an operation takes given fields.
-ghost use Rattle.std.specs.Prelude.{◌<◌, ◌<ℤ◌, ◌⊎◌, ◌↔◌, IsTrue};
-ghost use Rattle.rv_code.specs.Encoding.{InClass, InLimits, Fits};
+ghost use Rattle.std.specs.Prelude.{◌≡◌, ◌<◌, ◌<ℤ◌, ◌⊎◌, ◌↔◌, IsTrue};
+ghost use Rattle.rv_code.specs.Encoding.{is_in, InLimits, Fits};
 
 use crate::instruction::Fields;
 use rv_ops::{Limits, Op, Reg, RegisterClass, classes, limits};
 
-fn in_class(class: RegisterClass, register: Reg) -> bool
-    ensures { IsTrue result ↔ InClass class register }
+/// Whether a class has the register. x0 stands for a register that a shape lacks, and the number of a register
+/// for the bits of a set.
+pub fn in_class(class: RegisterClass, register: Reg) -> bool
+    ensures { result ≡ is_in class register }
 {
     let number = register.number();
     match class {

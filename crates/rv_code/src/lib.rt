@@ -11,5 +11,6 @@ mod word;
 
 pub use decoding::{decode16, decode32};
 pub use encoding::encode;
+pub use fitting::in_class;
 pub use instruction::{Fields, Ins};
 pub use word::Word;

@@ -7,7 +7,7 @@ use super::*;
 use full_words::FULL_WORDS;
 use half_words::HALF_WORDS;
 use not_taken::NOT_TAKEN;
-use rv_ops::{Op, Reg, Shape, name_of, op_by_name, shape};
+use rv_ops::{Op, Reg, RegisterClass, Shape, name_of, op_by_name, shape};
 use std::alloc::{AllocError, Global};
 use std::process::Abort;
 use std::test::Fail;
@@ -233,4 +233,27 @@ fn bytes_in_memory(rt: HostRuntime) {
         Word::Full(0x40c5_8533).bytes().as_slice(),
         [0x33, 0x85, 0xc5, 0x40].as_slice()
     );
+}
+
+// Each class with its numbers, as bits: chapters 2 and 16.
+#[test]
+fn registers_of_classes(rt: HostRuntime) {
+    for row in &[
+        (RegisterClass::Absent, 0x0000_0001u32),
+        (RegisterClass::Any, 0xffff_ffff),
+        (RegisterClass::NotZero, 0xffff_fffe),
+        (RegisterClass::NotSp, 0xffff_fffa),
+        (RegisterClass::Prime, 0x0000_ff00),
+        (RegisterClass::Set, 0x0000_fffe),
+    ] {
+        let (class, numbers) = *row;
+        for number in 0..32u8 {
+            let is_there = numbers >> u32::from(number) & 1 == 1;
+            assert_eq!(rt;
+                in_class(class, register(&rt, number)),
+                is_there,
+                "{class:?} {number}"
+            );
+        }
+    }
 }

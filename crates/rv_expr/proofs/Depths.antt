@@ -25,6 +25,6 @@ greatest m d e x dm ex =
     rw (max-eq_left em, max-eq_left both, max-eq_left below) refl)
     (cases_lt m x)
 
-pub depth_step : (deepest depth : ℕ) (r : Role) (rs : List Role) → depth ≤ deepest → max deepest (depth_from depth (r ∷ rs)) ≡ max (max deepest (depth_behind depth r)) (depth_from (depth_behind depth r) rs)
-depth_step deepest depth r rs h =
-    greatest deepest depth (depth_behind depth r) (depth_from (depth_behind depth r) rs) h (depth-least (depth_behind depth r) rs)
+-- the greatest depth so far, taken over the next place and those behind it
+pub depth_step : (deepest depth next : ℕ) (rest : List Role) → depth ≤ deepest → max deepest (max depth (depth_from next rest)) ≡ max (max deepest next) (depth_from next rest)
+depth_step deepest depth next rest h = greatest deepest depth next (depth_from next rest) h (depth-least next rest)

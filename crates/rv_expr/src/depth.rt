@@ -1,30 +1,41 @@
 //! How many parentheses are open.
 
-ghost use Rattle.std.specs.Prelude.{◌≡◌, ◌<◌, ◌≤◌, ◌^◌, ◌-◌, length};
-ghost use Rattle.rv_expr.specs.Depth.{depth_behind, depth_of};
-ghost use Rattle.rv_expr.specs.ReaderState.{role_of_part};
+ghost use Rattle.std.specs.Prelude.{◌≡◌, ℕ, ◌<◌, ◌≤◌, ◌^◌, ◌+◌, ◌-◌, length, map, max};
+ghost use Rattle.rv_expr.specs.Depth.{depth_behind, depth_from, depth_of};
 ghost use Rattle.rv_expr.specs.Reading.{run_of};
+ghost use Rattle.rv_expr.specs.Roles.{role, role_text};
 
-use crate::parts::{Part, part_at};
-use rv_text::Tokens;
+use rv_text::{TokenKind, Tokens};
 
 /// How many parentheses may be open at one place.
 pub const MAX_DEPTH: usize = 64;
 
-// How many parentheses are open behind a token, where `depth` are open before it.
-fn depth_behind(depth: usize, part: Part<'_>) -> usize
+/// How many parentheses are open behind a token of this kind and text, where `depth` are open before it. A `)` that
+/// closes none counts for nothing.
+pub fn depth_behind(depth: usize, kind: TokenKind, text: &[u8]) -> usize
     requires { depth < 2 ^ 64 - 1 }
-    ensures { result ≡ depth_behind depth (role_of_part part.entry) }
+    ensures depth { result ≡ depth_behind depth (role_text kind text.now) }
+    ensures bound { result ≤ depth + 1 }
 {
-    match part {
-        Part::Open => depth + 1,
-        Part::Close => depth.saturating_sub(1),
-        Part::Operand(_) | Part::Operator(_, _) => depth,
+    match (kind, text) {
+        (TokenKind::Sign, [b'(']) => depth + 1,
+        (TokenKind::Sign, [b')']) => depth.saturating_sub(1),
+        _ => depth,
     }
 }
 
-/// The most parentheses that are open at one place of the tokens `from..to` of a line. A `)` that closes none counts
-/// for nothing.
+// How many are open behind token number `k`.
+fn depth_behind_token(depth: usize, tokens: &Tokens<'_>, k: usize) -> usize
+    requires depth { depth < 2 ^ 64 - 1 }
+    requires within { k < length tokens.now.tokens }
+    ensures step { (to : ℕ) → k < to → depth_from depth (map role (run_of tokens.now k to))
+        ≡ max depth (depth_from result (map role (run_of tokens.now (k + 1) to))) }
+    ensures bound { result ≤ depth + 1 }
+{
+    depth_behind(depth, tokens.tokens()[k].kind, tokens.text(k))
+}
+
+/// The most parentheses that are open at one place of the tokens `from..to` of a line.
 #[tactic(auto, using(crate::proofs::Depths::depth_step))]
 pub fn parenthesis_depth(tokens: &Tokens<'_>, from: usize, to: usize) -> usize
     requires ordered { from ≤ to }
@@ -34,7 +45,7 @@ pub fn parenthesis_depth(tokens: &Tokens<'_>, from: usize, to: usize) -> usize
     let mut deepest = 0;
     let mut depth = 0;
     for k in from..to {
-        depth = depth_behind(depth, part_at(tokens, k));
+        depth = depth_behind_token(depth, tokens, k);
         deepest = deepest.max(depth);
     }
     deepest

@@ -15,7 +15,7 @@ mod reading;
 mod tests;
 mod tree;
 
-pub use depth::{MAX_DEPTH, parenthesis_depth};
+pub use depth::{MAX_DEPTH, depth_behind, parenthesis_depth};
 pub use evaluation::{Names, value};
 pub use faults::{ReadFault, ValueFault};
 pub use laws::{depth_is_open_at_once, reads_the_grammar};

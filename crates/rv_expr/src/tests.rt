@@ -4,7 +4,7 @@ ghost use Rattle.std.specs.Prelude.{◌≤◌, length};
 
 use super::*;
 use crate::outside_values::VALUES;
-use rv_text::{FaultNumber, Tally, TextError, tokens};
+use rv_text::{FaultNumber, Tally, TextError, TokenKind, tokens};
 use std::alloc::Global;
 use std::test::Fail;
 
@@ -351,4 +351,15 @@ fn numbers_of_labels(rt: HostRuntime) {
     ] {
         assert_eq!(rt; label_number(text), number);
     }
+}
+
+#[test]
+fn tells_depth_behind_token(rt: HostRuntime) {
+    assert_eq!(rt; depth_behind(3, TokenKind::Sign, b"("), 4);
+    assert_eq!(rt; depth_behind(3, TokenKind::Sign, b")"), 2);
+    assert_eq!(rt; depth_behind(0, TokenKind::Sign, b")"), 0);
+    assert_eq!(rt; depth_behind(3, TokenKind::Sign, b","), 3);
+    assert_eq!(rt; depth_behind(3, TokenKind::Char, b"'('"), 3);
+    assert_eq!(rt; depth_behind(3, TokenKind::Str, b"\"(\""), 3);
+    assert_eq!(rt; depth_behind(3, TokenKind::Word, b"x"), 3);
 }

@@ -1,6 +1,5 @@
 //! The names of the operations, the registers, and the control and status registers. They are read in either letter case.
 ghost use Rattle.std.specs.Prelude.{◌≡◌, ℕ, ◌<◌, List, [], length, map, slice_index_or, Some, IfSome, IsSome, option_map};
-ghost use Rattle.std.specs.Str.{str_eq_ignore_ascii_case};
 ghost use Rattle.rv_ops.specs.Csrs.{csr_name, csr_named, IsNameOfCsr};
 ghost use Rattle.rv_ops.specs.Names.{first_name, first_named};
 ghost use Rattle.rv_ops.specs.Registers.{register_name, register_named, IsNameOfRegister};
@@ -10,33 +9,14 @@ ghost use Rattle.rv_ops.specs.declared.op.Op.{Op};
 use crate::csr::Csr;
 use crate::csrs::CSRS;
 use crate::lookup::row;
+use crate::name_lists::{first_named, is_name};
 use crate::op::{Op, Shape};
 use crate::register::Reg;
 use crate::registers::REGISTERS;
 use crate::table::TABLE;
 
-/// Whether the text is the name, but for letter case.
-fn is_name(text: &str, name: &[u8]) -> bool
-    ensures { result ≡ str_eq_ignore_ascii_case text.now name.now }
-{
-    text.as_bytes().eq_ignore_ascii_case(name)
-}
-
 /// The operation of the first row that has the name.
 fn first_operation(mut rows: &[(Op, &str, Shape, u32, u32)], name: &[u8]) -> Option<Op>
-    ensures { result ≡ first_named (map (λ row. (row.0, row.1.now)) rows.entry.now) name.now }
-{
-    while let [row, rest @ ..] = rows {
-        if is_name(row.1, name) {
-            return Some(row.0);
-        }
-        rows = rest;
-    }
-    None
-}
-
-/// The number in the first row that has the name.
-fn first_number<N: Copy>(mut rows: &[(N, &str)], name: &[u8]) -> Option<N>
     ensures { result ≡ first_named (map (λ row. (row.0, row.1.now)) rows.entry.now) name.now }
 {
     while let [row, rest @ ..] = rows {
@@ -85,7 +65,7 @@ pub fn reg_by_name(name: &[u8]) -> Option<Reg>
     ensures found { IfSome result (λ number. IsNameOfRegister number name.now) }
     ensures only { (number : ℕ) → IsNameOfRegister number name.now → result ≡ Some number }
 {
-    first_number(&REGISTERS, name).and_then(Reg::new)
+    first_named(&REGISTERS, name).and_then(Reg::new)
 }
 
 /// The name in a row.
@@ -111,7 +91,7 @@ pub fn csr_by_name(name: &[u8]) -> Option<Csr>
     ensures found { IfSome result (λ number. IsNameOfCsr number name.now) }
     ensures only { (number : ℕ) → IsNameOfCsr number name.now → result ≡ Some number }
 {
-    first_number(&CSRS, name).and_then(Csr::new)
+    first_named(&CSRS, name).and_then(Csr::new)
 }
 
 /// The name of a control and status register. Most numbers have none.

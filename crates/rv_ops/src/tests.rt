@@ -685,3 +685,16 @@ fn named_csrs(rt: HostRuntime) {
     assert_eq!(rt; named, CSR_NAMES.len());
     assert!(rt; Csr::new(0x7c0).and_then(csr_name).is_none());
 }
+
+#[test]
+fn names_in_either_case(rt: HostRuntime) {
+    assert!(rt; is_name("mstatus", b"MStatus"));
+    assert!(rt; !is_name("mstatus", b"mstatush"));
+    assert!(rt; !is_name("mstatus", b"mstatu"));
+    assert!(rt; !is_name("", b" "));
+    let names = [(7u16, "hi"), (8, "lo"), (9, "LO"), (10, "pcrel_lo")];
+    assert_eq!(rt; first_named(&names, b"lo"), Some(8));
+    assert_eq!(rt; first_named(&names, b"Pcrel_Lo"), Some(10));
+    assert_eq!(rt; first_named(&names, b"l"), None);
+    assert_eq!(rt; first_named(&names, b""), None);
+}

@@ -1,6 +1,6 @@
 -- Worked lines, computed on the definitions.
 use Rattle.std.proofs.Common.{◌≡◌, refl}
-use Rattle.std.specs.Prelude.{ℕ, ℤ, pos, negsuc, List, [], ◌∷◌, map, Some, None, codes}
+use Rattle.std.specs.Prelude.{ℕ, ℤ, pos, negsuc, List, [], ◌∷◌, map, codes}
 use Rattle.rv_text.specs.declared.faults.FaultNumber.{FaultNumber}
 use Rattle.rv_text.specs.declared.faults.FaultNumber.TheVariants.{BadNumber, BadString, NoStatement, UnknownName, OperandCount, BadRegister, RegisterRange, BadOperand, TooDeep}
 use Rattle.rv_ops.specs.Csrs.{csr_named, csr_names}
@@ -10,16 +10,16 @@ use Rattle.rv_ops.specs.declared.op.Op.{Op}
 use Rattle.rv_ops.specs.declared.op.Op.TheVariants as op
 use Rattle.rv_expr.specs.declared.tree.BinaryOp.TheVariants.{Add}
 use Rattle.rv_expr.specs.declared.tree.Direction.TheVariants.{Forward}
-use Rattle.rv_expr.specs.Tree.{Tree, Number, Word, Local, Here, Binary}
+use Rattle.rv_expr.specs.declared.tree.LabelReference.TheVariants as label
+use Rattle.rv_expr.specs.Tree.{Tree, Number, Word, Here, Binary}
 use Rattle.rv_stmt.specs.declared.label.LabelName.TheVariants as name
-use Rattle.rv_stmt.specs.declared.operand.Modifier.{Modifier}
-use Rattle.rv_stmt.specs.declared.operand.Modifier.TheVariants.{High, Low, PcrelLow}
 use Rattle.rv_stmt.specs.declared.operand.Role.{Role}
 use Rattle.rv_stmt.specs.declared.operand.Role.TheVariants.{Immediate, SourceImmediate, Target, PairTarget, Constant}
 use Rattle.rv_stmt.specs.Draft.{Operand, fields}
 use Rattle.rv_stmt.specs.Forms.{other_forms, slots_of}
-use Rattle.rv_stmt.specs.Operands.{set_named, set_names}
+use Rattle.rv_stmt.specs.Registers.{set_named, set_names}
 use Rattle.rv_stmt.specs.Statement.{Body, Empty, Instr, Pseudo, Faulty, statement_of}
+use Rattle.rv_stmt.specs.Values.{Value, Plain, High, Low, PcrelLow, modifier_named, modifier_names}
 
 abbrev body : List ℕ → Body
 body line = (statement_of line).body
@@ -28,11 +28,10 @@ abbrev faulty : FaultNumber → ℕ → ℕ → Body
 faulty number from to = Faulty (record { number = number; span = record { from = from; to = to } })
 
 abbrev value : Tree → Role → ℕ → ℕ → Operand
-value tree role from to = record { tree = tree; modifier = None; role = role; span = record { from = from; to = to } }
+value tree role from to = record { value = Plain tree; role = role; span = record { from = from; to = to } }
 
-abbrev with_modifier : Modifier → Tree → ℕ → ℕ → Operand
-with_modifier modifier tree from to =
-    record { tree = tree; modifier = Some modifier; role = Immediate; span = record { from = from; to = to } }
+abbrev modified : Value → ℕ → ℕ → Operand
+modified v from to = record { value = v; role = Immediate; span = record { from = from; to = to } }
 
 abbrev instr : ℕ → ℕ → Op → ℕ → ℕ → ℕ → ℤ → List Operand → Body
 instr from to o rd rs1 rs2 v operands =
@@ -65,6 +64,12 @@ instructions : map body (codes "x: addi A0, a1, 1 # c" ∷ codes "ADD a0,fp,x31"
 unfolding operation_named operation_names other_forms row_of layout_of slots_of register_named register_names csr_named csr_names set_named set_names
 instructions = refl
 
+-- compressed forms
+
+compressed : map body (codes "c.sub a0, a1" ∷ codes "c.mv ra, sp" ∷ codes "c.addi4spn a0, sp, 4" ∷ codes "c.lw a0, 4(a1)" ∷ codes "c.sw a0, (a1)" ∷ codes "c.swsp t0, 8(sp)" ∷ codes "c.jr ra" ∷ codes "c.beqz a0, t" ∷ codes "c.nop" ∷ []) ≡ instr 0 5 op.CSub 10 0 11 (pos 0) [] ∷ instr 0 4 op.CMv 1 0 2 (pos 0) [] ∷ instr 0 10 op.CAddi4spn 10 0 0 (pos 0) (value (Number (pos 4)) Immediate 19 20 ∷ []) ∷ instr 0 4 op.CLw 10 11 0 (pos 0) (value (Number (pos 4)) Immediate 9 14 ∷ []) ∷ instr 0 4 op.CSw 0 11 10 (pos 0) [] ∷ instr 0 6 op.CSwsp 0 0 5 (pos 0) (value (Number (pos 8)) Immediate 11 16 ∷ []) ∷ instr 0 4 op.CJr 0 1 0 (pos 0) [] ∷ instr 0 6 op.CBeqz 0 10 0 (pos 0) (value (Word (codes "t")) Target 11 12 ∷ []) ∷ instr 0 5 op.CNop 0 0 0 (pos 0) [] ∷ []
+unfolding operation_named operation_names other_forms row_of layout_of slots_of register_named register_names
+compressed = refl
+
 -- faults of operands: their order, and their spans
 
 faults : map body (codes "add a0, a0, 1" ∷ codes "addi a0, a0" ∷ codes "c.lui sp, 1" ∷ codes "addi ,a0,1" ∷ codes "addi a0 , , 1" ∷ codes "add a0, 1, 08" ∷ codes "add (a0, 1), 2" ∷ codes "fence rw" ∷ codes "fence wr, r" ∷ codes "li a0, 1_000" ∷ codes "c.addi16sp a0, 16" ∷ codes "c.addi4spn a0, 4, 4" ∷ codes "c.lwsp a0, 4(a0)" ∷ []) ≡ faulty BadRegister 12 13 ∷ faulty OperandCount 0 4 ∷ faulty RegisterRange 6 8 ∷ faulty BadRegister 4 4 ∷ faulty BadRegister 9 9 ∷ faulty BadNumber 11 13 ∷ faulty OperandCount 0 3 ∷ faulty OperandCount 0 5 ∷ faulty BadOperand 6 8 ∷ faulty BadOperand 7 12 ∷ faulty RegisterRange 11 13 ∷ faulty BadRegister 15 16 ∷ faulty RegisterRange 11 16 ∷ []
@@ -79,8 +84,8 @@ memory = refl
 
 -- modifiers
 
-modifiers : map body (codes "lui a0, %HI(x+1)" ∷ codes "addi a0, a0, %lo(x)" ∷ codes "addi a0, a0, %lo(x)+1" ∷ codes "lw a0, %pcrel_lo(1f)(a1)" ∷ codes "lw a0, %lo(x)" ∷ codes "lw a0, %lo(a0)" ∷ codes "lw a0, %foo(x)(a0)" ∷ codes "lw a0, %hi(x)(a0)" ∷ codes "lw a0, %5(x)(a0)" ∷ codes "lw a0, %lo x(a0)" ∷ codes "lw a0, %lo(x)+1(a0)" ∷ codes "lw a0, %lo(x)(4)" ∷ codes "lw a0, %lo(x)(a0)(a1)" ∷ codes "lw a0, %lo((x)(a0)" ∷ codes "c.lw a0, %lo(x)(a1)" ∷ codes "c.lw a0, %lo(x)(t0)" ∷ codes "c.lw a0, %lo(x)" ∷ codes "addi a0, a0, %pcrel_lo((x))" ∷ codes "addi a0, a0, %pcrel_lo(4)" ∷ codes "addi a0, a0, %pcrel_lo(.)" ∷ codes "slli a0, a0, %lo(x)" ∷ []) ≡ instr 0 3 op.Lui 10 0 0 (pos 0) (with_modifier High (Binary Add (Word (codes "x")) (Number (pos 1))) 8 16 ∷ []) ∷ instr 0 4 op.Addi 10 10 0 (pos 0) (with_modifier Low (Word (codes "x")) 13 19 ∷ []) ∷ faulty BadOperand 13 21 ∷ instr 0 2 op.Lw 10 11 0 (pos 0) (with_modifier PcrelLow (Local 1 Forward) 7 24 ∷ []) ∷ faulty BadRegister 7 13 ∷ faulty BadRegister 7 14 ∷ faulty BadOperand 7 18 ∷ faulty BadOperand 7 17 ∷ faulty BadRegister 7 16 ∷ faulty BadRegister 7 16 ∷ faulty BadRegister 7 19 ∷ faulty BadRegister 7 16 ∷ faulty BadRegister 7 21 ∷ faulty BadRegister 7 18 ∷ faulty BadOperand 9 19 ∷ faulty RegisterRange 9 19 ∷ faulty BadRegister 9 15 ∷ faulty BadOperand 13 27 ∷ faulty BadOperand 13 25 ∷ instr 0 4 op.Addi 10 10 0 (pos 0) (with_modifier PcrelLow Here 13 25 ∷ []) ∷ faulty BadOperand 13 19 ∷ []
-unfolding operation_named operation_names other_forms row_of layout_of slots_of register_named register_names
+modifiers : map body (codes "lui a0, %HI(x+1)" ∷ codes "addi a0, a0, %lo(x)" ∷ codes "addi a0, a0, %lo(x)+1" ∷ codes "lw a0, %pcrel_lo(1f)(a1)" ∷ codes "lw a0, %lo(x)" ∷ codes "lw a0, %lo(a0)" ∷ codes "lw a0, %foo(x)(a0)" ∷ codes "lw a0, %hi(x)(a0)" ∷ codes "lw a0, %5(x)(a0)" ∷ codes "lw a0, %lo x(a0)" ∷ codes "lw a0, %lo(x)+1(a0)" ∷ codes "lw a0, %lo(x)(4)" ∷ codes "lw a0, %lo(x)(a0)(a1)" ∷ codes "lw a0, %lo((x)(a0)" ∷ codes "c.lw a0, %lo(x)(a1)" ∷ codes "c.lw a0, %lo(x)(t0)" ∷ codes "c.lw a0, %lo(x)" ∷ codes "addi a0, a0, %pcrel_lo((x))" ∷ codes "addi a0, a0, %pcrel_lo(4)" ∷ codes "addi a0, a0, %pcrel_lo(.)" ∷ codes "slli a0, a0, %lo(x)" ∷ []) ≡ instr 0 3 op.Lui 10 0 0 (pos 0) (modified (High (Binary Add (Word (codes "x")) (Number (pos 1)))) 8 16 ∷ []) ∷ instr 0 4 op.Addi 10 10 0 (pos 0) (modified (Low (Word (codes "x"))) 13 19 ∷ []) ∷ faulty BadOperand 13 21 ∷ instr 0 2 op.Lw 10 11 0 (pos 0) (modified (PcrelLow (label.Local 1 Forward)) 7 24 ∷ []) ∷ faulty BadRegister 7 13 ∷ faulty BadRegister 7 14 ∷ faulty BadOperand 7 18 ∷ faulty BadOperand 7 17 ∷ faulty BadRegister 7 16 ∷ faulty BadRegister 7 16 ∷ faulty BadRegister 7 19 ∷ faulty BadRegister 7 16 ∷ faulty BadRegister 7 21 ∷ faulty BadRegister 7 18 ∷ faulty BadOperand 9 19 ∷ faulty RegisterRange 9 19 ∷ faulty BadRegister 9 15 ∷ faulty BadOperand 13 27 ∷ faulty BadOperand 13 25 ∷ instr 0 4 op.Addi 10 10 0 (pos 0) (modified (PcrelLow label.Here) 13 25 ∷ []) ∷ faulty BadOperand 13 19 ∷ []
+unfolding operation_named operation_names other_forms row_of layout_of slots_of register_named register_names modifier_named modifier_names
 modifiers = refl
 
 -- names that stand for operations on registers

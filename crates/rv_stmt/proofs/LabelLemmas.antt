@@ -6,7 +6,7 @@ use Rattle.std.specs.List.{slice_get}
 use Rattle.rv_text.specs.Lexing.{Piece}
 use Rattle.rv_stmt.specs.declared.label.Label.{Label}
 use Rattle.rv_stmt.specs.Labels.{labelled, label_at, label_of, with_label}
-use Rattle.rv_stmt.specs.Runs.{is_sign}
+use Rattle.rv_stmt.specs.Tokens.{is_sign}
 
 slice_get-drop : {A : Type 0} (xs : List A) (k i : ℕ) → slice_get xs (k + i) ≡ slice_get (drop k xs) i
 slice_get-drop xs zero i = let place : 0 + i ≡ i = omega arith in ap (slice_get xs) place

@@ -1,7 +1,11 @@
 -- The first run of some tokens.
 use Rattle.std.proofs.Common.{◌≡◌, ℕ, suc, ◌+◌, ◌≤◌, true, false, cond, ◌&&◌, ◌==◌, List, [], ◌∷◌, length, take, drop, codes, refl, ap, ◌∙◌, arith}
 use Rattle.rv_text.specs.Lexing.{Piece}
-use Rattle.rv_stmt.specs.Runs.{Run, is_sign, open_behind, no_tokens, with_first, runs_from, run_length, run_end, runs_behind}
+use Rattle.rv_expr.specs.Depth.{depth_behind}
+use Rattle.rv_expr.specs.Roles.{role}
+use Rattle.rv_stmt.specs.FirstRun.{run_length, run_end, runs_behind}
+use Rattle.rv_stmt.specs.Runs.{Run, no_tokens, with_first, runs_from}
+use Rattle.rv_stmt.specs.Tokens.{is_sign}
 
 -- where some tokens begin; `end` is the end of the token before them
 abbrev pub run_start : ℕ → List Piece → ℕ
@@ -22,7 +26,7 @@ goes_on end to p ps n last rs h =
 pub first_run : (end depth : ℕ) (ps : List Piece) → runs_from end depth ps ≡ record { pieces = take (run_length depth ps) ps; span = record { from = run_start end (take (run_length depth ps) ps); to = run_end end depth ps } } ∷ runs_behind (drop (run_length depth ps) ps)
 first_run end depth [] = refl
 first_run end depth (p ∷ ps) =
-    let behind = open_behind depth p in
+    let behind = depth_behind depth (role p) in
     let n = run_length behind ps in
     let last = run_end p.span.to behind ps in
     elim (is_sign (codes ",") p && depth == 0)
@@ -34,5 +38,5 @@ pub run_length_within : (depth : ℕ) (ps : List Piece) → run_length depth ps 
 run_length_within depth [] = omega arith
 run_length_within depth (p ∷ ps) =
     elim (is_sign (codes ",") p && depth == 0)
-    as (λ ends. cond ends 0 (run_length (open_behind depth p) ps + 1) ≤ length (p ∷ ps))
-    [ true ↦ omega arith | false ↦ (let inner = run_length_within (open_behind depth p) ps in omega (arith, inner)) ]
+    as (λ ends. cond ends 0 (run_length (depth_behind depth (role p)) ps + 1) ≤ length (p ∷ ps))
+    [ true ↦ omega arith | false ↦ (let inner = run_length_within (depth_behind depth (role p)) ps in omega (arith, inner)) ]

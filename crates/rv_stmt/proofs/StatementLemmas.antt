@@ -6,10 +6,10 @@ use Rattle.rv_text.specs.declared.lexeme.Front.TheVariants.{Blank, Comment, Lexe
 use Rattle.rv_text.specs.Lexing.{Lexed, LexedLine, pieces, placed, front, tokens_from, tokens_of}
 use Rattle.rv_expr.specs.Reading.{run_of as range_of}
 use Rattle.rv_stmt.specs.declared.runs.Run.{Run}
-use Rattle.rv_stmt.specs.Views.{run_of}
+use Rattle.rv_stmt.specs.Views.{run_view}
 
-pub count_of_runs : (runs : List Run) → length runs ≡ length (map run_of runs)
-count_of_runs runs = sym (length-map runs run_of)
+pub count_of_runs : (runs : List Run) → length runs ≡ length (map run_view runs)
+count_of_runs runs = sym (length-map runs run_view)
 
 pub count_of_pieces : (l : LexedLine) → length (pieces l) ≡ length l.tokens
 count_of_pieces l = length-map l.tokens _

@@ -1,10 +1,9 @@
 -- An instruction while its operands are read.
-use Rattle.std.specs.Prelude.{ℕ, ℤ, List, [], ◌∷◌, ◌++◌, Option}
+use Rattle.std.specs.Prelude.{ℕ, ℤ, List, [], ◌∷◌, ◌++◌}
 use Rattle.rv_text.specs.declared.lexeme.Span.{Span}
 use Rattle.rv_code.specs.declared.instruction.Fields.{Fields as CodeFields}
-use Rattle.rv_expr.specs.Tree.{Tree}
-use Rattle.rv_stmt.specs.declared.operand.Modifier.{Modifier}
 use Rattle.rv_stmt.specs.declared.operand.Role.{Role}
+use Rattle.rv_stmt.specs.Values.{Value}
 
 abbrev pub Fields : Type 0
 Fields = CodeFields
@@ -12,10 +11,9 @@ Fields = CodeFields
 abbrev pub fields : ℕ → ℕ → ℕ → ℤ → Fields
 fields rd rs1 rs2 v = record { rd = rd; rs1 = rs1; rs2 = rs2; value = v }
 
--- an expression of an operand, its modifier, what its value is for, and the span at which its faults are told
+-- the value of an operand, what it is for, and the span at which its faults are told
 pub record Operand : Type 0 where
-  pub tree : Tree
-  pub modifier : Option Modifier
+  pub value : Value
   pub role : Role
   pub span : Span
 

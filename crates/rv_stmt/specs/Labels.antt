@@ -9,7 +9,7 @@ use Rattle.rv_expr.specs.Roles.{label_number}
 use Rattle.rv_stmt.specs.declared.label.Label.{Label}
 use Rattle.rv_stmt.specs.declared.label.LabelName.{LabelName}
 use Rattle.rv_stmt.specs.declared.label.LabelName.TheVariants.{Symbol, Local}
-use Rattle.rv_stmt.specs.Operands.{sign_at}
+use Rattle.rv_stmt.specs.Tokens.{sign_at}
 
 -- a word other than `.`, or the number of a local label
 abbrev pub label_name : TokenKind → List ℕ → Option LabelName

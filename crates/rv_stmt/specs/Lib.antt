@@ -1,7 +1,13 @@
 pub mod Draft
+pub mod FirstRun
 pub mod Forms
 pub mod Labels
-pub mod Operands
+pub mod Memory
+pub mod Readings
+pub mod Registers
 pub mod Runs
+pub mod Slots
 pub mod Statement
+pub mod Tokens
+pub mod Values
 pub mod Views

@@ -13,7 +13,7 @@ use Rattle.rv_stmt.specs.declared.operand.Role.{Role}
 use Rattle.rv_stmt.specs.declared.operand.Role.TheVariants.{Immediate, SourceImmediate, Target, PairTarget, Constant}
 use Rattle.rv_stmt.specs.Draft.{Draft, Fields, Operand}
 use Rattle.rv_stmt.specs.Forms.{Form, form_of}
-use Rattle.rv_stmt.specs.Operands.{slots_read}
+use Rattle.rv_stmt.specs.Slots.{slots_read}
 use Rattle.rv_stmt.specs.declared.label.Label.{Label}
 use Rattle.rv_stmt.specs.Labels.{labelled}
 use Rattle.rv_stmt.specs.Runs.{Run, runs_of}

@@ -2,7 +2,8 @@
 use Rattle.std.specs.Prelude.{map, Result, Ok, Err, option_map}
 use Rattle.rv_expr.specs.Tree.{tree_of}
 use Rattle.rv_stmt.specs.declared.draft.Draft.{Draft as CodeDraft}
-use Rattle.rv_stmt.specs.declared.expressions.Value.{Value as CodeValue}
+use Rattle.rv_stmt.specs.declared.operand.OperandValue.{OperandValue}
+use Rattle.rv_stmt.specs.declared.operand.OperandValue.TheVariants as values
 use Rattle.rv_stmt.specs.declared.form.Form.{Form as CodeForm}
 use Rattle.rv_stmt.specs.declared.memory.Located.{Located as CodeLocated}
 use Rattle.rv_stmt.specs.declared.operand.Operand.{Operand as CodeOperand}
@@ -13,35 +14,40 @@ use Rattle.rv_stmt.specs.declared.statement.Body.TheVariants as code
 use Rattle.rv_stmt.specs.declared.statement.Stmt.{Stmt}
 use Rattle.rv_stmt.specs.Draft.{Operand, Draft}
 use Rattle.rv_stmt.specs.Forms.{Form}
-use Rattle.rv_stmt.specs.Operands.{Value, Located}
+use Rattle.rv_stmt.specs.Memory.{Located}
 use Rattle.rv_stmt.specs.Runs.{Run}
 use Rattle.rv_stmt.specs.Statement.{Instruction, Body, Empty, Instr, Pseudo, Faulty, Statement}
+use Rattle.rv_stmt.specs.Values.{Value, Plain, High, Low, PcrelHigh, PcrelLow}
 
 -- what a result means, where `f` says what its value means
-abbrev pub reading_of : {A B E : Type 0} → (A → B) → Result A E → Result B E
-reading_of f (Ok x) = Ok (f x)
-reading_of f (Err fault) = Err fault
+abbrev pub reading_view : {A B E : Type 0} → (A → B) → Result A E → Result B E
+reading_view f (Ok x) = Ok (f x)
+reading_view f (Err fault) = Err fault
 
-abbrev pub run_of : CodeRun → Run
-run_of r = record { pieces = r.tokens; span = r.span }
+abbrev pub run_view : CodeRun → Run
+run_view r = record { pieces = r.tokens; span = r.span }
 
-abbrev pub value_of : CodeValue → Value
-value_of v = record { tree = tree_of v.expr; modifier = v.modifier }
+abbrev pub value_view : OperandValue → Value
+value_view (values.Plain e) = Plain (tree_of e)
+value_view (values.High e) = High (tree_of e)
+value_view (values.Low e) = Low (tree_of e)
+value_view (values.PcrelHigh e) = PcrelHigh (tree_of e)
+value_view (values.PcrelLow label) = PcrelLow label
 
-abbrev pub located_of : CodeLocated → Located
-located_of l = record { base = l.base; offset = option_map value_of l.offset }
+abbrev pub located_view : CodeLocated → Located
+located_view l = record { base = l.base; offset = option_map value_view l.offset }
 
 abbrev pub form_view : CodeForm → Form
 form_view f = record { own = f.own; op = f.op; fields = f.fields; slots = f.slots.now }
 
-abbrev pub operand_of : CodeOperand → Operand
-operand_of o = record { tree = tree_of o.expr; modifier = o.modifier; role = o.role; span = o.span }
+abbrev pub operand_view : CodeOperand → Operand
+operand_view o = record { value = value_view o.value; role = o.role; span = o.span }
 
-abbrev pub draft_of : CodeDraft → Draft
-draft_of d = record { fields = d.fields; operands = map operand_of d.operands.items }
+abbrev pub draft_view : CodeDraft → Draft
+draft_view d = record { fields = d.fields; operands = map operand_view d.operands.items }
 
 abbrev pub instruction_view : CodeInstruction → Instruction
-instruction_view i = record { name = i.name; op = i.op; fields = i.fields; operands = map operand_of i.operands.items }
+instruction_view i = record { name = i.name; op = i.op; fields = i.fields; operands = map operand_view i.operands.items }
 
 abbrev pub body_view : CodeBody → Body
 body_view code.Empty = Empty

@@ -3,14 +3,13 @@
 ghost use Rattle.std.specs.Prelude.{◌≡◌, map, IsTrue, IfSome, IsSome};
 ghost use Rattle.std.specs.List.{list_all};
 ghost use Rattle.rv_stmt.specs.Forms.{slots_of, own_form, forms_named, named_form, has_registers, other_forms, chosen, form_of};
-ghost use Rattle.rv_stmt.specs.Views.{reading_of, form_view};
+ghost use Rattle.rv_stmt.specs.Views.{reading_view, form_view};
 
-use crate::expressions::Reading;
 use crate::forms::FORMS;
-use crate::names::is_name;
 use crate::slots::{OPERANDS, Slot};
+use crate::values::Reading;
 use rv_code::Fields;
-use rv_ops::{Op, Reg, Shape, op_by_name, shape};
+use rv_ops::{Op, Reg, Shape, is_name, op_by_name, shape};
 use rv_text::FaultNumber;
 
 /// A way to write an instruction: its operation, the fields where no operand fills them, and the operands.
@@ -77,7 +76,7 @@ fn other_form(
     unknown: FaultNumber,
 ) -> Reading<Form>
     requires { IsTrue (list_all (λ row. has_registers row.2) forms.now) }
-    ensures { reading_of form_view result
+    ensures { reading_view form_view result
         ≡ chosen unknown count (forms_named (map (λ row. named_form row.0.now row.1 row.2 row.3.now) forms.entry.now) name.now) }
 {
     let mut fault = unknown;
@@ -103,7 +102,7 @@ fn other_form(
 /// `UnknownName` if the name has no way at all, else `OperandCount`.
 #[tactic(auto, unfolding(crate::specs::Forms::other_forms))]
 pub fn form_of(name: &[u8], count: usize) -> Reading<Form>
-    ensures { reading_of form_view result ≡ form_of name.now count }
+    ensures { reading_view form_view result ≡ form_of name.now count }
 {
     let Some(op) = op_by_name(name) else {
         return other_form(&FORMS, name, count, FaultNumber::UnknownName);

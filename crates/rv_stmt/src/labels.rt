@@ -35,14 +35,11 @@ fn label_at(alloc: Global, line: &TokenRange<'_>, place: usize) -> Result<Option
     let Some((kind, text, span)) = line.token_at(place) else {
         return Ok(None);
     };
-    match label_name(alloc, kind, text)? {
-        Some(name) => Ok(Some(Label { name, span })),
-        None => Ok(None),
-    }
+    let name = label_name(alloc, kind, text)?;
+    Ok(name.map(|name| Label { name, span }))
 }
 
 /// The labels of a line, and how many of its tokens they take, each with its `:`.
-
 pub fn labels(alloc: Global, line: &TokenRange<'_>) -> Result<(Vec<Label>, usize), AllocError>
     requires { length line.now < 2 ^ 31 }
     ensures labels { IfOk result (λ r. r.0.items ≡ (labelled line.now).labels) }

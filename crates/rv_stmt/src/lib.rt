@@ -3,15 +3,16 @@
 
 mod draft;
 mod error;
-mod expressions;
 mod form;
 mod forms;
 mod label;
 mod labels;
 mod line;
 mod memory;
-mod names;
+mod modifiers;
 mod operand;
+mod operands;
+mod register_slots;
 mod registers;
 mod runs;
 mod sets;
@@ -20,9 +21,11 @@ mod statement;
 #[cfg(test)]
 mod tests;
 mod token_range;
+mod value_slots;
+mod values;
 
 pub use error::StmtError;
 pub use label::{Label, LabelName};
 pub use line::read_line;
-pub use operand::{Modifier, Operand, Role};
+pub use operand::{Operand, OperandValue, Role};
 pub use statement::{Body, Instruction, Stmt};

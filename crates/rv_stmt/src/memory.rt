@@ -1,13 +1,14 @@
 //! Operands in memory: `offset(register)`.
 
 ghost use Rattle.std.specs.Prelude.{◌≡◌, ◌+◌, ◌<◌, ◌≤◌, ◌^◌, IfOk, IfSome, option_map, length, take, drop};
-ghost use Rattle.rv_stmt.specs.Operands.{base_at, base_of, offset, closed_within, group_from, group_of, base_behind, modified_memory, plain_memory, memory};
-ghost use Rattle.rv_stmt.specs.Views.{reading_of, value_of, located_of};
+ghost use Rattle.rv_stmt.specs.Memory.{base_at, base_of, offset, closed_within, group_from, group_of, base_behind, modified_memory, plain_memory, memory};
+ghost use Rattle.rv_stmt.specs.Views.{reading_view, value_view, located_view};
 
-use crate::expressions::{Reading, Value, modified_value, plain};
+use crate::operand::OperandValue;
 use crate::registers::Takes;
-use crate::runs::open_behind;
 use crate::token_range::TokenRange;
+use crate::values::{Reading, modified_value, plain};
+use rv_expr::depth_behind;
 use rv_ops::{Reg, Shape, reg_by_name};
 use rv_text::FaultNumber;
 use std::alloc::{AllocError, Global};
@@ -16,7 +17,7 @@ use std::alloc::{AllocError, Global};
 #[derive(Drop)]
 pub struct Located {
     pub base: Reg,
-    pub offset: Option<Value>,
+    pub offset: Option<OperandValue>,
 }
 
 // The register between `(` and `)` from a place on.
@@ -51,7 +52,7 @@ fn closed_within(run: &TokenRange<'_>) -> Option<usize>
     let mut depth = 0;
     let mut length = 0;
     while let Some((token, behind)) = rest.split_first() {
-        depth = open_behind(depth, token);
+        depth = depth_behind(depth, token.0, token.1);
         length += 1;
         if depth == 0 {
             return Some(length);
@@ -72,10 +73,7 @@ fn group_of(run: &TokenRange<'_>) -> Option<usize>
     if !run.sign_at(b"(", open) {
         return None;
     }
-    match closed_within(&run.skip(open)) {
-        Some(length) => Some(open + length),
-        None => None,
-    }
+    Some(open + closed_within(&run.skip(open))?)
 }
 
 // The register in parentheses behind a modifier, if nothing else follows.
@@ -90,16 +88,13 @@ fn base_behind(run: &TokenRange<'_>, place: usize) -> Option<Reg>
 }
 
 // The offset before a base; none where nothing stands there.
-fn offset(alloc: Global, run: &TokenRange<'_>) -> Result<Reading<Option<Value>>, AllocError>
-    ensures { IfOk result (λ r. reading_of (option_map value_of) r ≡ offset run.now) }
+fn offset(alloc: Global, run: &TokenRange<'_>) -> Result<Reading<Option<OperandValue>>, AllocError>
+    ensures { IfOk result (λ r. reading_view (option_map value_view) r ≡ offset run.now) }
 {
     if run.len() == 0 {
         return Ok(Ok(None));
     }
-    match plain(alloc, run)? {
-        Ok(value) => Ok(Ok(Some(value))),
-        Err(fault) => Ok(Err(fault)),
-    }
+    Ok(plain(alloc, run)?.map(Some))
 }
 
 // A place in memory whose offset has a modifier.
@@ -109,7 +104,7 @@ fn modified_memory(
     takes: Takes,
     run: &TokenRange<'_>,
 ) -> Result<Reading<Located>, AllocError>
-    ensures { IfOk result (λ r. reading_of located_of r ≡ modified_memory shape takes run.now) }
+    ensures { IfOk result (λ r. reading_view located_view r ≡ modified_memory shape takes run.now) }
 {
     let Some(length) = group_of(run) else {
         return Ok(Err(FaultNumber::BadRegister));
@@ -118,13 +113,11 @@ fn modified_memory(
         Ok(base) => base,
         Err(fault) => return Ok(Err(fault)),
     };
-    match modified_value(alloc, shape, &run.part(0, length))? {
-        Ok(value) => Ok(Ok(Located {
-            base,
-            offset: Some(value),
-        })),
-        Err(fault) => Ok(Err(fault)),
-    }
+    let value = modified_value(alloc, shape, &run.part(0, length))?;
+    Ok(value.map(|value| Located {
+        base,
+        offset: Some(value),
+    }))
 }
 
 // A place in memory whose offset has no modifier.
@@ -133,16 +126,14 @@ fn plain_memory(
     takes: Takes,
     run: &TokenRange<'_>,
 ) -> Result<Reading<Located>, AllocError>
-    ensures { IfOk result (λ r. reading_of located_of r ≡ plain_memory takes run.now) }
+    ensures { IfOk result (λ r. reading_view located_view r ≡ plain_memory takes run.now) }
 {
     let base = match takes.taken(base_of(run)) {
         Ok(base) => base,
         Err(fault) => return Ok(Err(fault)),
     };
-    match offset(alloc, &run.part(0, run.len().saturating_sub(3)))? {
-        Ok(offset) => Ok(Ok(Located { base, offset })),
-        Err(fault) => Ok(Err(fault)),
-    }
+    let offset = offset(alloc, &run.part(0, run.len().saturating_sub(3)))?;
+    Ok(offset.map(|offset| Located { base, offset }))
 }
 
 /// The place in memory that some tokens are: `offset(register)`, where the register is one of those taken and the
@@ -153,7 +144,7 @@ pub fn memory(
     takes: Takes,
     run: &TokenRange<'_>,
 ) -> Result<Reading<Located>, AllocError>
-    ensures { IfOk result (λ r. reading_of located_of r ≡ memory shape takes run.now) }
+    ensures { IfOk result (λ r. reading_view located_view r ≡ memory shape takes run.now) }
 {
     if run.sign_at(b"%", 0) {
         modified_memory(alloc, shape, takes, run)

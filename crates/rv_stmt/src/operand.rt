@@ -1,20 +1,7 @@
-//! The expressions of operands, and what their values are for.
+//! The operands whose values expressions give.
 
-use rv_expr::Expr;
+use rv_expr::{Expr, LabelReference};
 use rv_text::Span;
-
-/// A modifier of an expression, written `%name(expression)`.
-#[derive(Clone, Copy, Debug, PartialEq, Eq)]
-pub enum Modifier {
-    /// `%hi`: the upper 20 bits, which with the signed lower 12 bits give the value.
-    High,
-    /// `%lo`: the lower 12 bits, with a sign.
-    Low,
-    /// `%pcrel_hi`: `%hi` of the value less the address of the line.
-    PcrelHigh,
-    /// `%pcrel_lo`: the lower 12 bits that belong to the `%pcrel_hi` at a label.
-    PcrelLow,
-}
 
 /// What the value of an operand is for.
 #[derive(Clone, Copy, Debug, PartialEq, Eq)]
@@ -31,12 +18,25 @@ pub enum Role {
     Constant,
 }
 
+/// What gives the value of an operand: an expression, or a modifier, which takes a part of a value.
+#[derive(Drop)]
+pub enum OperandValue {
+    /// The value of the expression.
+    Plain(Expr),
+    /// `%hi(expression)`: the upper 20 bits, which with the signed lower 12 bits give the value.
+    High(Expr),
+    /// `%lo(expression)`: the lower 12 bits, with a sign.
+    Low(Expr),
+    /// `%pcrel_hi(expression)`: `%hi` of the value less the address of the line.
+    PcrelHigh(Expr),
+    /// `%pcrel_lo(label)`: the lower 12 bits that belong to the `%pcrel_hi` at the label.
+    PcrelLow(LabelReference),
+}
+
 /// An operand whose value an expression gives.
 #[derive(Drop)]
 pub struct Operand {
-    /// The expression; below `%pcrel_lo` it is one name or one local label.
-    pub expr: Expr,
-    pub modifier: Option<Modifier>,
+    pub value: OperandValue,
     pub role: Role,
     /// The whole operand, at which the faults of its value are told.
     pub span: Span,

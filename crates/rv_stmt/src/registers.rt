@@ -2,11 +2,13 @@
 
 ghost use Rattle.std.specs.Prelude.{◌≡◌};
 ghost use Rattle.rv_text.specs.declared.faults.FaultNumber.TheVariants.{BadRegister};
-ghost use Rattle.rv_stmt.specs.Operands.{is_in, takes, taken, and_then, or_fault, register_in, register};
+ghost use Rattle.rv_stmt.specs.Readings.{and_then, or_fault};
+ghost use Rattle.rv_stmt.specs.Registers.{takes, taken, register_in, register, csr_in};
 
-use crate::expressions::Reading;
 use crate::token_range::TokenRange;
-use rv_ops::{Reg, RegisterClass, reg_by_name};
+use crate::values::Reading;
+use rv_code::in_class;
+use rv_ops::{Csr, Reg, RegisterClass, csr_by_name, reg_by_name};
 use rv_text::FaultNumber;
 
 /// The registers that a place takes.
@@ -18,28 +20,13 @@ pub enum Takes {
     StackPointer,
 }
 
-// Whether a class has the register.
-fn is_in(class: RegisterClass, register: Reg) -> bool
-    ensures { result ≡ is_in class register }
-{
-    let number = register.number();
-    match class {
-        RegisterClass::Absent => number == 0,
-        RegisterClass::Any => number < 32,
-        RegisterClass::NotZero => 1 <= number && number < 32,
-        RegisterClass::NotSp => 1 <= number && number < 32 && number != 2,
-        RegisterClass::Prime => 8 <= number && number < 16,
-        RegisterClass::Set => 1 <= number && number < 16,
-    }
-}
-
 impl Takes {
     /// Whether the place takes the register.
     pub fn takes(self, register: Reg) -> bool
         ensures { result ≡ takes self register }
     {
         match self {
-            Takes::Class(class) => is_in(class, register),
+            Takes::Class(class) => in_class(class, register),
             Takes::StackPointer => register.number() == 2,
         }
     }
@@ -72,4 +59,12 @@ pub fn register(places: Takes, run: &TokenRange<'_>) -> Reading<Reg>
     ensures { result ≡ register places run.now }
 {
     places.taken(register_in(run))
+}
+
+/// The control and status register whose name some tokens are.
+pub fn csr_in(run: &TokenRange<'_>) -> Option<Csr>
+    ensures { result ≡ csr_in run.now }
+{
+    let name = run.one_word()?;
+    csr_by_name(name)
 }

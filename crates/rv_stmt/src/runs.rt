@@ -2,10 +2,13 @@
 
 ghost use Rattle.std.specs.Prelude.{◌≡◌, ◌+◌, ◌-◌, ◌&&◌, ◌==◌, codes, ◌<◌, ◌≤◌, ◌^◌, [], ◌∷◌, length, map, IfOk};
 ghost use Rattle.rv_text.specs.declared.lexeme.Span.{Span};
-ghost use Rattle.rv_stmt.specs.Runs.{is_sign, open_behind, run_length, run_end, runs_from, runs_behind, runs_of};
-ghost use Rattle.rv_stmt.specs.Views.{run_of};
+ghost use Rattle.rv_stmt.specs.FirstRun.{run_length, run_end, runs_behind};
+ghost use Rattle.rv_stmt.specs.Runs.{runs_from, runs_of};
+ghost use Rattle.rv_stmt.specs.Tokens.{is_sign};
+ghost use Rattle.rv_stmt.specs.Views.{run_view};
 
 use crate::token_range::TokenRange;
+use rv_expr::depth_behind;
 use rv_text::{Span, TokenKind};
 use std::alloc::{AllocError, Global};
 
@@ -22,21 +25,6 @@ fn is_sign(token: (TokenKind, &[u8], Span), sign: &[u8]) -> bool
     ensures { result ≡ is_sign sign.now (record { kind = token.entry.0; text = token.entry.1.now; span = token.entry.2 }) }
 {
     token.0 == TokenKind::Sign && token.1 == sign
-}
-
-/// How many parentheses are open behind a token, where `depth` are open before it.
-pub fn open_behind(depth: usize, token: (TokenKind, &[u8], Span)) -> usize
-    requires { depth < 2 ^ 64 - 1 }
-    ensures depth { result ≡ open_behind depth (record { kind = token.entry.0; text = token.entry.1.now; span = token.entry.2 }) }
-    ensures bound { result ≤ depth + 1 }
-{
-    if is_sign(token, b"(") {
-        depth + 1
-    } else if is_sign(token, b")") {
-        depth.saturating_sub(1)
-    } else {
-        depth
-    }
 }
 
 // Whether a token is a comma outside parentheses.
@@ -60,7 +48,7 @@ fn run_extent(tokens: &TokenRange<'_>, before: u32) -> (usize, u32)
         if ends_run(depth, token) {
             return (length, end);
         }
-        depth = open_behind(depth, token);
+        depth = depth_behind(depth, token.0, token.1);
         end = token.2.to;
         length += 1;
         rest = behind;
@@ -71,7 +59,7 @@ fn run_extent(tokens: &TokenRange<'_>, before: u32) -> (usize, u32)
 // The run at the front of some tokens, and what follows it, from its comma on.
 #[tactic(auto, using(crate::proofs::RunLemmas::first_run, crate::proofs::RunLemmas::run_length_within))]
 fn next_run<'a>(tokens: &TokenRange<'a>, end: u32) -> (Run<'a>, TokenRange<'a>)
-    ensures runs { runs_from end 0 tokens.now ≡ run_of result.0 ∷ runs_behind result.1 }
+    ensures runs { runs_from end 0 tokens.now ≡ run_view result.0 ∷ runs_behind result.1 }
     ensures shorter { length result.1 ≤ length tokens.now }
 {
     let (length, to) = run_extent(tokens, end);
@@ -93,7 +81,7 @@ pub fn runs<'a>(
     tokens: &TokenRange<'a>,
     before: u32,
 ) -> Result<Vec<Run<'a>>, AllocError>
-    ensures { IfOk result (λ runs. map run_of runs.items ≡ runs_of before tokens.now) }
+    ensures { IfOk result (λ runs. map run_view runs.items ≡ runs_of before tokens.now) }
 {
     let mut runs = Vec::new(alloc);
     if tokens.len() == 0 {

@@ -4,7 +4,7 @@ ghost use Rattle.std.specs.Prelude.{◌≡◌, ◌<◌, ◌^◌, Ok, length, map
 ghost use Rattle.std.specs.List.{list_any};
 ghost use Rattle.rv_stmt.specs.Forms.{form_of};
 ghost use Rattle.rv_stmt.specs.Statement.{takes_two_words, drafted, formed, body_of, statement_of_lexed};
-ghost use Rattle.rv_stmt.specs.Views.{operand_of, draft_of, form_view, run_of, body_view, statement_view};
+ghost use Rattle.rv_stmt.specs.Views.{operand_view, draft_view, form_view, run_view, body_view, statement_view};
 
 use crate::draft::Draft;
 use crate::form::{Form, form_of};
@@ -53,7 +53,7 @@ pub struct Stmt {
 
 // Whether two words stand for an instruction with these operands.
 fn takes_two_words(mut operands: &[Operand]) -> bool
-    ensures { result ≡ list_any takes_two_words (map operand_of operands.entry.now) }
+    ensures { result ≡ list_any takes_two_words (map operand_view operands.entry.now) }
 {
     while let [operand, rest @ ..] = operands {
         if operand.role == Role::PairTarget {
@@ -66,7 +66,7 @@ fn takes_two_words(mut operands: &[Operand]) -> bool
 
 // The body of an instruction whose operands are read.
 fn drafted(form: &Form, name: Span, draft: Draft) -> Body
-    ensures { body_view result ≡ drafted (form_view form.now) name (Ok (draft_of draft)) }
+    ensures { body_view result ≡ drafted (form_view form.now) name (Ok (draft_view draft)) }
 {
     let Draft { fields, operands } = draft;
     let one_word = !takes_two_words(operands.as_slice());
@@ -85,7 +85,7 @@ fn drafted(form: &Form, name: Span, draft: Draft) -> Body
 
 // The body of an instruction that is written in this way.
 fn formed(alloc: Global, form: &Form, name: Span, runs: &[Run<'_>]) -> Result<Body, AllocError>
-    ensures { IfOk result (λ b. body_view b ≡ formed name (map run_of runs.now) (Ok (form_view form.now))) }
+    ensures { IfOk result (λ b. body_view b ≡ formed name (map run_view runs.now) (Ok (form_view form.now))) }
 {
     let draft = Draft::new(alloc, form.fields);
     match draft.operands(alloc, form.op, form.slots, runs)? {
@@ -96,7 +96,7 @@ fn formed(alloc: Global, form: &Form, name: Span, runs: &[Run<'_>]) -> Result<Bo
 
 // The body of a name and its runs.
 fn named(alloc: Global, name: &[u8], span: Span, runs: &[Run<'_>]) -> Result<Body, AllocError>
-    ensures { IfOk result (λ b. body_view b ≡ formed span (map run_of runs.now) (form_of name.now (length runs.now))) }
+    ensures { IfOk result (λ b. body_view b ≡ formed span (map run_view runs.now) (form_of name.now (length runs.now))) }
 {
     match form_of(name, runs.len()) {
         Ok(form) => formed(alloc, &form, span, runs),

@@ -1,7 +1,7 @@
 //! Lines with the statements that the standard and our rules give them.
 
 use super::*;
-use rv_expr::{BinaryOp, Direction, Expr, UnaryOp};
+use rv_expr::{BinaryOp, Direction, Expr, LabelReference, UnaryOp};
 use rv_ops::name_of;
 use rv_text::{Fault, Span, Tally};
 use std::alloc::Global;
@@ -49,6 +49,21 @@ fn binary_name(op: BinaryOp) -> &'static str {
     }
 }
 
+fn push_local(
+    alloc: Global,
+    text: &mut String,
+    number: u16,
+    direction: Direction,
+) -> Result<(), Fail> {
+    text.push(' ')?;
+    push_number(alloc, text, i64::from(number))?;
+    text.push(match direction {
+        Direction::Back => 'b',
+        Direction::Forward => 'f',
+    })?;
+    Ok(())
+}
+
 // The expression with its operators behind their operands.
 fn push_expression(alloc: Global, text: &mut String, expr: &Expr) -> Result<(), Fail> {
     match expr {
@@ -60,15 +75,7 @@ fn push_expression(alloc: Global, text: &mut String, expr: &Expr) -> Result<(), 
             text.push(' ')?;
             push_bytes(text, name.bytes())
         }
-        Expr::Local(number, direction) => {
-            text.push(' ')?;
-            push_number(alloc, text, i64::from(*number))?;
-            text.push(match direction {
-                Direction::Back => 'b',
-                Direction::Forward => 'f',
-            })?;
-            Ok(())
-        }
+        Expr::Local(number, direction) => push_local(alloc, text, *number, *direction),
         Expr::Here => {
             text.push_str(" .")?;
             Ok(())
@@ -87,6 +94,46 @@ fn push_expression(alloc: Global, text: &mut String, expr: &Expr) -> Result<(), 
     }
 }
 
+fn push_label_reference(
+    alloc: Global,
+    text: &mut String,
+    label: &LabelReference,
+) -> Result<(), Fail> {
+    match label {
+        LabelReference::Symbol(name) => {
+            text.push(' ')?;
+            push_bytes(text, name.bytes())
+        }
+        LabelReference::Local(number, direction) => push_local(alloc, text, *number, *direction),
+        LabelReference::Here => {
+            text.push_str(" .")?;
+            Ok(())
+        }
+    }
+}
+
+fn push_value(alloc: Global, text: &mut String, value: &OperandValue) -> Result<(), Fail> {
+    match value {
+        OperandValue::Plain(expr) => push_expression(alloc, text, expr),
+        OperandValue::High(expr) => {
+            text.push_str(" %hi")?;
+            push_expression(alloc, text, expr)
+        }
+        OperandValue::Low(expr) => {
+            text.push_str(" %lo")?;
+            push_expression(alloc, text, expr)
+        }
+        OperandValue::PcrelHigh(expr) => {
+            text.push_str(" %pcrel_hi")?;
+            push_expression(alloc, text, expr)
+        }
+        OperandValue::PcrelLow(label) => {
+            text.push_str(" %pcrel_lo")?;
+            push_label_reference(alloc, text, label)
+        }
+    }
+}
+
 fn push_operand(alloc: Global, text: &mut String, operand: &Operand) -> Result<(), Fail> {
     text.push_str(match operand.role {
         Role::Immediate => " [immediate ",
@@ -96,14 +143,7 @@ fn push_operand(alloc: Global, text: &mut String, operand: &Operand) -> Result<(
         Role::Constant => " [constant ",
     })?;
     push_span(alloc, text, operand.span)?;
-    text.push_str(match operand.modifier {
-        None => "",
-        Some(Modifier::High) => " %hi",
-        Some(Modifier::Low) => " %lo",
-        Some(Modifier::PcrelHigh) => " %pcrel_hi",
-        Some(Modifier::PcrelLow) => " %pcrel_lo",
-    })?;
-    push_expression(alloc, text, &operand.expr)?;
+    push_value(alloc, text, &operand.value)?;
     text.push(']')?;
     Ok(())
 }

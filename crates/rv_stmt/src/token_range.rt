@@ -7,7 +7,8 @@ ghost use Rattle.rv_expr.specs.Depth.{depth_of};
 ghost use Rattle.rv_expr.specs.Reading.{run_of, expression_of};
 ghost use Rattle.rv_expr.specs.Refusals.{Refuses};
 ghost use Rattle.rv_expr.specs.Tree.{tree_of};
-ghost use Rattle.rv_stmt.specs.Operands.{sign_at, word_at, one_word, is_deep};
+ghost use Rattle.rv_stmt.specs.Tokens.{sign_at, word_at, one_word};
+ghost use Rattle.rv_stmt.specs.Values.{is_deep};
 
 use rv_expr::{Expr, MAX_DEPTH, ReadFault, parenthesis_depth, read};
 use rv_text::{Span, TokenKind, Tokens};
@@ -120,10 +121,8 @@ impl<'a> TokenRange<'a> {
         ensures some { IfSome result (λ r. self.now ≡ record { kind = r.0.0; text = r.0.1.now; span = r.0.2 } ∷ r.1) }
         ensures none { IfNone result (self.now ≡ []) }
     {
-        match self.token_at(0) {
-            Some(token) => Some((token, self.skip(1))),
-            None => None,
-        }
+        let token = self.token_at(0)?;
+        Some((token, self.skip(1)))
     }
 
     /// The expression that the tokens are.

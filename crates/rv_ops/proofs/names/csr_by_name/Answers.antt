@@ -10,8 +10,8 @@ unfolding csr_named csr_names
 returns-clause-value c =
     let text = c.args.name.now in
     let below = IfSome_then (csr_named text) (csr_named-found text) (λ n f. f.0) in
-    made_number 4096 c.first_number.result c.and_then.result (subst (λ r. IfSome r (λ n. n < 4096)) (sym c.first_number.ensures) below) c.and_then.ensures
-    ∙ c.first_number.ensures
+    made_number 4096 c.first_named.result c.and_then.result (subst (λ r. IfSome r (λ n. n < 4096)) (sym c.first_named.ensures) below) c.and_then.ensures
+    ∙ c.first_named.ensures
 
 pub returns-clause-below : goal.returns-clause-below
 returns-clause-below c =

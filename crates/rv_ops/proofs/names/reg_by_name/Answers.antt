@@ -10,8 +10,8 @@ unfolding register_named register_names
 returns-clause-value c =
     let text = c.args.name.now in
     let below = IfSome_then (register_named text) (register_named-found text) (λ n f. f.0) in
-    made_number 32 c.first_number.result c.and_then.result (subst (λ r. IfSome r (λ n. n < 32)) (sym c.first_number.ensures) below) c.and_then.ensures
-    ∙ c.first_number.ensures
+    made_number 32 c.first_named.result c.and_then.result (subst (λ r. IfSome r (λ n. n < 32)) (sym c.first_named.ensures) below) c.and_then.ensures
+    ∙ c.first_named.ensures
 
 pub returns-clause-below : goal.returns-clause-below
 returns-clause-below c =

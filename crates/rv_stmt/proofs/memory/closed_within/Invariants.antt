@@ -1,5 +1,5 @@
 use Rattle.std.proofs.Common.{◌≡◌, ◌+◌, ◌≤◌, length, option_map}
-use Rattle.rv_stmt.specs.Operands.{closed_within}
+use Rattle.rv_stmt.specs.Memory.{closed_within}
 use Rattle.rv_stmt.proofs.memory.closed_within.Given as goal
 
 abbrev pub invariant-loop-token : goal.invariant-loop-token

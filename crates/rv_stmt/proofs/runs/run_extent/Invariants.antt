@@ -1,5 +1,5 @@
 use Rattle.std.proofs.Common.{◌≡◌, ◌+◌, ◌≤◌, length}
-use Rattle.rv_stmt.specs.Runs.{run_length, run_end}
+use Rattle.rv_stmt.specs.FirstRun.{run_length, run_end}
 use Rattle.rv_stmt.proofs.runs.run_extent.Given as goal
 
 abbrev pub invariant-loop-token : goal.invariant-loop-token

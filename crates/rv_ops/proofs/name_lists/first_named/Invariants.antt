@@ -1,6 +1,6 @@
 use Rattle.std.proofs.Common.{◌≡◌, length, map}
 use Rattle.rv_ops.specs.Names.{first_named}
-use Rattle.rv_ops.proofs.names.first_number.Given as goal
+use Rattle.rv_ops.proofs.name_lists.first_named.Given as goal
 
 abbrev pub invariant-loop-rows : goal.invariant-loop-rows
 invariant-loop-rows g l =

@@ -1,0 +1,71 @@
+-- Operands in memory: `offset(register)`.
+use Rattle.std.specs.Prelude.{ℕ, suc, ◌+◌, ◌-◌, ◌&&◌, ◌==◌, nat_le, List, [], ◌∷◌, length, take, drop, Option, Some, None, is_some, option_and_then, option_map, Ok, codes, if◌then◌else◌}
+use Rattle.rv_text.specs.declared.faults.FaultNumber.TheVariants.{BadRegister}
+use Rattle.rv_text.specs.Lexing.{Piece}
+use Rattle.rv_ops.specs.Registers.{register_named}
+use Rattle.rv_ops.specs.declared.op.Shape.{Shape}
+use Rattle.rv_expr.specs.Depth.{depth_behind}
+use Rattle.rv_expr.specs.Roles.{role}
+use Rattle.rv_stmt.specs.declared.registers.Takes.{Takes}
+use Rattle.rv_stmt.specs.Readings.{Reading, and_then, or_fault}
+use Rattle.rv_stmt.specs.Registers.{taken}
+use Rattle.rv_stmt.specs.Tokens.{sign_at, word_at}
+use Rattle.rv_stmt.specs.Values.{Value, plain, modified_value}
+
+pub record Located : Type 0 where
+  pub base : ℕ
+  pub offset : Option Value
+
+-- `(`, a register and `)` from a place on
+abbrev pub base_at : List Piece → ℕ → Option ℕ
+base_at run k =
+    if sign_at (codes "(") run k && sign_at (codes ")") run (k + 2)
+    then option_and_then register_named (word_at run (k + 1))
+    else None
+
+-- the base at the end of a run
+abbrev pub base_of : List Piece → Option ℕ
+base_of run = if nat_le 3 (length run) then base_at run (length run - 3) else None
+
+-- the offset before a base; none where nothing stands there
+abbrev pub offset : List Piece → Reading (Option Value)
+offset [] = Ok None
+offset (p ∷ ps) = and_then (plain (p ∷ ps)) (λ v. Ok (Some v))
+
+abbrev pub located : Takes → Option ℕ → Reading (Option Value) → Reading Located
+located t base reading =
+    and_then
+    (and_then (or_fault BadRegister base) (taken t))
+    (λ n. and_then reading (λ v. Ok (record { base = n; offset = v })))
+
+-- how many tokens there are up to the parenthesis that closes the first; `depth` are open
+abbrev pub closed_within : ℕ → List Piece → Option ℕ
+closed_within depth [] = None
+closed_within depth (p ∷ ps) =
+    if depth_behind depth (role p) == 0 then Some 1 else option_map suc (closed_within (depth_behind depth (role p)) ps)
+
+-- how many tokens a modifier has with its parentheses: `%`, a name if there is one, and up to the parenthesis that
+-- closes the first
+abbrev pub group_from : List Piece → ℕ → Option ℕ
+group_from run k =
+    if sign_at (codes "(") run k then option_map (λ n. k + n) (closed_within 0 (drop k run)) else None
+
+abbrev pub group_of : List Piece → Option ℕ
+group_of run = group_from run (if is_some (word_at run 1) then 2 else 1)
+
+-- the base behind a modifier, which nothing else follows
+abbrev pub base_behind : List Piece → ℕ → Option ℕ
+base_behind run n = if length run == n + 3 then base_at run n else None
+
+abbrev pub modified_memory : Shape → Takes → List Piece → Reading Located
+modified_memory s t run =
+    and_then
+    (or_fault BadRegister (group_of run))
+    (λ n. located t (base_behind run n) (and_then (modified_value s (take n run)) (λ v. Ok (Some v))))
+
+abbrev pub plain_memory : Takes → List Piece → Reading Located
+plain_memory t run = located t (base_of run) (offset (take (length run - 3) run))
+
+-- an offset with a modifier, or a plain one
+abbrev pub memory : Shape → Takes → List Piece → Reading Located
+memory s t run = if sign_at (codes "%") run 0 then modified_memory s t run else plain_memory t run

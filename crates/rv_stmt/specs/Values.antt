@@ -1,0 +1,83 @@
+-- The values of operands: expressions, and the modifiers that take a part of them.
+use Rattle.std.specs.Prelude.{ℕ, ◌-◌, Bool, true, false, ◌&&◌, ◌==◌, nat_lt, nat_le, List, length, map, Option, Some, None, option_and_then, Ok, Err, slice_range, codes, if◌then◌else◌}
+use Rattle.rv_text.specs.declared.faults.FaultNumber.TheVariants.{BadOperand, TooDeep}
+use Rattle.rv_text.specs.Lexing.{Piece}
+use Rattle.rv_ops.specs.Names.{first_named}
+use Rattle.rv_ops.specs.declared.op.Shape.{Shape}
+use Rattle.rv_ops.specs.declared.op.Shape.TheVariants as shape
+use Rattle.rv_expr.specs.declared.tree.LabelReference.{LabelReference}
+use Rattle.rv_expr.specs.Depth.{depth_of}
+use Rattle.rv_expr.specs.Reading.{expression_of}
+use Rattle.rv_expr.specs.Tree.{Tree, label_of}
+use Rattle.rv_stmt.specs.declared.modifiers.Modifier.{Modifier}
+use Rattle.rv_stmt.specs.declared.modifiers.Modifier.TheVariants as modifier
+use Rattle.rv_stmt.specs.declared.modifiers.TheConstants.{MODIFIERS}
+use Rattle.rv_stmt.specs.Readings.{Reading, and_then, or_fault}
+use Rattle.rv_stmt.specs.Tokens.{sign_at, word_at}
+
+-- an expression, a part of its value, or the low part of what a label names
+pub data Value : Type 0 where
+  Plain : Tree → Value
+  High : Tree → Value
+  Low : Tree → Value
+  PcrelHigh : Tree → Value
+  PcrelLow : LabelReference → Value
+
+abbrev pub is_deep : List Piece → Bool
+is_deep run = nat_lt 64 (depth_of run)
+
+abbrev pub expression : List Piece → Reading Tree
+expression run = if is_deep run then Err TooDeep else or_fault BadOperand (expression_of run)
+
+abbrev pub plain : List Piece → Reading Value
+plain run = and_then (expression run) (λ e. Ok (Plain e))
+
+-- the names of the modifiers
+unfoldable pub modifier_names : List (Modifier × List ℕ)
+modifier_names = map (λ row. (row.0, row.1.now)) MODIFIERS
+
+unfoldable pub modifier_named : List ℕ → Option Modifier
+modifier_named name = first_named modifier_names name
+
+-- the modifiers that a shape takes: those of the upper 20 bits, those of the lower 12 bits, or none
+abbrev pub takes_modifier : Shape → Modifier → Bool
+takes_modifier shape.Upper modifier.High = true
+takes_modifier shape.Upper modifier.PcrelHigh = true
+takes_modifier shape.JumpRegister modifier.Low = true
+takes_modifier shape.JumpRegister modifier.PcrelLow = true
+takes_modifier shape.Load modifier.Low = true
+takes_modifier shape.Load modifier.PcrelLow = true
+takes_modifier shape.Store modifier.Low = true
+takes_modifier shape.Store modifier.PcrelLow = true
+takes_modifier shape.Immediate modifier.Low = true
+takes_modifier shape.Immediate modifier.PcrelLow = true
+takes_modifier s m = false
+
+abbrev pub taken_modifier : Shape → Option Modifier → Option Modifier
+taken_modifier s None = None
+taken_modifier s (Some m) = if takes_modifier s m then Some m else None
+
+-- a symbol, a local label or `.`, which one token is
+abbrev pub label_reference : List Piece → Reading LabelReference
+label_reference run =
+    if length run == 1 then and_then (expression run) (λ e. or_fault BadOperand (label_of e)) else Err BadOperand
+
+-- the value that a modifier makes of what stands between its parentheses
+abbrev pub modified : Modifier → List Piece → Reading Value
+modified modifier.High run = and_then (expression run) (λ e. Ok (High e))
+modified modifier.Low run = and_then (expression run) (λ e. Ok (Low e))
+modified modifier.PcrelHigh run = and_then (expression run) (λ e. Ok (PcrelHigh e))
+modified modifier.PcrelLow run = and_then (label_reference run) (λ label. Ok (PcrelLow label))
+
+-- `%name(..)`, with a modifier that the shape takes
+abbrev pub modified_value : Shape → List Piece → Reading Value
+modified_value s run =
+    if nat_le 4 (length run) && sign_at (codes "(") run 2 && sign_at (codes ")") run (length run - 1)
+    then and_then
+    (or_fault BadOperand (taken_modifier s (option_and_then modifier_named (word_at run 1))))
+    (λ m. modified m (slice_range run 3 (length run - 1)))
+    else Err BadOperand
+
+-- an immediate: an expression, or one with a modifier
+abbrev pub immediate : Shape → List Piece → Reading Value
+immediate s run = if sign_at (codes "%") run 0 then modified_value s run else plain run

@@ -1,0 +1,93 @@
+//! Reads the operands of an instruction, each by its slot.
+
+ghost use Rattle.std.specs.Prelude.{◌≡◌, map, IfOk};
+ghost use Rattle.rv_stmt.specs.Slots.{slot_of, operand_of_slot, slots_read};
+ghost use Rattle.rv_stmt.specs.Views.{reading_view, draft_view, run_view};
+
+use crate::draft::Draft;
+use crate::operand::Role;
+use crate::registers::Takes;
+use crate::runs::Run;
+use crate::slots::Slot;
+use crate::values::Reading;
+use rv_ops::{Op, classes};
+use rv_text::{Fault, FaultNumber};
+use std::alloc::{AllocError, Global};
+
+impl Draft {
+    // One operand, by its slot.
+    fn slot(
+        self,
+        alloc: Global,
+        op: Op,
+        slot: Slot,
+        run: &Run<'_>,
+    ) -> Result<Reading<Draft>, AllocError>
+        ensures { IfOk result (λ r. reading_view draft_view r ≡ slot_of op slot run.now.tokens run.now.span (draft_view self)) }
+    {
+        match slot {
+            Slot::Rd => Ok(self.rd_slot(Takes::Class(classes(op).0), &run.tokens)),
+            Slot::Rs1 => Ok(self.rs1_slot(Takes::Class(classes(op).1), &run.tokens)),
+            Slot::Rs2 => Ok(self.rs2_slot(Takes::Class(classes(op).2), &run.tokens)),
+            Slot::StackPointer => Ok(self.stack_pointer_slot(&run.tokens)),
+            Slot::Immediate => self.immediate_slot(alloc, op, run),
+            Slot::SourceImmediate => self.expression_slot(alloc, Role::SourceImmediate, run),
+            Slot::Target => self.expression_slot(alloc, Role::Target, run),
+            Slot::Memory => self.memory_slot(alloc, op, run),
+            Slot::StackMemory => self.stack_memory_slot(alloc, op, run),
+            Slot::MemoryOrRegister => self.memory_or_register_slot(alloc, op, run),
+            Slot::MemoryOrAddress => self.memory_or_address_slot(alloc, op, run),
+            Slot::Address => self.expression_slot(alloc, Role::PairTarget, run),
+            Slot::AddressThroughRd => self.address_through_rd_slot(alloc, run),
+            Slot::Csr => self.csr_slot(alloc, run),
+            Slot::Predecessors => Ok(self.predecessors_slot(&run.tokens)),
+            Slot::Successors => Ok(self.successors_slot(&run.tokens)),
+            Slot::Constant => self.expression_slot(alloc, Role::Constant, run),
+        }
+    }
+
+    // One operand, or what is wrong with it; too many open parentheses are wrong whatever else it is.
+    fn operand(
+        self,
+        alloc: Global,
+        op: Op,
+        slot: Slot,
+        run: &Run<'_>,
+    ) -> Result<Result<Draft, Fault>, AllocError>
+        ensures { IfOk result (λ r. reading_view draft_view r ≡ operand_of_slot op slot (run_view run.now) (draft_view self)) }
+    {
+        let span = run.span;
+        if run.tokens.is_deep() {
+            let number = FaultNumber::TooDeep;
+            return Ok(Err(Fault { number, span }));
+        }
+        let draft = self.slot(alloc, op, slot, run)?;
+        Ok(draft.map_err(|number| Fault { number, span }))
+    }
+
+    /// The operands from left to right, up to the first fault.
+    pub fn operands(
+        self,
+        alloc: Global,
+        op: Op,
+        mut slots: &[Slot],
+        mut runs: &[Run<'_>],
+    ) -> Result<Result<Draft, Fault>, AllocError>
+        ensures { IfOk result (λ r. reading_view draft_view r
+            ≡ slots_read op slots.entry.now (map run_view runs.entry.now) (draft_view self)) }
+    {
+        let mut draft = self;
+        while let [slot, more_slots @ ..] = slots {
+            let [run, more_runs @ ..] = runs else {
+                return Ok(Ok(draft));
+            };
+            match draft.operand(alloc, op, *slot, run)? {
+                Ok(next) => draft = next,
+                Err(fault) => return Ok(Err(fault)),
+            }
+            slots = more_slots;
+            runs = more_runs;
+        }
+        Ok(Ok(draft))
+    }
+}

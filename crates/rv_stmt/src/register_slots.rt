@@ -1,0 +1,58 @@
+//! The operands that are registers or sets.
+
+ghost use Rattle.std.specs.Prelude.{◌≡◌};
+ghost use Rattle.rv_stmt.specs.declared.registers.Takes.TheVariants.{StackPointer};
+ghost use Rattle.rv_stmt.specs.Draft.{with_rd, with_rs1, with_rs2};
+ghost use Rattle.rv_stmt.specs.Slots.{register_slot, predecessors_slot, successors_slot};
+ghost use Rattle.rv_stmt.specs.Views.{reading_view, draft_view};
+
+use crate::draft::Draft;
+use crate::registers::{Takes, register};
+use crate::sets::set;
+use crate::token_range::TokenRange;
+use crate::values::Reading;
+
+impl Draft {
+    /// A register, into `rd`.
+    pub fn rd_slot(self, takes: Takes, run: &TokenRange<'_>) -> Reading<Draft>
+        ensures { reading_view draft_view result ≡ register_slot takes run.now (with_rd (draft_view self)) }
+    {
+        Ok(self.with_rd(register(takes, run)?))
+    }
+
+    /// A register, into `rs1`.
+    pub fn rs1_slot(self, takes: Takes, run: &TokenRange<'_>) -> Reading<Draft>
+        ensures { reading_view draft_view result ≡ register_slot takes run.now (with_rs1 (draft_view self)) }
+    {
+        Ok(self.with_rs1(register(takes, run)?))
+    }
+
+    /// A register, into `rs2`.
+    pub fn rs2_slot(self, takes: Takes, run: &TokenRange<'_>) -> Reading<Draft>
+        ensures { reading_view draft_view result ≡ register_slot takes run.now (with_rs2 (draft_view self)) }
+    {
+        Ok(self.with_rs2(register(takes, run)?))
+    }
+
+    /// The register `sp`, which no field holds.
+    pub fn stack_pointer_slot(self, run: &TokenRange<'_>) -> Reading<Draft>
+        ensures { reading_view draft_view result ≡ register_slot StackPointer run.now (λ n. draft_view self) }
+    {
+        register(Takes::StackPointer, run)?;
+        Ok(self)
+    }
+
+    /// A fence's set of predecessors, in the place of `rs1`.
+    pub fn predecessors_slot(self, run: &TokenRange<'_>) -> Reading<Draft>
+        ensures { reading_view draft_view result ≡ predecessors_slot run.now (draft_view self) }
+    {
+        Ok(self.with_rs1(set(run)?))
+    }
+
+    /// A fence's set of successors, in the place of `rs2`.
+    pub fn successors_slot(self, run: &TokenRange<'_>) -> Reading<Draft>
+        ensures { reading_view draft_view result ≡ successors_slot run.now (draft_view self) }
+    {
+        Ok(self.with_rs2(set(run)?))
+    }
+}
