@@ -1,12 +1,12 @@
 -- One step along the labels of a line.
-use Rattle.std.proofs.Common.{◌≡◌, ℕ, ◌+◌, ◌-◌, ◌≤◌, List, [], ◌∷◌, ◌++◌, length, drop, zero, suc, is_some, option_and_then, codes, if◌then◌else◌, append_assoc, Option, Some, None, refl, sym, ap, ◌∙◌, arith}
+use Rattle.std.proofs.Common.{◌≡◌, ℕ, ◌+◌, ◌-◌, ◌≤◌, List, [], ◌∷◌, ◌++◌, length, drop, zero, suc, option_and_then, codes, if◌then◌else◌, append_assoc, Option, Some, None, refl, sym, ap, ◌∙◌, arith}
 use Rattle.std.proofs.lemmas.List.{drop-drop, length-drop}
 use Rattle.std.proofs.lemmas.Option.{none-some}
 use Rattle.std.specs.List.{slice_get}
 use Rattle.rv_text.specs.Lexing.{Piece}
 use Rattle.rv_stmt.specs.declared.label.Label.{Label}
-use Rattle.rv_stmt.specs.Labels.{labelled, label_at, label_of, with_label}
-use Rattle.rv_stmt.specs.Tokens.{is_sign}
+use Rattle.rv_stmt.specs.Labels.{labels_and_body, label_at, label_of, with_label}
+use Rattle.rv_stmt.specs.Tokens.{is_sign_there}
 
 slice_get-drop : {A : Type 0} (xs : List A) (k i : ℕ) → slice_get xs (k + i) ≡ slice_get (drop k xs) i
 slice_get-drop xs zero i = let place : 0 + i ≡ i = omega arith in ap (slice_get xs) place
@@ -18,9 +18,7 @@ slice_get-drop (x ∷ xs) (suc k) i =
 -- the label of a token with another behind it
 abbrev label_of_two : Option Piece → Option Piece → Option Label
 label_of_two first second =
-    if is_some (option_and_then (λ p. if is_sign (codes ":") p then Some p else None) second)
-    then option_and_then label_of first
-    else None
+    if is_sign_there (codes ":") second then option_and_then label_of first else None
 
 label_at-drop : (ps : List Piece) (k : ℕ) → label_at ps k ≡ label_at (drop k ps) 0
 label_at-drop ps k =
@@ -31,23 +29,23 @@ label_at-drop ps k =
 
 -- a label in front: the others follow it and its `:`
 record IsLabelled (ps : List Piece) (label : Label) : Type 0 where
-  labels : (labelled ps).labels ≡ label ∷ (labelled (drop 2 ps)).labels
-  body : (labelled ps).body ≡ (labelled (drop 2 ps)).body
+  labels : (labels_and_body ps).labels ≡ label ∷ (labels_and_body (drop 2 ps)).labels
+  body : (labels_and_body ps).body ≡ (labels_and_body (drop 2 ps)).body
   within : 2 ≤ length ps
 
 first_label : (ps : List Piece) (label : Label) → label_at ps 0 ≡ Some label → IsLabelled ps label
 first_label [] label h = absurd (none-some label h)
 first_label (p ∷ []) label h = absurd (none-some label h)
 first_label (p ∷ q ∷ ps) label h = record {
-  labels = ap (λ l. (with_label l (p ∷ q ∷ ps) (labelled ps)).labels) h;
-  body = ap (λ l. (with_label l (p ∷ q ∷ ps) (labelled ps)).body) h;
+  labels = ap (λ l. (with_label l (p ∷ q ∷ ps) (labels_and_body ps)).labels) h;
+  body = ap (λ l. (with_label l (p ∷ q ∷ ps) (labels_and_body ps)).body) h;
   within = omega arith;
 }
 
-no_first_label : (ps : List Piece) → label_at ps 0 ≡ None → labelled ps ≡ record { labels = []; body = ps }
+no_first_label : (ps : List Piece) → label_at ps 0 ≡ None → labels_and_body ps ≡ record { labels = []; body = ps }
 no_first_label [] h = refl
 no_first_label (p ∷ []) h = refl
-no_first_label (p ∷ q ∷ ps) h = ap (λ l. with_label l (p ∷ q ∷ ps) (labelled ps)) h
+no_first_label (p ∷ q ∷ ps) h = ap (λ l. with_label l (p ∷ q ∷ ps) (labels_and_body ps)) h
 
 module _ (ps : List Piece) (k : ℕ) where
   -- a label at a place: what follows it and its `:`
@@ -55,14 +53,14 @@ module _ (ps : List Piece) (k : ℕ) where
     found : IsLabelled (drop k ps) label
     found = first_label (drop k ps) label (sym (label_at-drop ps k) ∙ h)
 
-    pub one_label : (ls : List Label) → (ls ++ (label ∷ [])) ++ (labelled (drop (k + 2) ps)).labels ≡ ls ++ (labelled (drop k ps)).labels
+    pub one_label : (ls : List Label) → (ls ++ (label ∷ [])) ++ (labels_and_body (drop (k + 2) ps)).labels ≡ ls ++ (labels_and_body (drop k ps)).labels
     one_label ls =
-        append_assoc ls (label ∷ []) (labelled (drop (k + 2) ps)).labels
-        ∙ ap (λ qs. ls ++ (label ∷ (labelled qs).labels)) (sym (drop-drop 2 k ps))
+        append_assoc ls (label ∷ []) (labels_and_body (drop (k + 2) ps)).labels
+        ∙ ap (λ qs. ls ++ (label ∷ (labels_and_body qs).labels)) (sym (drop-drop 2 k ps))
         ∙ ap (λ more. ls ++ more) (sym found.labels)
 
-    pub same_body : (labelled (drop (k + 2) ps)).body ≡ (labelled (drop k ps)).body
-    same_body = ap (λ qs. (labelled qs).body) (sym (drop-drop 2 k ps)) ∙ sym found.body
+    pub same_body : (labels_and_body (drop (k + 2) ps)).body ≡ (labels_and_body (drop k ps)).body
+    same_body = ap (λ qs. (labels_and_body qs).body) (sym (drop-drop 2 k ps)) ∙ sym found.body
 
     pub two_more : k ≤ length ps → k + 2 ≤ length ps
     two_more within =
@@ -71,11 +69,11 @@ module _ (ps : List Piece) (k : ℕ) where
 
   -- no label at a place: the body begins there
   module _ (h : label_at ps k ≡ None) where
-    none : labelled (drop k ps) ≡ record { labels = []; body = drop k ps }
+    none : labels_and_body (drop k ps) ≡ record { labels = []; body = drop k ps }
     none = no_first_label (drop k ps) (sym (label_at-drop ps k) ∙ h)
 
-    pub no_labels : (labelled (drop k ps)).labels ≡ []
+    pub no_labels : (labels_and_body (drop k ps)).labels ≡ []
     no_labels = ap (λ l. l.labels) none
 
-    pub body_here : (labelled (drop k ps)).body ≡ drop k ps
+    pub body_here : (labels_and_body (drop k ps)).body ≡ drop k ps
     body_here = ap (λ l. l.body) none

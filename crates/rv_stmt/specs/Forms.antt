@@ -1,4 +1,4 @@
--- The ways in which the instructions of a name are written.
+-- The ways in which the instructions of a name are written. (docs/LANGUAGE.md, Instructions)
 use denote.Enum.Declared.{tag_of}
 use Rattle.std.specs.Prelude.{ℕ, ℤ, pos, Bool, true, false, ◌==◌, ◌&&◌, nat_lt, List, [], ◌∷◌, ◌++◌, map, length, Option, Some, None, Result, Ok, Err, slice_index_or, if◌then◌else◌}
 use Rattle.std.specs.Str.{str_eq_ignore_ascii_case}
@@ -14,12 +14,12 @@ use Rattle.rv_stmt.specs.declared.slots.Slot.{Slot}
 use Rattle.rv_stmt.specs.declared.slots.TheConstants.{OPERANDS}
 use Rattle.rv_stmt.specs.Draft.{Fields, fields}
 
--- the operands of a shape, in the order in which they are written
+-- the operands of a shape, in the order in which they are written: the table is in the order of the shapes
 unfoldable pub slots_of : Shape → List Slot
 slots_of s = (slice_index_or OPERANDS (tag_of shape_type s) (Upper, record { now = [] })).1.now
 
 -- a way to write an instruction: its operation, the fields where no operand fills them, and the operands. It is the
--- operation's own way, or one of another name or with operands left out.
+-- operation's own way, or one of another name, with operands left out or in a further way.
 pub record Form : Type 0 where
   pub own : Bool
   pub op : Op
@@ -30,6 +30,7 @@ pub record Form : Type 0 where
 abbrev pub own_form : Op → Form
 own_form op = record { own = true; op = op; fields = fields 0 0 0 (pos 0); slots = slots_of (shape_of op) }
 
+-- the own way of the operation that has the name, if there is one
 abbrev pub own_forms : Option Op → List Form
 own_forms None = []
 own_forms (Some op) = own_form op ∷ []
@@ -57,10 +58,10 @@ abbrev pub forms_of : List ℕ → List Form
 forms_of name = own_forms (operation_named name) ++ forms_named other_forms name
 
 -- the first way with so many operands, or a fault
-abbrev pub chosen : FaultNumber → ℕ → List Form → Result Form FaultNumber
-chosen fault count [] = Err fault
-chosen fault count (f ∷ fs) = if length f.slots == count then Ok f else chosen OperandCount count fs
+abbrev pub first_of_count : FaultNumber → ℕ → List Form → Result Form FaultNumber
+first_of_count fault count [] = Err fault
+first_of_count fault count (f ∷ fs) = if length f.slots == count then Ok f else first_of_count OperandCount count fs
 
 -- the way of a name that takes so many operands
 abbrev pub form_of : List ℕ → ℕ → Result Form FaultNumber
-form_of name count = chosen UnknownName count (forms_of name)
+form_of name count = first_of_count UnknownName count (forms_of name)

@@ -1,4 +1,4 @@
--- The labels in front of a line's body.
+-- The labels in front of a line's body. (docs/LANGUAGE.md, Statements)
 use Rattle.std.specs.Prelude.{ℕ, List, [], ◌∷◌, Option, Some, None, option_map, option_and_then, ◌+◌, bytes_eq, codes, if◌then◌else◌}
 use Rattle.std.specs.List.{slice_get}
 use Rattle.rv_text.specs.declared.lexeme.TokenKind.{TokenKind}
@@ -35,7 +35,8 @@ abbrev pub with_label : Option Label → List Piece → Labelled → Labelled
 with_label None ps rest = record { labels = []; body = ps }
 with_label (Some label) ps rest = record { labels = label ∷ rest.labels; body = rest.body }
 
-abbrev pub labelled : List Piece → Labelled
-labelled [] = record { labels = []; body = [] }
-labelled (p ∷ []) = record { labels = []; body = p ∷ [] }
-labelled (p ∷ q ∷ ps) = with_label (label_at (p ∷ q ∷ ps) 0) (p ∷ q ∷ ps) (labelled ps)
+-- the labels in front, each with its `:`, and what follows the last
+abbrev pub labels_and_body : List Piece → Labelled
+labels_and_body [] = record { labels = []; body = [] }
+labels_and_body (p ∷ []) = record { labels = []; body = p ∷ [] }
+labels_and_body (p ∷ q ∷ ps) = with_label (label_at (p ∷ q ∷ ps) 0) (p ∷ q ∷ ps) (labels_and_body ps)

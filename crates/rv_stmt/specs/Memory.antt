@@ -1,4 +1,4 @@
--- Operands in memory: `offset(register)`.
+-- Operands in memory: `offset(register)`. (docs/LANGUAGE.md, Instructions)
 use Rattle.std.specs.Prelude.{ℕ, suc, ◌+◌, ◌-◌, ◌&&◌, ◌==◌, nat_le, List, [], ◌∷◌, length, take, drop, Option, Some, None, is_some, option_and_then, option_map, Ok, codes, if◌then◌else◌}
 use Rattle.rv_text.specs.declared.faults.FaultNumber.TheVariants.{BadRegister}
 use Rattle.rv_text.specs.Lexing.{Piece}
@@ -6,12 +6,13 @@ use Rattle.rv_ops.specs.Registers.{register_named}
 use Rattle.rv_ops.specs.declared.op.Shape.{Shape}
 use Rattle.rv_expr.specs.Depth.{depth_behind}
 use Rattle.rv_expr.specs.Roles.{role}
-use Rattle.rv_stmt.specs.declared.registers.Takes.{Takes}
+use Rattle.rv_stmt.specs.declared.registers.Accepted.{Accepted}
 use Rattle.rv_stmt.specs.Readings.{Reading, and_then, or_fault}
-use Rattle.rv_stmt.specs.Registers.{taken}
+use Rattle.rv_stmt.specs.Registers.{accepted_register}
 use Rattle.rv_stmt.specs.Tokens.{sign_at, word_at}
 use Rattle.rv_stmt.specs.Values.{Value, plain, modified_value}
 
+-- a place in memory: an offset from a register, which may be absent
 pub record Located : Type 0 where
   pub base : ℕ
   pub offset : Option Value
@@ -32,10 +33,11 @@ abbrev pub offset : List Piece → Reading (Option Value)
 offset [] = Ok None
 offset (p ∷ ps) = and_then (plain (p ∷ ps)) (λ v. Ok (Some v))
 
-abbrev pub located : Takes → Option ℕ → Reading (Option Value) → Reading Located
-located t base reading =
+-- the place of a base that the operand accepts, and of an offset; the base's fault comes first
+abbrev pub place_in_memory : Accepted → Option ℕ → Reading (Option Value) → Reading Located
+place_in_memory a base reading =
     and_then
-    (and_then (or_fault BadRegister base) (taken t))
+    (and_then (or_fault BadRegister base) (accepted_register a))
     (λ n. and_then reading (λ v. Ok (record { base = n; offset = v })))
 
 -- how many tokens there are up to the parenthesis that closes the first; `depth` are open
@@ -50,6 +52,7 @@ abbrev pub group_from : List Piece → ℕ → Option ℕ
 group_from run k =
     if sign_at (codes "(") run k then option_map (λ n. k + n) (closed_within 0 (drop k run)) else None
 
+-- that of a modifier at the front of a run
 abbrev pub group_of : List Piece → Option ℕ
 group_of run = group_from run (if is_some (word_at run 1) then 2 else 1)
 
@@ -57,15 +60,17 @@ group_of run = group_from run (if is_some (word_at run 1) then 2 else 1)
 abbrev pub base_behind : List Piece → ℕ → Option ℕ
 base_behind run n = if length run == n + 3 then base_at run n else None
 
-abbrev pub modified_memory : Shape → Takes → List Piece → Reading Located
-modified_memory s t run =
+-- an offset with a modifier, and behind it the base and nothing else
+abbrev pub modified_memory : Shape → Accepted → List Piece → Reading Located
+modified_memory s a run =
     and_then
     (or_fault BadRegister (group_of run))
-    (λ n. located t (base_behind run n) (and_then (modified_value s (take n run)) (λ v. Ok (Some v))))
+    (λ n. place_in_memory a (base_behind run n) (and_then (modified_value s (take n run)) (λ v. Ok (Some v))))
 
-abbrev pub plain_memory : Takes → List Piece → Reading Located
-plain_memory t run = located t (base_of run) (offset (take (length run - 3) run))
+-- an offset without a modifier before the base
+abbrev pub plain_memory : Accepted → List Piece → Reading Located
+plain_memory a run = place_in_memory a (base_of run) (offset (take (length run - 3) run))
 
 -- an offset with a modifier, or a plain one
-abbrev pub memory : Shape → Takes → List Piece → Reading Located
-memory s t run = if sign_at (codes "%") run 0 then modified_memory s t run else plain_memory t run
+abbrev pub memory : Shape → Accepted → List Piece → Reading Located
+memory s a run = if sign_at (codes "%") run 0 then modified_memory s a run else plain_memory a run

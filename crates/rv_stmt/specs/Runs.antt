@@ -1,4 +1,4 @@
--- How the tokens behind a name are cut into runs at commas.
+-- How the tokens behind a name are cut into runs at commas. (docs/LANGUAGE.md, Statements)
 use Rattle.std.specs.Prelude.{ℕ, ◌&&◌, ◌==◌, List, [], ◌∷◌, codes, if◌then◌else◌}
 use Rattle.rv_text.specs.declared.lexeme.Span.{Span}
 use Rattle.rv_text.specs.Lexing.{Piece}

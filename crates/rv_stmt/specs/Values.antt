@@ -1,4 +1,4 @@
--- The values of operands: expressions, and the modifiers that take a part of them.
+-- The values of operands: expressions, and the modifiers that take a part of them. (docs/LANGUAGE.md, Instructions)
 use Rattle.std.specs.Prelude.{ℕ, ◌-◌, Bool, true, false, ◌&&◌, ◌==◌, nat_lt, nat_le, List, length, map, Option, Some, None, option_and_then, Ok, Err, slice_range, codes, if◌then◌else◌}
 use Rattle.rv_text.specs.declared.faults.FaultNumber.TheVariants.{BadOperand, TooDeep}
 use Rattle.rv_text.specs.Lexing.{Piece}
@@ -23,12 +23,15 @@ pub data Value : Type 0 where
   PcrelHigh : Tree → Value
   PcrelLow : LabelReference → Value
 
+-- more than 64 parentheses are open at one place
 abbrev pub is_deep : List Piece → Bool
 is_deep run = nat_lt 64 (depth_of run)
 
+-- the expression that a run is
 abbrev pub expression : List Piece → Reading Tree
 expression run = if is_deep run then Err TooDeep else or_fault BadOperand (expression_of run)
 
+-- a value without a modifier
 abbrev pub plain : List Piece → Reading Value
 plain run = and_then (expression run) (λ e. Ok (Plain e))
 
@@ -36,6 +39,7 @@ plain run = and_then (expression run) (λ e. Ok (Plain e))
 unfoldable pub modifier_names : List (Modifier × List ℕ)
 modifier_names = map (λ row. (row.0, row.1.now)) MODIFIERS
 
+-- the modifier that has the name, in either letter case
 unfoldable pub modifier_named : List ℕ → Option Modifier
 modifier_named name = first_named modifier_names name
 
@@ -53,9 +57,10 @@ takes_modifier shape.Immediate modifier.Low = true
 takes_modifier shape.Immediate modifier.PcrelLow = true
 takes_modifier s m = false
 
-abbrev pub taken_modifier : Shape → Option Modifier → Option Modifier
-taken_modifier s None = None
-taken_modifier s (Some m) = if takes_modifier s m then Some m else None
+-- a modifier that the shape takes
+abbrev pub modifier_of_shape : Shape → Option Modifier → Option Modifier
+modifier_of_shape s None = None
+modifier_of_shape s (Some m) = if takes_modifier s m then Some m else None
 
 -- a symbol, a local label or `.`, which one token is
 abbrev pub label_reference : List Piece → Reading LabelReference
@@ -63,19 +68,19 @@ label_reference run =
     if length run == 1 then and_then (expression run) (λ e. or_fault BadOperand (label_of e)) else Err BadOperand
 
 -- the value that a modifier makes of what stands between its parentheses
-abbrev pub modified : Modifier → List Piece → Reading Value
-modified modifier.High run = and_then (expression run) (λ e. Ok (High e))
-modified modifier.Low run = and_then (expression run) (λ e. Ok (Low e))
-modified modifier.PcrelHigh run = and_then (expression run) (λ e. Ok (PcrelHigh e))
-modified modifier.PcrelLow run = and_then (label_reference run) (λ label. Ok (PcrelLow label))
+abbrev pub value_of_modifier : Modifier → List Piece → Reading Value
+value_of_modifier modifier.High run = and_then (expression run) (λ e. Ok (High e))
+value_of_modifier modifier.Low run = and_then (expression run) (λ e. Ok (Low e))
+value_of_modifier modifier.PcrelHigh run = and_then (expression run) (λ e. Ok (PcrelHigh e))
+value_of_modifier modifier.PcrelLow run = and_then (label_reference run) (λ label. Ok (PcrelLow label))
 
 -- `%name(..)`, with a modifier that the shape takes
 abbrev pub modified_value : Shape → List Piece → Reading Value
 modified_value s run =
     if nat_le 4 (length run) && sign_at (codes "(") run 2 && sign_at (codes ")") run (length run - 1)
     then and_then
-    (or_fault BadOperand (taken_modifier s (option_and_then modifier_named (word_at run 1))))
-    (λ m. modified m (slice_range run 3 (length run - 1)))
+    (or_fault BadOperand (modifier_of_shape s (option_and_then modifier_named (word_at run 1))))
+    (λ m. value_of_modifier m (slice_range run 3 (length run - 1)))
     else Err BadOperand
 
 -- an immediate: an expression, or one with a modifier

@@ -1,5 +1,6 @@
 -- What the values of the code mean.
 use Rattle.std.specs.Prelude.{map, Result, Ok, Err, option_map}
+use Rattle.rv_text.specs.Lexing.{Piece}
 use Rattle.rv_expr.specs.Tree.{tree_of}
 use Rattle.rv_stmt.specs.declared.draft.Draft.{Draft as CodeDraft}
 use Rattle.rv_stmt.specs.declared.operand.OperandValue.{OperandValue}
@@ -12,6 +13,7 @@ use Rattle.rv_stmt.specs.declared.statement.Instruction.{Instruction as CodeInst
 use Rattle.rv_stmt.specs.declared.statement.Body.{Body as CodeBody}
 use Rattle.rv_stmt.specs.declared.statement.Body.TheVariants as code
 use Rattle.rv_stmt.specs.declared.statement.Stmt.{Stmt}
+use Rattle.rv_stmt.specs.declared.token_range.Lexeme.{Lexeme}
 use Rattle.rv_stmt.specs.Draft.{Operand, Draft}
 use Rattle.rv_stmt.specs.Forms.{Form}
 use Rattle.rv_stmt.specs.Memory.{Located}
@@ -23,6 +25,9 @@ use Rattle.rv_stmt.specs.Values.{Value, Plain, High, Low, PcrelHigh, PcrelLow}
 abbrev pub reading_view : {A B E : Type 0} → (A → B) → Result A E → Result B E
 reading_view f (Ok x) = Ok (f x)
 reading_view f (Err fault) = Err fault
+
+abbrev pub lexeme_view : Lexeme → Piece
+lexeme_view l = record { kind = l.kind; text = l.text.now; span = l.span }
 
 abbrev pub run_view : CodeRun → Run
 run_view r = record { pieces = r.tokens; span = r.span }

@@ -6,7 +6,7 @@ ghost use Rattle.rv_stmt.specs.Slots.{with_waiting, with_offset};
 ghost use Rattle.rv_stmt.specs.Views.{reading_view, value_view, operand_view, draft_view};
 
 use crate::operand::{Operand, OperandValue, Role};
-use crate::values::Reading;
+use crate::reading::{Attempt, Reading};
 use rv_code::Fields;
 use rv_ops::Reg;
 use rv_text::Span;
@@ -90,7 +90,7 @@ impl Draft {
         role: Role,
         span: Span,
         value: Reading<OperandValue>,
-    ) -> Result<Reading<Draft>, AllocError>
+    ) -> Attempt<Draft>
         ensures { IfOk result (λ r. reading_view draft_view r ≡ with_waiting role span (draft_view self) (reading_view value_view value)) }
     {
         match value {
@@ -100,11 +100,7 @@ impl Draft {
     }
 
     /// With the offset of a place in memory, 0 where it is absent.
-    pub fn with_offset(
-        self,
-        span: Span,
-        offset: Option<OperandValue>,
-    ) -> Result<Reading<Draft>, AllocError>
+    pub fn with_offset(self, span: Span, offset: Option<OperandValue>) -> Attempt<Draft>
         ensures { IfOk result (λ r. reading_view draft_view r ≡ with_offset span (draft_view self) (option_map value_view offset)) }
     {
         match offset {

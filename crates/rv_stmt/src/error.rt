@@ -10,7 +10,7 @@ use thiserror::Error;
 /// Why a line was not read. What is wrong with the line itself is told in its statement.
 #[derive(Clone, Copy, Debug, PartialEq, Eq, Drop, Error)]
 pub enum StmtError {
-    /// There was no memory for the statement.
+    /// There was no memory for the tokens or the statement.
     #[error("out of memory")]
     Memory,
 }

@@ -2,12 +2,12 @@
 
 ghost use Rattle.std.specs.Prelude.{◌≡◌, map, IsTrue, IfSome, IsSome};
 ghost use Rattle.std.specs.List.{list_all};
-ghost use Rattle.rv_stmt.specs.Forms.{slots_of, own_form, forms_named, named_form, has_registers, other_forms, chosen, form_of};
+ghost use Rattle.rv_stmt.specs.Forms.{slots_of, own_form, forms_named, named_form, has_registers, other_forms, first_of_count, form_of};
 ghost use Rattle.rv_stmt.specs.Views.{reading_view, form_view};
 
-use crate::forms::FORMS;
+use crate::forms::{FORMS, FormRow};
+use crate::reading::Reading;
 use crate::slots::{OPERANDS, Slot};
-use crate::values::Reading;
 use rv_code::Fields;
 use rv_ops::{Op, Reg, Shape, is_name, op_by_name, shape};
 use rv_text::FaultNumber;
@@ -15,7 +15,7 @@ use rv_text::FaultNumber;
 /// A way to write an instruction: its operation, the fields where no operand fills them, and the operands.
 #[derive(Clone, Copy)]
 pub struct Form {
-    /// Whether it is the operation's own way, and not one of another name or with operands left out.
+    /// Whether it is the operation's own way, and not one of another name, with operands left out or in a further way.
     pub own: bool,
     pub op: Op,
     pub fields: Fields,
@@ -49,7 +49,7 @@ fn own_form(op: Op) -> Form
 }
 
 // The way of a row of the table of other ways.
-fn form_of_row(row: &(&'static str, Op, (u8, u8, u8, i32), &'static [Slot])) -> Option<Form>
+fn form_of_row(row: &FormRow) -> Option<Form>
     ensures registers { IsTrue (has_registers row.now.2) → IsSome result }
     ensures form { IfSome result (λ f. form_view f ≡ (named_form row.now.0.now row.now.1 row.now.2 row.now.3.now).1) }
 {
@@ -70,14 +70,14 @@ fn form_of_row(row: &(&'static str, Op, (u8, u8, u8, i32), &'static [Slot])) -> 
 
 // The first of these ways that has the name and so many operands; `fault` where none has the name.
 fn other_form(
-    mut forms: &[(&'static str, Op, (u8, u8, u8, i32), &'static [Slot])],
+    mut forms: &[FormRow],
     name: &[u8],
     count: usize,
     unknown: FaultNumber,
 ) -> Reading<Form>
     requires { IsTrue (list_all (λ row. has_registers row.2) forms.now) }
     ensures { reading_view form_view result
-        ≡ chosen unknown count (forms_named (map (λ row. named_form row.0.now row.1 row.2 row.3.now) forms.entry.now) name.now) }
+        ≡ first_of_count unknown count (forms_named (map (λ row. named_form row.0.now row.1 row.2 row.3.now) forms.entry.now) name.now) }
 {
     let mut fault = unknown;
     while let [row, rest @ ..] = forms {

@@ -12,7 +12,7 @@ pub enum LabelName {
     Local(u16),
 }
 
-/// A label, with its span.
+/// A label; the span is that of its name, without the `:`.
 #[derive(Drop)]
 pub struct Label {
     pub name: LabelName,

@@ -1,7 +1,7 @@
 //! Reads the labels in front of a line's body.
 
 ghost use Rattle.std.specs.Prelude.{◌≡◌, ◌≤◌, ◌<◌, ◌^◌, length, drop, IfOk};
-ghost use Rattle.rv_stmt.specs.Labels.{label_name, labelled, label_at};
+ghost use Rattle.rv_stmt.specs.Labels.{label_name, labels_and_body, label_at};
 
 use crate::label::{Label, LabelName};
 use crate::token_range::TokenRange;
@@ -32,18 +32,21 @@ fn label_at(alloc: Global, line: &TokenRange<'_>, place: usize) -> Result<Option
     if !line.sign_at(b":", place + 1) {
         return Ok(None);
     }
-    let Some((kind, text, span)) = line.token_at(place) else {
+    let Some(token) = line.token_at(place) else {
         return Ok(None);
     };
-    let name = label_name(alloc, kind, text)?;
-    Ok(name.map(|name| Label { name, span }))
+    let name = label_name(alloc, token.kind, token.text)?;
+    Ok(name.map(|name| Label {
+        name,
+        span: token.span,
+    }))
 }
 
 /// The labels of a line, and how many of its tokens they take, each with its `:`.
 pub fn labels(alloc: Global, line: &TokenRange<'_>) -> Result<(Vec<Label>, usize), AllocError>
     requires { length line.now < 2 ^ 31 }
-    ensures labels { IfOk result (λ r. r.0.items ≡ (labelled line.now).labels) }
-    ensures body { IfOk result (λ r. drop r.1 line.now ≡ (labelled line.now).body) }
+    ensures labels { IfOk result (λ r. r.0.items ≡ (labels_and_body line.now).labels) }
+    ensures body { IfOk result (λ r. drop r.1 line.now ≡ (labels_and_body line.now).body) }
     ensures within { IfOk result (λ r. r.1 ≤ length line.now) }
 {
     let mut labels = Vec::new(alloc);

@@ -12,6 +12,7 @@ mod memory;
 mod modifiers;
 mod operand;
 mod operands;
+mod reading;
 mod register_slots;
 mod registers;
 mod runs;

@@ -9,8 +9,9 @@ use crate::statement::{Stmt, statement};
 use rv_text::{Count, tokens};
 use std::alloc::Global;
 
-/// The statement of a line, which may be faulty: labels, then an instruction, a name that stands for one or two
-/// instructions, or the first fault. The counter's number of lines read goes up by one, whatever the outcome.
+/// The statement of a line, which may be faulty: labels, then nothing, an instruction, a name that stands for one or
+/// two instructions, or the first fault. The line has at most 1,000 bytes. The counter's number of lines read goes up by
+/// one, whatever the outcome.
 ///
 /// # Errors
 ///

@@ -5,13 +5,14 @@ ghost use Rattle.rv_stmt.specs.Memory.{base_at, base_of, offset, closed_within, 
 ghost use Rattle.rv_stmt.specs.Views.{reading_view, value_view, located_view};
 
 use crate::operand::OperandValue;
-use crate::registers::Takes;
+use crate::reading::Attempt;
+use crate::registers::Accepted;
 use crate::token_range::TokenRange;
-use crate::values::{Reading, modified_value, plain};
+use crate::values::{modified_value, plain};
 use rv_expr::depth_behind;
 use rv_ops::{Reg, Shape, reg_by_name};
 use rv_text::FaultNumber;
-use std::alloc::{AllocError, Global};
+use std::alloc::Global;
 
 /// A place in memory: the offset from a register, which may be absent.
 #[derive(Drop)]
@@ -52,7 +53,7 @@ fn closed_within(run: &TokenRange<'_>) -> Option<usize>
     let mut depth = 0;
     let mut length = 0;
     while let Some((token, behind)) = rest.split_first() {
-        depth = depth_behind(depth, token.0, token.1);
+        depth = depth_behind(depth, token.kind, token.text);
         length += 1;
         if depth == 0 {
             return Some(length);
@@ -88,7 +89,7 @@ fn base_behind(run: &TokenRange<'_>, place: usize) -> Option<Reg>
 }
 
 // The offset before a base; none where nothing stands there.
-fn offset(alloc: Global, run: &TokenRange<'_>) -> Result<Reading<Option<OperandValue>>, AllocError>
+fn offset(alloc: Global, run: &TokenRange<'_>) -> Attempt<Option<OperandValue>>
     ensures { IfOk result (λ r. reading_view (option_map value_view) r ≡ offset run.now) }
 {
     if run.len() == 0 {
@@ -101,15 +102,15 @@ fn offset(alloc: Global, run: &TokenRange<'_>) -> Result<Reading<Option<OperandV
 fn modified_memory(
     alloc: Global,
     shape: Shape,
-    takes: Takes,
+    accepted: Accepted,
     run: &TokenRange<'_>,
-) -> Result<Reading<Located>, AllocError>
-    ensures { IfOk result (λ r. reading_view located_view r ≡ modified_memory shape takes run.now) }
+) -> Attempt<Located>
+    ensures { IfOk result (λ r. reading_view located_view r ≡ modified_memory shape accepted run.now) }
 {
     let Some(length) = group_of(run) else {
         return Ok(Err(FaultNumber::BadRegister));
     };
-    let base = match takes.taken(base_behind(run, length)) {
+    let base = match accepted.check(base_behind(run, length)) {
         Ok(base) => base,
         Err(fault) => return Ok(Err(fault)),
     };
@@ -121,14 +122,10 @@ fn modified_memory(
 }
 
 // A place in memory whose offset has no modifier.
-fn plain_memory(
-    alloc: Global,
-    takes: Takes,
-    run: &TokenRange<'_>,
-) -> Result<Reading<Located>, AllocError>
-    ensures { IfOk result (λ r. reading_view located_view r ≡ plain_memory takes run.now) }
+fn plain_memory(alloc: Global, accepted: Accepted, run: &TokenRange<'_>) -> Attempt<Located>
+    ensures { IfOk result (λ r. reading_view located_view r ≡ plain_memory accepted run.now) }
 {
-    let base = match takes.taken(base_of(run)) {
+    let base = match accepted.check(base_of(run)) {
         Ok(base) => base,
         Err(fault) => return Ok(Err(fault)),
     };
@@ -136,19 +133,19 @@ fn plain_memory(
     Ok(offset.map(|offset| Located { base, offset }))
 }
 
-/// The place in memory that some tokens are: `offset(register)`, where the register is one of those taken and the
+/// The place in memory that some tokens are: `offset(register)`, where the register is one of those accepted and the
 /// offset has a modifier that the shape takes, or none.
 pub fn memory(
     alloc: Global,
     shape: Shape,
-    takes: Takes,
+    accepted: Accepted,
     run: &TokenRange<'_>,
-) -> Result<Reading<Located>, AllocError>
-    ensures { IfOk result (λ r. reading_view located_view r ≡ memory shape takes run.now) }
+) -> Attempt<Located>
+    ensures { IfOk result (λ r. reading_view located_view r ≡ memory shape accepted run.now) }
 {
     if run.sign_at(b"%", 0) {
-        modified_memory(alloc, shape, takes, run)
+        modified_memory(alloc, shape, accepted, run)
     } else {
-        plain_memory(alloc, takes, run)
+        plain_memory(alloc, accepted, run)
     }
 }

@@ -40,9 +40,9 @@ pub fn takes_modifier(shape: Shape, modifier: Modifier) -> bool
 {
     match modifier {
         Modifier::High | Modifier::PcrelHigh => shape == Shape::Upper,
-        Modifier::Low | Modifier::PcrelLow => match shape {
-            Shape::JumpRegister | Shape::Load | Shape::Store | Shape::Immediate => true,
-            _ => false,
-        },
+        Modifier::Low | Modifier::PcrelLow => matches!(
+            shape,
+            Shape::JumpRegister | Shape::Load | Shape::Store | Shape::Immediate
+        ),
     }
 }

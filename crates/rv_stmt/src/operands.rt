@@ -6,29 +6,23 @@ ghost use Rattle.rv_stmt.specs.Views.{reading_view, draft_view, run_view};
 
 use crate::draft::Draft;
 use crate::operand::Role;
-use crate::registers::Takes;
+use crate::reading::Attempt;
+use crate::registers::Accepted;
 use crate::runs::Run;
 use crate::slots::Slot;
-use crate::values::Reading;
 use rv_ops::{Op, classes};
 use rv_text::{Fault, FaultNumber};
 use std::alloc::{AllocError, Global};
 
 impl Draft {
     // One operand, by its slot.
-    fn slot(
-        self,
-        alloc: Global,
-        op: Op,
-        slot: Slot,
-        run: &Run<'_>,
-    ) -> Result<Reading<Draft>, AllocError>
-        ensures { IfOk result (λ r. reading_view draft_view r ≡ slot_of op slot run.now.tokens run.now.span (draft_view self)) }
+    fn read_slot(self, alloc: Global, op: Op, slot: Slot, run: &Run<'_>) -> Attempt<Draft>
+        ensures { IfOk result (λ r. reading_view draft_view r ≡ slot_of op slot (run_view run.now) (draft_view self)) }
     {
         match slot {
-            Slot::Rd => Ok(self.rd_slot(Takes::Class(classes(op).0), &run.tokens)),
-            Slot::Rs1 => Ok(self.rs1_slot(Takes::Class(classes(op).1), &run.tokens)),
-            Slot::Rs2 => Ok(self.rs2_slot(Takes::Class(classes(op).2), &run.tokens)),
+            Slot::Rd => Ok(self.rd_slot(Accepted::Class(classes(op).0), &run.tokens)),
+            Slot::Rs1 => Ok(self.rs1_slot(Accepted::Class(classes(op).1), &run.tokens)),
+            Slot::Rs2 => Ok(self.rs2_slot(Accepted::Class(classes(op).2), &run.tokens)),
             Slot::StackPointer => Ok(self.stack_pointer_slot(&run.tokens)),
             Slot::Immediate => self.immediate_slot(alloc, op, run),
             Slot::SourceImmediate => self.expression_slot(alloc, Role::SourceImmediate, run),
@@ -47,7 +41,7 @@ impl Draft {
     }
 
     // One operand, or what is wrong with it; too many open parentheses are wrong whatever else it is.
-    fn operand(
+    fn read_operand(
         self,
         alloc: Global,
         op: Op,
@@ -58,15 +52,17 @@ impl Draft {
     {
         let span = run.span;
         if run.tokens.is_deep() {
-            let number = FaultNumber::TooDeep;
-            return Ok(Err(Fault { number, span }));
+            return Ok(Err(Fault {
+                number: FaultNumber::TooDeep,
+                span,
+            }));
         }
-        let draft = self.slot(alloc, op, slot, run)?;
+        let draft = self.read_slot(alloc, op, slot, run)?;
         Ok(draft.map_err(|number| Fault { number, span }))
     }
 
     /// The operands from left to right, up to the first fault.
-    pub fn operands(
+    pub fn read_operands(
         self,
         alloc: Global,
         op: Op,
@@ -81,7 +77,7 @@ impl Draft {
             let [run, more_runs @ ..] = runs else {
                 return Ok(Ok(draft));
             };
-            match draft.operand(alloc, op, *slot, run)? {
+            match draft.read_operand(alloc, op, *slot, run)? {
                 Ok(next) => draft = next,
                 Err(fault) => return Ok(Err(fault)),
             }

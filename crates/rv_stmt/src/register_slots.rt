@@ -1,44 +1,44 @@
 //! The operands that are registers or sets.
 
 ghost use Rattle.std.specs.Prelude.{◌≡◌};
-ghost use Rattle.rv_stmt.specs.declared.registers.Takes.TheVariants.{StackPointer};
+ghost use Rattle.rv_stmt.specs.declared.registers.Accepted.TheVariants.{StackPointer};
 ghost use Rattle.rv_stmt.specs.Draft.{with_rd, with_rs1, with_rs2};
 ghost use Rattle.rv_stmt.specs.Slots.{register_slot, predecessors_slot, successors_slot};
 ghost use Rattle.rv_stmt.specs.Views.{reading_view, draft_view};
 
 use crate::draft::Draft;
-use crate::registers::{Takes, register};
+use crate::reading::Reading;
+use crate::registers::{Accepted, register};
 use crate::sets::set;
 use crate::token_range::TokenRange;
-use crate::values::Reading;
 
 impl Draft {
     /// A register, into `rd`.
-    pub fn rd_slot(self, takes: Takes, run: &TokenRange<'_>) -> Reading<Draft>
-        ensures { reading_view draft_view result ≡ register_slot takes run.now (with_rd (draft_view self)) }
+    pub fn rd_slot(self, accepted: Accepted, run: &TokenRange<'_>) -> Reading<Draft>
+        ensures { reading_view draft_view result ≡ register_slot accepted run.now (with_rd (draft_view self)) }
     {
-        Ok(self.with_rd(register(takes, run)?))
+        Ok(self.with_rd(register(accepted, run)?))
     }
 
     /// A register, into `rs1`.
-    pub fn rs1_slot(self, takes: Takes, run: &TokenRange<'_>) -> Reading<Draft>
-        ensures { reading_view draft_view result ≡ register_slot takes run.now (with_rs1 (draft_view self)) }
+    pub fn rs1_slot(self, accepted: Accepted, run: &TokenRange<'_>) -> Reading<Draft>
+        ensures { reading_view draft_view result ≡ register_slot accepted run.now (with_rs1 (draft_view self)) }
     {
-        Ok(self.with_rs1(register(takes, run)?))
+        Ok(self.with_rs1(register(accepted, run)?))
     }
 
     /// A register, into `rs2`.
-    pub fn rs2_slot(self, takes: Takes, run: &TokenRange<'_>) -> Reading<Draft>
-        ensures { reading_view draft_view result ≡ register_slot takes run.now (with_rs2 (draft_view self)) }
+    pub fn rs2_slot(self, accepted: Accepted, run: &TokenRange<'_>) -> Reading<Draft>
+        ensures { reading_view draft_view result ≡ register_slot accepted run.now (with_rs2 (draft_view self)) }
     {
-        Ok(self.with_rs2(register(takes, run)?))
+        Ok(self.with_rs2(register(accepted, run)?))
     }
 
     /// The register `sp`, which no field holds.
     pub fn stack_pointer_slot(self, run: &TokenRange<'_>) -> Reading<Draft>
         ensures { reading_view draft_view result ≡ register_slot StackPointer run.now (λ n. draft_view self) }
     {
-        register(Takes::StackPointer, run)?;
+        register(Accepted::StackPointer, run)?;
         Ok(self)
     }
 

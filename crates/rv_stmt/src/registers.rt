@@ -3,42 +3,40 @@
 ghost use Rattle.std.specs.Prelude.{◌≡◌};
 ghost use Rattle.rv_text.specs.declared.faults.FaultNumber.TheVariants.{BadRegister};
 ghost use Rattle.rv_stmt.specs.Readings.{and_then, or_fault};
-ghost use Rattle.rv_stmt.specs.Registers.{takes, taken, register_in, register, csr_in};
+ghost use Rattle.rv_stmt.specs.Registers.{accepts, accepted_register, register_in, register, csr_in};
 
+use crate::reading::Reading;
 use crate::token_range::TokenRange;
-use crate::values::Reading;
 use rv_code::in_class;
 use rv_ops::{Csr, Reg, RegisterClass, csr_by_name, reg_by_name};
 use rv_text::FaultNumber;
 
-/// The registers that a place takes.
+/// The registers that an operand accepts.
 #[derive(Clone, Copy, Debug, PartialEq, Eq)]
-pub enum Takes {
+pub enum Accepted {
     /// Those of a class.
     Class(RegisterClass),
     /// `sp` alone.
     StackPointer,
 }
 
-impl Takes {
-    /// Whether the place takes the register.
-    pub fn takes(self, register: Reg) -> bool
-        ensures { result ≡ takes self register }
+impl Accepted {
+    /// Whether the operand accepts the register.
+    pub fn accepts(self, register: Reg) -> bool
+        ensures { result ≡ accepts self register }
     {
         match self {
-            Takes::Class(class) => in_class(class, register),
-            Takes::StackPointer => register.number() == 2,
+            Accepted::Class(class) => in_class(class, register),
+            Accepted::StackPointer => register.number() == 2,
         }
     }
 
-    /// The register, if there is one and the place takes it.
-    pub fn taken(self, register: Option<Reg>) -> Reading<Reg>
-        ensures { result ≡ and_then (or_fault BadRegister register) (taken self) }
+    /// The register, if there is one and the operand accepts it.
+    pub fn check(self, register: Option<Reg>) -> Reading<Reg>
+        ensures { result ≡ and_then (or_fault BadRegister register) (accepted_register self) }
     {
-        let Some(register) = register else {
-            return Err(FaultNumber::BadRegister);
-        };
-        if self.takes(register) {
+        let register = register.ok_or(FaultNumber::BadRegister)?;
+        if self.accepts(register) {
             Ok(register)
         } else {
             Err(FaultNumber::RegisterRange)
@@ -54,11 +52,11 @@ pub fn register_in(run: &TokenRange<'_>) -> Option<Reg>
     reg_by_name(name)
 }
 
-/// The register whose name some tokens are, if the place takes it.
-pub fn register(places: Takes, run: &TokenRange<'_>) -> Reading<Reg>
-    ensures { result ≡ register places run.now }
+/// The register whose name some tokens are, if the operand accepts it.
+pub fn register(accepted: Accepted, run: &TokenRange<'_>) -> Reading<Reg>
+    ensures { result ≡ register accepted run.now }
 {
-    places.taken(register_in(run))
+    accepted.check(register_in(run))
 }
 
 /// The control and status register whose name some tokens are.

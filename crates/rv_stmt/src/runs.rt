@@ -5,11 +5,11 @@ ghost use Rattle.rv_text.specs.declared.lexeme.Span.{Span};
 ghost use Rattle.rv_stmt.specs.FirstRun.{run_length, run_end, runs_behind};
 ghost use Rattle.rv_stmt.specs.Runs.{runs_from, runs_of};
 ghost use Rattle.rv_stmt.specs.Tokens.{is_sign};
-ghost use Rattle.rv_stmt.specs.Views.{run_view};
+ghost use Rattle.rv_stmt.specs.Views.{lexeme_view, run_view};
 
-use crate::token_range::TokenRange;
+use crate::token_range::{Lexeme, TokenRange};
 use rv_expr::depth_behind;
-use rv_text::{Span, TokenKind};
+use rv_text::Span;
 use std::alloc::{AllocError, Global};
 
 /// The tokens between two commas, with the span from the first to the last. The span of no tokens is empty, at the
@@ -20,18 +20,11 @@ pub struct Run<'a> {
     pub span: Span,
 }
 
-// Whether a token is the sign.
-fn is_sign(token: (TokenKind, &[u8], Span), sign: &[u8]) -> bool
-    ensures { result ≡ is_sign sign.now (record { kind = token.entry.0; text = token.entry.1.now; span = token.entry.2 }) }
-{
-    token.0 == TokenKind::Sign && token.1 == sign
-}
-
 // Whether a token is a comma outside parentheses.
-fn ends_run(depth: usize, token: (TokenKind, &[u8], Span)) -> bool
-    ensures { result ≡ (is_sign (codes ",") (record { kind = token.entry.0; text = token.entry.1.now; span = token.entry.2 }) && depth == 0) }
+fn ends_run(depth: usize, token: &Lexeme<'_>) -> bool
+    ensures { result ≡ (is_sign (codes ",") (lexeme_view token.now) && depth == 0) }
 {
-    is_sign(token, b",") && depth == 0
+    token.is_sign(b",") && depth == 0
 }
 
 // How many tokens stand before the next comma outside parentheses, and where they end; `before` is the end of the
@@ -45,11 +38,11 @@ fn run_extent(tokens: &TokenRange<'_>, before: u32) -> (usize, u32)
     let mut depth = 0;
     let mut length = 0;
     while let Some((token, behind)) = rest.split_first() {
-        if ends_run(depth, token) {
+        if ends_run(depth, &token) {
             return (length, end);
         }
-        depth = depth_behind(depth, token.0, token.1);
-        end = token.2.to;
+        depth = depth_behind(depth, token.kind, token.text);
+        end = token.span.to;
         length += 1;
         rest = behind;
     }
@@ -64,7 +57,7 @@ fn next_run<'a>(tokens: &TokenRange<'a>, end: u32) -> (Run<'a>, TokenRange<'a>)
 {
     let (length, to) = run_extent(tokens, end);
     let from = match tokens.token_at(0) {
-        Some((_, _, first)) if length > 0 => first.from,
+        Some(first) if length > 0 => first.span.from,
         _ => end,
     };
     let run = Run {
@@ -92,10 +85,10 @@ pub fn runs<'a>(
     loop {
         let (run, behind) = next_run(&rest, end);
         runs.push(run)?;
-        let Some(((_, _, comma), behind)) = behind.split_first() else {
+        let Some((comma, behind)) = behind.split_first() else {
             return Ok(runs);
         };
-        end = comma.to;
+        end = comma.span.to;
         rest = behind;
     }
 }

@@ -3,6 +3,7 @@
 ghost use Rattle.std.specs.Prelude.{◌≡◌};
 ghost use Rattle.rv_stmt.specs.Registers.{set};
 
+use crate::reading::Reading;
 use crate::token_range::TokenRange;
 use rv_ops::{Reg, first_named};
 use rv_text::FaultNumber;
@@ -28,14 +29,10 @@ pub const SETS: [(u8, &str); 15] = [
 
 /// The set that some tokens spell, as the number of a register, in whose place a fence keeps it.
 #[tactic(auto, unfolding(crate::specs::Registers::set_names, crate::specs::Registers::set_named))]
-pub fn set(run: &TokenRange<'_>) -> Result<Reg, FaultNumber>
+pub fn set(run: &TokenRange<'_>) -> Reading<Reg>
     ensures { result ≡ set run.now }
 {
-    let Some(name) = run.one_word() else {
-        return Err(FaultNumber::BadOperand);
-    };
-    match first_named(&SETS, name).and_then(Reg::new) {
-        Some(bits) => Ok(bits),
-        None => Err(FaultNumber::BadOperand),
-    }
+    let name = run.one_word().ok_or(FaultNumber::BadOperand)?;
+    let bits = first_named(&SETS, name).and_then(Reg::new);
+    bits.ok_or(FaultNumber::BadOperand)
 }

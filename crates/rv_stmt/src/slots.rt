@@ -41,7 +41,7 @@ pub enum Slot {
     Constant,
 }
 
-/// Each shape with its operands, in the order in which they are written: RISC-V Unprivileged ISA 20191213,
+/// Each shape with its operands, in the order in which they are written; the shapes stand in their own order: RISC-V Unprivileged ISA 20191213,
 /// chapters 2, 7, 9, 16 and 25.
 pub const OPERANDS: [(Shape, &[Slot]); 31] = [
     (Shape::Upper, &[Slot::Rd, Slot::Immediate]),

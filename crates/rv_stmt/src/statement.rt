@@ -3,7 +3,7 @@
 ghost use Rattle.std.specs.Prelude.{◌≡◌, ◌<◌, ◌^◌, Ok, length, map, IfOk};
 ghost use Rattle.std.specs.List.{list_any};
 ghost use Rattle.rv_stmt.specs.Forms.{form_of};
-ghost use Rattle.rv_stmt.specs.Statement.{takes_two_words, drafted, formed, body_of, statement_of_lexed};
+ghost use Rattle.rv_stmt.specs.Statement.{is_pair, body_of_draft, body_of_form, body_of, statement_of_lexed};
 ghost use Rattle.rv_stmt.specs.Views.{operand_view, draft_view, form_view, run_view, body_view, statement_view};
 
 use crate::draft::Draft;
@@ -25,7 +25,7 @@ pub struct Instruction {
     /// The name as it is written.
     pub name: Span,
     pub op: Op,
-    /// The fields that the operands gave, and 0 where a value is still to come.
+    /// The fields that the name and the operands gave; 0 where a value is still to come.
     pub fields: Fields,
     pub operands: Vec<Operand>,
 }
@@ -37,7 +37,8 @@ pub enum Body {
     Empty,
     /// One instruction, written in its own way.
     Instr(Instruction),
-    /// One or two instructions, by another name, with operands left out, or with an address that takes two.
+    /// One or two instructions, by another name, with operands left out, in a further way, or with an address that
+    /// takes two.
     Pseudo(Instruction),
     /// What is wrong with the line.
     Faulty(Fault),
@@ -51,9 +52,9 @@ pub struct Stmt {
     pub body: Body,
 }
 
-// Whether two words stand for an instruction with these operands.
-fn takes_two_words(mut operands: &[Operand]) -> bool
-    ensures { result ≡ list_any takes_two_words (map operand_view operands.entry.now) }
+// Whether two words reach the address that one of the operands is.
+fn has_pair(mut operands: &[Operand]) -> bool
+    ensures { result ≡ list_any is_pair (map operand_view operands.entry.now) }
 {
     while let [operand, rest @ ..] = operands {
         if operand.role == Role::PairTarget {
@@ -65,18 +66,18 @@ fn takes_two_words(mut operands: &[Operand]) -> bool
 }
 
 // The body of an instruction whose operands are read.
-fn drafted(form: &Form, name: Span, draft: Draft) -> Body
-    ensures { body_view result ≡ drafted (form_view form.now) name (Ok (draft_view draft)) }
+fn body_of_draft(form: &Form, name: Span, draft: Draft) -> Body
+    ensures { body_view result ≡ body_of_draft (form_view form.now) name (Ok (draft_view draft)) }
 {
     let Draft { fields, operands } = draft;
-    let one_word = !takes_two_words(operands.as_slice());
+    let has_pair = has_pair(operands.as_slice());
     let instruction = Instruction {
         name,
         op: form.op,
         fields,
         operands,
     };
-    if form.own && one_word {
+    if form.own && !has_pair {
         Body::Instr(instruction)
     } else {
         Body::Pseudo(instruction)
@@ -84,22 +85,32 @@ fn drafted(form: &Form, name: Span, draft: Draft) -> Body
 }
 
 // The body of an instruction that is written in this way.
-fn formed(alloc: Global, form: &Form, name: Span, runs: &[Run<'_>]) -> Result<Body, AllocError>
-    ensures { IfOk result (λ b. body_view b ≡ formed name (map run_view runs.now) (Ok (form_view form.now))) }
+fn body_of_form(
+    alloc: Global,
+    form: &Form,
+    name: Span,
+    runs: &[Run<'_>],
+) -> Result<Body, AllocError>
+    ensures { IfOk result (λ b. body_view b ≡ body_of_form name (map run_view runs.now) (Ok (form_view form.now))) }
 {
     let draft = Draft::new(alloc, form.fields);
-    match draft.operands(alloc, form.op, form.slots, runs)? {
-        Ok(draft) => Ok(drafted(form, name, draft)),
+    match draft.read_operands(alloc, form.op, form.slots, runs)? {
+        Ok(draft) => Ok(body_of_draft(form, name, draft)),
         Err(fault) => Ok(Body::Faulty(fault)),
     }
 }
 
 // The body of a name and its runs.
-fn named(alloc: Global, name: &[u8], span: Span, runs: &[Run<'_>]) -> Result<Body, AllocError>
-    ensures { IfOk result (λ b. body_view b ≡ formed span (map run_view runs.now) (form_of name.now (length runs.now))) }
+fn body_of_name(
+    alloc: Global,
+    name: &[u8],
+    span: Span,
+    runs: &[Run<'_>],
+) -> Result<Body, AllocError>
+    ensures { IfOk result (λ b. body_view b ≡ body_of_form span (map run_view runs.now) (form_of name.now (length runs.now))) }
 {
     match form_of(name, runs.len()) {
-        Ok(form) => formed(alloc, &form, span, runs),
+        Ok(form) => body_of_form(alloc, &form, span, runs),
         Err(number) => Ok(Body::Faulty(Fault { number, span })),
     }
 }
@@ -109,19 +120,17 @@ fn named(alloc: Global, name: &[u8], span: Span, runs: &[Run<'_>]) -> Result<Bod
 fn body_of(alloc: Global, tokens: &TokenRange<'_>) -> Result<Body, AllocError>
     ensures { IfOk result (λ b. body_view b ≡ body_of tokens.now) }
 {
-    let Some(((kind, text, span), behind)) = tokens.split_first() else {
+    let Some((name, behind)) = tokens.split_first() else {
         return Ok(Body::Empty);
     };
-    match kind {
-        TokenKind::Word => {
-            let runs = runs(alloc, &behind, span.to)?;
-            named(alloc, text, span, runs.as_slice())
-        }
-        _ => Ok(Body::Faulty(Fault {
+    if name.kind != TokenKind::Word {
+        return Ok(Body::Faulty(Fault {
             number: FaultNumber::NoStatement,
-            span,
-        })),
+            span: name.span,
+        }));
     }
+    let runs = runs(alloc, &behind, name.span.to)?;
+    body_of_name(alloc, name.text, name.span, runs.as_slice())
 }
 
 /// The statement of a line's tokens.

@@ -1,6 +1,7 @@
 //! Lines with the statements that the standard and our rules give them.
 
 use super::*;
+use crate::slots::OPERANDS;
 use rv_expr::{BinaryOp, Direction, Expr, LabelReference, UnaryOp};
 use rv_ops::name_of;
 use rv_text::{Fault, Span, Tally};
@@ -588,4 +589,11 @@ fn depth_of_parentheses(rt: HostRuntime) -> Result<(), Fail> {
 #[test]
 fn refusal_has_a_number(rt: HostRuntime) {
     assert_eq!(rt; StmtError::Memory.number(), 1);
+}
+
+#[test]
+fn operands_in_the_order_of_the_shapes(rt: HostRuntime) {
+    for place in 0..OPERANDS.len() {
+        assert_eq!(rt; OPERANDS[place].0 as usize, place);
+    }
 }

@@ -2,18 +2,35 @@
 
 ghost use Rattle.std.specs.Prelude.{◌≡◌, ◌≤◌, ◌<◌, ◌^◌, [], ◌∷◌, length, drop, option_map, slice_range, Some, IfSome, IfNone, IfOk, IfErr};
 ghost use Rattle.std.specs.List.{slice_get};
-ghost use Rattle.rv_text.specs.Lexing.{Piece};
 ghost use Rattle.rv_expr.specs.Depth.{depth_of};
 ghost use Rattle.rv_expr.specs.Reading.{run_of, expression_of};
 ghost use Rattle.rv_expr.specs.Refusals.{Refuses};
 ghost use Rattle.rv_expr.specs.Tree.{tree_of};
-ghost use Rattle.rv_stmt.specs.Tokens.{sign_at, word_at, one_word};
+ghost use Rattle.rv_stmt.specs.Tokens.{is_sign, sign_at, word_at, one_word};
 ghost use Rattle.rv_stmt.specs.Values.{is_deep};
+ghost use Rattle.rv_stmt.specs.Views.{lexeme_view};
 
 use rv_expr::{Expr, MAX_DEPTH, ReadFault, parenthesis_depth, read};
 use rv_text::{Span, TokenKind, Tokens};
 use std::alloc::Global;
 use std::marker::Model;
+
+/// A token with its text.
+#[derive(Clone, Copy)]
+pub struct Lexeme<'a> {
+    pub kind: TokenKind,
+    pub text: &'a [u8],
+    pub span: Span,
+}
+
+impl Lexeme<'_> {
+    /// Whether it is the sign.
+    pub fn is_sign(&self, sign: &[u8]) -> bool
+        ensures { result ≡ is_sign sign.now (lexeme_view self.now) }
+    {
+        self.kind == TokenKind::Sign && self.text == sign
+    }
+}
 
 /// Tokens of a line from a place up to, and without, another. Contracts see them with their texts and spans.
 #[derive(Drop)]
@@ -52,15 +69,19 @@ impl<'a> TokenRange<'a> {
         self.to - self.from
     }
 
-    /// The kind, the text and the span of a token, if there is one at the place.
-    pub fn token_at(&self, place: usize) -> Option<(TokenKind, &'a [u8], Span)>
-        ensures { option_map {U = Piece} (λ t. record { kind = t.0; text = t.1.now; span = t.2 }) result ≡ slice_get self.now place }
+    /// The token at a place, if there is one.
+    pub fn token_at(&self, place: usize) -> Option<Lexeme<'a>>
+        ensures { option_map lexeme_view result ≡ slice_get self.now place }
     {
-        if place >= self.to - self.from {
+        if place >= self.len() {
             return None;
         }
         let token = self.tokens.tokens()[self.from + place];
-        Some((token.kind, self.tokens.text(self.from + place), token.span))
+        Some(Lexeme {
+            kind: token.kind,
+            text: self.tokens.text(self.from + place),
+            span: token.span,
+        })
     }
 
     /// Whether the token at a place is the sign.
@@ -68,8 +89,8 @@ impl<'a> TokenRange<'a> {
         ensures { result ≡ sign_at sign.now self.now place }
     {
         match self.token_at(place) {
-            Some((TokenKind::Sign, text, _)) => text == sign,
-            _ => false,
+            Some(token) => token.is_sign(sign),
+            None => false,
         }
     }
 
@@ -77,8 +98,9 @@ impl<'a> TokenRange<'a> {
     pub fn word_at(&self, place: usize) -> Option<&'a [u8]>
         ensures { option_map (λ w. w.now) result ≡ word_at self.now place }
     {
-        match self.token_at(place) {
-            Some((TokenKind::Word, text, _)) => Some(text),
+        let token = self.token_at(place)?;
+        match token.kind {
+            TokenKind::Word => Some(token.text),
             _ => None,
         }
     }
@@ -117,8 +139,8 @@ impl<'a> TokenRange<'a> {
 
     /// The first token, and those behind it, if there is one.
     #[tactic(auto, using(crate::proofs::Ranges::first_and_rest, crate::proofs::Ranges::none_first))]
-    pub fn split_first(&self) -> Option<((TokenKind, &'a [u8], Span), Self)>
-        ensures some { IfSome result (λ r. self.now ≡ record { kind = r.0.0; text = r.0.1.now; span = r.0.2 } ∷ r.1) }
+    pub fn split_first(&self) -> Option<(Lexeme<'a>, Self)>
+        ensures some { IfSome result (λ r. self.now ≡ lexeme_view r.0 ∷ r.1) }
         ensures none { IfNone result (self.now ≡ []) }
     {
         let token = self.token_at(0)?;

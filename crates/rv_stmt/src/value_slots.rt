@@ -1,42 +1,32 @@
-//! The operands whose values expressions give.
+//! The operands that an expression may give: immediates, addresses, memory, control and status registers.
 
 ghost use Rattle.std.specs.Prelude.{◌≡◌, IfOk};
 ghost use Rattle.rv_ops.specs.Table.{shape_of};
 ghost use Rattle.rv_stmt.specs.declared.operand.Role.TheVariants.{Immediate};
-ghost use Rattle.rv_stmt.specs.Registers.{register_in, csr_in};
-ghost use Rattle.rv_stmt.specs.Slots.{with_waiting, memory_slot, stack_memory_slot, base_slot, memory_or_address_slot, through_rd, csr_slot};
+ghost use Rattle.rv_stmt.specs.Slots.{with_waiting, memory_slot, stack_memory_slot, memory_or_register_slot, memory_or_address_slot, address_through_rd_slot, csr_slot};
 ghost use Rattle.rv_stmt.specs.Values.{plain, immediate};
-ghost use Rattle.rv_stmt.specs.Views.{reading_view, draft_view};
+ghost use Rattle.rv_stmt.specs.Views.{reading_view, draft_view, run_view};
 
 use crate::draft::Draft;
 use crate::memory::{base_of, memory};
 use crate::operand::Role;
-use crate::registers::{Takes, csr_in, register_in};
+use crate::reading::Attempt;
+use crate::registers::{Accepted, csr_in, register_in};
 use crate::runs::Run;
-use crate::values::{Reading, immediate, plain};
+use crate::values::{immediate, plain};
 use rv_ops::{Op, classes, shape};
-use std::alloc::{AllocError, Global};
+use std::alloc::Global;
 
 impl Draft {
     /// An expression for a value in this role.
-    pub fn expression_slot(
-        self,
-        alloc: Global,
-        role: Role,
-        run: &Run<'_>,
-    ) -> Result<Reading<Draft>, AllocError>
+    pub fn expression_slot(self, alloc: Global, role: Role, run: &Run<'_>) -> Attempt<Draft>
         ensures { IfOk result (λ r. reading_view draft_view r ≡ with_waiting role run.now.span (draft_view self) (plain run.now.tokens)) }
     {
         self.with_waiting(role, run.span, plain(alloc, &run.tokens)?)
     }
 
     /// An immediate, with or without a modifier that the shape takes.
-    pub fn immediate_slot(
-        self,
-        alloc: Global,
-        op: Op,
-        run: &Run<'_>,
-    ) -> Result<Reading<Draft>, AllocError>
+    pub fn immediate_slot(self, alloc: Global, op: Op, run: &Run<'_>) -> Attempt<Draft>
         ensures { IfOk result (λ r. reading_view draft_view r
             ≡ with_waiting Immediate run.now.span (draft_view self) (immediate (shape_of op) run.now.tokens)) }
     {
@@ -45,16 +35,11 @@ impl Draft {
     }
 
     /// `offset(register)`, whose register goes into `rs1`.
-    pub fn memory_slot(
-        self,
-        alloc: Global,
-        op: Op,
-        run: &Run<'_>,
-    ) -> Result<Reading<Draft>, AllocError>
-        ensures { IfOk result (λ r. reading_view draft_view r ≡ memory_slot op run.now.tokens run.now.span (draft_view self)) }
+    pub fn memory_slot(self, alloc: Global, op: Op, run: &Run<'_>) -> Attempt<Draft>
+        ensures { IfOk result (λ r. reading_view draft_view r ≡ memory_slot op (run_view run.now) (draft_view self)) }
     {
-        let takes = Takes::Class(classes(op).1);
-        match memory(alloc, shape(op), takes, &run.tokens)? {
+        let accepted = Accepted::Class(classes(op).1);
+        match memory(alloc, shape(op), accepted, &run.tokens)? {
             Ok(located) => self
                 .with_rs1(located.base)
                 .with_offset(run.span, located.offset),
@@ -63,29 +48,19 @@ impl Draft {
     }
 
     /// `offset(sp)`.
-    pub fn stack_memory_slot(
-        self,
-        alloc: Global,
-        op: Op,
-        run: &Run<'_>,
-    ) -> Result<Reading<Draft>, AllocError>
-        ensures { IfOk result (λ r. reading_view draft_view r ≡ stack_memory_slot op run.now.tokens run.now.span (draft_view self)) }
+    pub fn stack_memory_slot(self, alloc: Global, op: Op, run: &Run<'_>) -> Attempt<Draft>
+        ensures { IfOk result (λ r. reading_view draft_view r ≡ stack_memory_slot op (run_view run.now) (draft_view self)) }
     {
-        match memory(alloc, shape(op), Takes::StackPointer, &run.tokens)? {
+        match memory(alloc, shape(op), Accepted::StackPointer, &run.tokens)? {
             Ok(located) => self.with_offset(run.span, located.offset),
             Err(fault) => Ok(Err(fault)),
         }
     }
 
     /// `offset(register)`, or a register alone.
-    pub fn memory_or_register_slot(
-        self,
-        alloc: Global,
-        op: Op,
-        run: &Run<'_>,
-    ) -> Result<Reading<Draft>, AllocError>
+    pub fn memory_or_register_slot(self, alloc: Global, op: Op, run: &Run<'_>) -> Attempt<Draft>
         ensures { IfOk result (λ r. reading_view draft_view r
-            ≡ base_slot (register_in run.now.tokens) op run.now.tokens run.now.span (draft_view self)) }
+            ≡ memory_or_register_slot op (run_view run.now) (draft_view self)) }
     {
         match register_in(&run.tokens) {
             Some(register) => Ok(Ok(self.with_rs1(register))),
@@ -94,25 +69,16 @@ impl Draft {
     }
 
     /// An address that two words reach through `rd`.
-    pub fn address_through_rd_slot(
-        self,
-        alloc: Global,
-        run: &Run<'_>,
-    ) -> Result<Reading<Draft>, AllocError>
-        ensures { IfOk result (λ r. reading_view draft_view r ≡ through_rd run.now.tokens run.now.span (draft_view self)) }
+    pub fn address_through_rd_slot(self, alloc: Global, run: &Run<'_>) -> Attempt<Draft>
+        ensures { IfOk result (λ r. reading_view draft_view r ≡ address_through_rd_slot (run_view run.now) (draft_view self)) }
     {
         self.with_rd_as_rs1()
             .expression_slot(alloc, Role::PairTarget, run)
     }
 
     /// `offset(register)`, or an address that two words reach through `rd`.
-    pub fn memory_or_address_slot(
-        self,
-        alloc: Global,
-        op: Op,
-        run: &Run<'_>,
-    ) -> Result<Reading<Draft>, AllocError>
-        ensures { IfOk result (λ r. reading_view draft_view r ≡ memory_or_address_slot op run.now.tokens run.now.span (draft_view self)) }
+    pub fn memory_or_address_slot(self, alloc: Global, op: Op, run: &Run<'_>) -> Attempt<Draft>
+        ensures { IfOk result (λ r. reading_view draft_view r ≡ memory_or_address_slot op (run_view run.now) (draft_view self)) }
     {
         if run.tokens.sign_at(b"%", 0) || base_of(&run.tokens).is_some() {
             self.memory_slot(alloc, op, run)
@@ -122,9 +88,9 @@ impl Draft {
     }
 
     /// The name of a control and status register, or an expression for its number.
-    pub fn csr_slot(self, alloc: Global, run: &Run<'_>) -> Result<Reading<Draft>, AllocError>
+    pub fn csr_slot(self, alloc: Global, run: &Run<'_>) -> Attempt<Draft>
         ensures { IfOk result (λ r. reading_view draft_view r
-            ≡ csr_slot (csr_in run.now.tokens) run.now.tokens run.now.span (draft_view self)) }
+            ≡ csr_slot (run_view run.now) (draft_view self)) }
     {
         match csr_in(&run.tokens) {
             Some(csr) => Ok(Ok(self.with_value(i32::from(csr.number())))),

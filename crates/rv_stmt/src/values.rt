@@ -3,22 +3,20 @@
 ghost use Rattle.std.specs.Prelude.{◌≡◌, IfOk, option_and_then};
 ghost use Rattle.rv_expr.specs.Tree.{tree_of};
 ghost use Rattle.rv_stmt.specs.Tokens.{word_at};
-ghost use Rattle.rv_stmt.specs.Values.{expression, plain, modifier_named, taken_modifier, label_reference, modified, modified_value, immediate};
+ghost use Rattle.rv_stmt.specs.Values.{expression, plain, modifier_named, modifier_of_shape, label_reference, value_of_modifier, modified_value, immediate};
 ghost use Rattle.rv_stmt.specs.Views.{reading_view, value_view};
 
 use crate::modifiers::{Modifier, modifier_named, takes_modifier};
 use crate::operand::OperandValue;
+use crate::reading::Attempt;
 use crate::token_range::TokenRange;
 use rv_expr::{Expr, LabelReference, ReadFault};
 use rv_ops::Shape;
 use rv_text::FaultNumber;
 use std::alloc::{AllocError, Global};
 
-/// What some tokens are read as, or what is wrong with them.
-pub type Reading<T> = Result<T, FaultNumber>;
-
 // The expression that some tokens are.
-fn expression(alloc: Global, run: &TokenRange<'_>) -> Result<Reading<Expr>, AllocError>
+fn expression(alloc: Global, run: &TokenRange<'_>) -> Attempt<Expr>
     ensures { IfOk result (λ r. reading_view tree_of r ≡ expression run.now) }
 {
     match run.read(alloc) {
@@ -30,7 +28,7 @@ fn expression(alloc: Global, run: &TokenRange<'_>) -> Result<Reading<Expr>, Allo
 }
 
 /// The value that some tokens are, without a modifier.
-pub fn plain(alloc: Global, run: &TokenRange<'_>) -> Result<Reading<OperandValue>, AllocError>
+pub fn plain(alloc: Global, run: &TokenRange<'_>) -> Attempt<OperandValue>
     ensures { IfOk result (λ r. reading_view value_view r ≡ plain run.now) }
 {
     Ok(expression(alloc, run)?.map(OperandValue::Plain))
@@ -38,7 +36,7 @@ pub fn plain(alloc: Global, run: &TokenRange<'_>) -> Result<Reading<OperandValue
 
 // The modifier whose name stands behind a `%`, if the shape takes it.
 fn modifier_of(shape: Shape, run: &TokenRange<'_>) -> Option<Modifier>
-    ensures { result ≡ taken_modifier shape (option_and_then modifier_named (word_at run.now 1)) }
+    ensures { result ≡ modifier_of_shape shape (option_and_then modifier_named (word_at run.now 1)) }
 {
     let name = run.word_at(1)?;
     let modifier = modifier_named(name)?;
@@ -50,10 +48,7 @@ fn modifier_of(shape: Shape, run: &TokenRange<'_>) -> Option<Modifier>
 }
 
 // The symbol, the local label or the `.` that one token is.
-fn label_reference(
-    alloc: Global,
-    run: &TokenRange<'_>,
-) -> Result<Reading<LabelReference>, AllocError>
+fn label_reference(alloc: Global, run: &TokenRange<'_>) -> Attempt<LabelReference>
     ensures { IfOk result (λ r. r ≡ label_reference run.now) }
 {
     if run.len() != 1 {
@@ -64,12 +59,12 @@ fn label_reference(
 }
 
 // What a modifier makes of an expression or a label.
-fn modified(
+fn value_of_modifier(
     alloc: Global,
     modifier: Modifier,
     run: &TokenRange<'_>,
-) -> Result<Reading<OperandValue>, AllocError>
-    ensures { IfOk result (λ r. reading_view value_view r ≡ modified modifier run.now) }
+) -> Attempt<OperandValue>
+    ensures { IfOk result (λ r. reading_view value_view r ≡ value_of_modifier modifier run.now) }
 {
     Ok(match modifier {
         Modifier::High => expression(alloc, run)?.map(OperandValue::High),
@@ -80,11 +75,7 @@ fn modified(
 }
 
 /// The value `%name(..)`, with a modifier that the shape takes.
-pub fn modified_value(
-    alloc: Global,
-    shape: Shape,
-    run: &TokenRange<'_>,
-) -> Result<Reading<OperandValue>, AllocError>
+pub fn modified_value(alloc: Global, shape: Shape, run: &TokenRange<'_>) -> Attempt<OperandValue>
     ensures { IfOk result (λ r. reading_view value_view r ≡ modified_value shape run.now) }
 {
     let length = run.len();
@@ -92,17 +83,13 @@ pub fn modified_value(
         return Ok(Err(FaultNumber::BadOperand));
     }
     match modifier_of(shape, run) {
-        Some(modifier) => modified(alloc, modifier, &run.part(3, length - 1)),
+        Some(modifier) => value_of_modifier(alloc, modifier, &run.part(3, length - 1)),
         None => Ok(Err(FaultNumber::BadOperand)),
     }
 }
 
 /// The value of an immediate: an expression, or one with a modifier that the shape takes.
-pub fn immediate(
-    alloc: Global,
-    shape: Shape,
-    run: &TokenRange<'_>,
-) -> Result<Reading<OperandValue>, AllocError>
+pub fn immediate(alloc: Global, shape: Shape, run: &TokenRange<'_>) -> Attempt<OperandValue>
     ensures { IfOk result (λ r. reading_view value_view r ≡ immediate shape run.now) }
 {
     if run.sign_at(b"%", 0) {

@@ -1,5 +1,5 @@
 use Rattle.std.proofs.Common.{◌+◌, ◌++◌, drop, append-nil, ap, ◌∙◌, sym}
-use Rattle.rv_stmt.specs.Labels.{labelled}
+use Rattle.rv_stmt.specs.Labels.{labels_and_body}
 use Rattle.rv_stmt.proofs.LabelLemmas.{one_label, same_body, two_more, no_labels, body_here}
 use Rattle.rv_stmt.proofs.labels.labels.Goals as goal
 
@@ -12,7 +12,7 @@ loop-labels-preserved c =
     record {
       within = two_more line place _ found c.loop-labels.invariant.within;
       labels =
-          ap (λ ls. ls ++ (labelled (drop (place + 2) line)).labels) pushed
+          ap (λ ls. ls ++ (labels_and_body (drop (place + 2) line)).labels) pushed
           ∙ one_label line place _ found c.loop-labels.labels.items
           ∙ c.loop-labels.invariant.labels;
       body = same_body line place _ found ∙ c.loop-labels.invariant.body;

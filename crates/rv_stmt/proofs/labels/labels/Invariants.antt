@@ -1,13 +1,13 @@
 use Rattle.std.proofs.Common.{◌≡◌, ◌≤◌, ◌++◌, ◌-◌, length, drop}
-use Rattle.rv_stmt.specs.Labels.{labelled}
+use Rattle.rv_stmt.specs.Labels.{labels_and_body}
 use Rattle.rv_stmt.proofs.labels.labels.Given as goal
 
 -- the labels so far and those of what is left are those of the line
 abbrev pub invariant-loop-labels : goal.invariant-loop-labels
 invariant-loop-labels l = record {
   within : l.place ≤ length l.line;
-  labels : l.labels.items ++ (labelled (drop l.place l.line)).labels ≡ (labelled l.line).labels;
-  body : (labelled (drop l.place l.line)).body ≡ (labelled l.line).body;
+  labels : l.labels.items ++ (labels_and_body (drop l.place l.line)).labels ≡ (labels_and_body l.line).labels;
+  body : (labels_and_body (drop l.place l.line)).body ≡ (labels_and_body l.line).body;
 }
 
 abbrev pub decreases-loop-labels : goal.decreases-loop-labels

@@ -1,7 +1,7 @@
 use Rattle.std.proofs.Common.{◌≡◌, length, map}
 use Rattle.rv_stmt.specs.Slots.{slots_read}
 use Rattle.rv_stmt.specs.Views.{draft_view, run_view}
-use Rattle.rv_stmt.proofs.draft.Draft.operands.Given as goal
+use Rattle.rv_stmt.proofs.draft.Draft.read_operands.Given as goal
 
 -- what is read so far, and then what is left
 abbrev pub invariant-loop-slots : goal.invariant-loop-slots

@@ -1,0 +1,10 @@
+//! What tokens are read as.
+
+use rv_text::FaultNumber;
+use std::alloc::AllocError;
+
+/// What some tokens are read as, or what is wrong with them.
+pub type Reading<T> = Result<T, FaultNumber>;
+
+/// A reading, unless there was no memory for it.
+pub type Attempt<T> = Result<Reading<T>, AllocError>;
