@@ -84,7 +84,7 @@ unfolding layout_of
 classes_column Upper = refl
 classes_column _ = refl
 
-pub limits_column : (s : Shape) → slice_index_or (map (λ row. row.2) LAYOUTS) (tag_of shape_type s) (pos 0, pos 0, 0, pos 0, pos 0) ≡ limits_of s
+pub limits_column : (s : Shape) → slice_index_or (map (λ row. row.2) LAYOUTS) (tag_of shape_type s) (pos 0, pos 0, 1, pos 0, pos 0) ≡ limits_of s
 unfolding layout_of
 limits_column Upper = refl
 limits_column _ = refl

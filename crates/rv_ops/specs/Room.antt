@@ -10,6 +10,7 @@ is_piece p = nat_le (p.1 + p.2) 32 && (nat_le (p.2 + p.3) 32 && (nat_le 1 p.2 &&
 abbrev pub most : Piece → ℕ
 most p = 2 ^ p.2 * 2 ^ p.3 - 2 ^ p.3
 
+-- what the greatest numbers of some pieces add up to
 abbrev pub room : List Piece → ℕ
 room [] = 0
 room (p ∷ ps) = most p + room ps

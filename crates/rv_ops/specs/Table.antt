@@ -23,15 +23,19 @@ Row = Op × (record { now : List ℕ }) × Shape × ℕ × ℕ
 unfoldable pub row_of : Op → Row
 row_of o = slice_index_or TABLE (tag_of op_type o) (op.Lui, record { now = [] }, shape.Upper, 0, 0)
 
+-- the name of an operation, in lower case
 unfoldable pub operation_name : Op → List ℕ
 operation_name o = (row_of o).1.now
 
+-- the shape of an operation's instructions
 abbrev pub shape_of : Op → Shape
 shape_of o = (row_of o).2
 
+-- the bits of its words that no field fills
 abbrev pub fixed_of : Op → ℕ
 fixed_of o = (row_of o).3
 
+-- which bits of its words are fixed
 abbrev pub mask_of : Op → ℕ
 mask_of o = (row_of o).4
 
@@ -48,6 +52,7 @@ operation_names = map (λ row. (row.0, row.1.now)) TABLE
 unfoldable pub operation_named : List ℕ → Option Op
 operation_named text = first_named operation_names text
 
+-- the text is the name of the operation, in either letter case
 abbrev pub IsNameOfOperation : Op → List ℕ → Type 0
 IsNameOfOperation o text = str_eq_ignore_ascii_case (operation_name o) text ≡ true
 
@@ -67,6 +72,7 @@ Sign = ℤ × ℤ
 abbrev pub Piece : Type 0
 Piece = Field × ℕ × ℕ × ℕ
 
+-- a shape with the classes of its registers, the limits and the sign of its value, and the pieces of its words
 abbrev pub Layout : Type 0
 Layout = Shape × Classes × Limits × Sign × (record { now : List Piece })
 
@@ -78,14 +84,18 @@ layout_of s =
     (tag_of shape_type s)
     (shape.Upper, (Absent, Absent, Absent), (pos 0, pos 0, 1, pos 0, pos 0), (pos 0, pos 0), record { now = [] })
 
+-- the registers that the fields of a shape may be
 abbrev pub classes_of : Shape → Classes
 classes_of s = (layout_of s).1
 
+-- the limits of a shape's value
 abbrev pub limits_of : Shape → Limits
 limits_of s = (layout_of s).2
 
+-- the sign of a shape's value
 abbrev pub sign_of : Shape → Sign
 sign_of s = (layout_of s).3
 
+-- the pieces of a shape's words that its fields fill
 abbrev pub pieces_of : Shape → List Piece
 pieces_of s = (layout_of s).4.now

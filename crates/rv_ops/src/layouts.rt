@@ -5,9 +5,13 @@ use crate::op::Shape;
 /// A field of an instruction.
 #[derive(Clone, Copy, Debug, PartialEq, Eq)]
 pub enum Field {
+    /// The destination register.
     Rd,
+    /// The first source register.
     Rs1,
+    /// The second source register.
     Rs2,
+    /// The value: an immediate, an offset, a shift amount, or the number of a control and status register.
     Value,
 }
 
@@ -16,6 +20,7 @@ pub enum Field {
 pub enum RegisterClass {
     /// The shape has no such field: x0 stands for it.
     Absent,
+    /// x0 to x31.
     Any,
     /// Any but x0.
     NotZero,
@@ -44,8 +49,11 @@ pub type Piece = (Field, u32, u32, u32);
 /// What the layouts say of a shape.
 #[derive(Clone, Copy)]
 pub struct Layout {
+    /// The classes of the registers.
     pub classes: Classes,
+    /// The limits of the value.
     pub limits: Limits,
+    /// The sign of the value.
     pub sign: Sign,
     /// The pieces of the words that the fields fill.
     pub pieces: &'static [Piece],

@@ -59,7 +59,7 @@ pub fn is_full(op: Op) -> bool
 fn layout_at(layouts: &[(Shape, Classes, Limits, Sign, &'static [Piece])], index: usize) -> Layout
     requires { index < length layouts.now }
     ensures classes { result.classes ≡ slice_index_or (map (λ row. row.1) layouts.now) index (Absent, Absent, Absent) }
-    ensures limits { result.limits ≡ slice_index_or (map (λ row. row.2) layouts.now) index (pos 0, pos 0, 0, pos 0, pos 0) }
+    ensures limits { result.limits ≡ slice_index_or (map (λ row. row.2) layouts.now) index (pos 0, pos 0, 1, pos 0, pos 0) }
     ensures sign { result.sign ≡ slice_index_or (map (λ row. row.3) layouts.now) index (pos 0, pos 0) }
     ensures pieces { result.pieces.now ≡ slice_index_or (map (λ row. row.4.now) layouts.now) index [] }
 {

@@ -113,7 +113,8 @@ pub enum Shape {
     Csr,
     /// `rd, value, immediate`: the immediate stands in the place of rs1.
     CsrImmediate,
-    /// `predecessors, successors`: two sets, in the places of rs1 and rs2.
+    /// `predecessors, successors`: two sets, which the fields rs1 and rs2 hold; they stand in bits 27:24 and 23:20
+    /// of the word.
     Fence,
     /// No operand.
     Whole,
@@ -158,7 +159,9 @@ pub enum Shape {
 /// What the table says of an operation.
 #[derive(Clone, Copy, Debug)]
 pub struct Row {
+    /// The operation's name, in lower case.
     pub name: &'static str,
+    /// The shape of its instructions.
     pub shape: Shape,
     /// The bits of the word that no field fills.
     pub fixed: u32,
