@@ -1,4 +1,5 @@
--- Reading a word as an instruction of an operation.
+-- Reading a word as an instruction of an operation. No public contract cites these definitions: they serve the
+-- private steps of decoding.
 use denote.Enum.Declared.{tag_of}
 use Rattle.std.specs.Prelude.{◌≡◌, ℕ, ℤ, pos, ◌+◌, ◌-◌, ◌*◌, ◌/◌, ◌%◌, ◌^◌, ◌-ℤ◌, List, [], ◌∷◌, map, take, drop, nat_eq, int_lt, cond, bit_and}
 use Rattle.rv_ops.specs.declared.op.Op.{Op}
@@ -50,10 +51,11 @@ pub record IsWordOf (o : Op) (w : ℕ) : Type 0 where
   pub fits : Fits o (fields_at (shape_of o) w)
   pub word : encoding_of o (fields_at (shape_of o) w) ≡ w
 
--- the operation of a row, its fixed bits and their mask
+-- an operation with its fixed bits and their mask
 abbrev pub Code : Type 0
 Code = Op × ℕ × ℕ
 
+-- the operation of a row of the table, its fixed bits and their mask
 abbrev pub code_of : Row → Code
 code_of row = (row.0, row.3, row.4)
 
@@ -72,9 +74,10 @@ abbrev pub reach : Field → List Piece → ℕ
 reach field [] = 0
 reach field (p ∷ ps) = most_from_piece field p + reach field ps
 
--- the operations whose words have 32 bits, which stand first in the table, and those whose words have 16
+-- the operations whose words have 32 bits, which stand first in the table
 unfoldable pub full_codes : List Code
 full_codes = map code_of (take 55 TABLE)
 
+-- the operations whose words have 16 bits
 unfoldable pub half_codes : List Code
 half_codes = map code_of (drop 55 TABLE)

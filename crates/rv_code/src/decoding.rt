@@ -138,9 +138,8 @@ fn first_instruction(mut rows: &[Entry], word: u32) -> Option<Ins>
     ensures none { IfNone result (IsWordOfNone (map (λ row. (row.0, row.3, row.4)) rows.entry.now) word) }
 {
     while let [row, rest @ ..] = rows {
-        match instruction_of_row(row, word) {
-            Some(ins) => return Some(ins),
-            None => {}
+        if let Some(ins) = instruction_of_row(row, word) {
+            return Some(ins);
         }
         rows = rest;
     }

@@ -7,13 +7,18 @@ use rv_ops::{Op, Reg, Shape};
 use std::marker::Model;
 
 /// The fields of an instruction; one that its shape lacks is x0 or 0. The immediate of a `csrrwi` and its kin
-/// stands in `rs1`, and a fence has its predecessors in `rs1` and its successors in `rs2`.
+/// stands in `rs1`, and in its bits of the word. A fence has its predecessors in `rs1` and its successors in `rs2`;
+/// they stand in bits 27:24 and 23:20 of the word.
 #[derive(Clone, Copy, Debug, PartialEq, Eq)]
 pub struct Fields {
+    /// The destination register.
     pub rd: Reg,
+    /// The first source register.
     pub rs1: Reg,
+    /// The second source register.
     pub rs2: Reg,
-    /// The immediate, the displacement of a branch or jump, or the number of a control and status register.
+    /// The immediate, the offset of a load, a store or `jalr`, the shift amount, the displacement of a branch or
+    /// jump, or the number of a control and status register.
     pub value: i32,
 }
 
@@ -65,6 +70,7 @@ impl Ins {
         requires { shape_of op ≡ Shape.Register }
         ensures { result ≡ (op, register_fields rd rs1 rs2) }
     {
+        // Tells the prover that each number is below 32.
         let _numbers = (rd.number(), rs1.number(), rs2.number());
         Ins::new(
             op,
@@ -77,12 +83,13 @@ impl Ins {
         )
     }
 
-    /// `op rd, rs1, value`, if the table lets the operation take the value.
+    /// `op rd, rs1, value`, if the table lets the operation take the value. It carries the proof of `immediate`.
     fn of_value(op: Op, rd: Reg, rs1: Reg, value: i64) -> Option<Self>
         requires { shape_of op ≡ Shape.Immediate }
         ensures fits { IsSome result ↔ ((negsuc 2047 ≤ℤ value) × (value ≤ℤ pos 2047)) }
         ensures value { IfSome result (λ i. i ≡ (op, immediate_fields rd rs1 value)) }
     {
+        // Tells the prover that each number is below 32.
         let _numbers = (rd.number(), rs1.number());
         match i32::try_from(value) {
             Ok(value) => Ins::try_new(

@@ -6,7 +6,9 @@ use arrayvec::ArrayVec;
 /// The word of an instruction: sixteen bits or thirty-two.
 #[derive(Clone, Copy, Debug, PartialEq, Eq)]
 pub enum Word {
+    /// Sixteen bits.
     Half(u16),
+    /// Thirty-two bits.
     Full(u32),
 }
 
