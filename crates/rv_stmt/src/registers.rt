@@ -1,4 +1,4 @@
-//! The registers of operands.
+//! The registers of operands, by class or by name.
 
 ghost use Rattle.std.specs.Prelude.{◌≡◌};
 ghost use Rattle.rv_text.specs.declared.faults.FaultNumber.TheVariants.{BadRegister};

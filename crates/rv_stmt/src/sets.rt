@@ -27,7 +27,7 @@ pub const SETS: [(u8, &str); 15] = [
     (15, "iorw"),
 ];
 
-/// The set that some tokens spell, as the number of a register, in whose place a fence keeps it.
+/// The set that some tokens spell, as the number of a register, in whose field a fence keeps it.
 #[tactic(auto, unfolding(crate::specs::Registers::set_names, crate::specs::Registers::set_named))]
 pub fn set(run: &TokenRange<'_>) -> Reading<Reg>
     ensures { result ≡ set run.now }
