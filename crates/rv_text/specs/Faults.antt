@@ -3,6 +3,7 @@ use Rattle.std.specs.Prelude.{ℕ}
 use Rattle.rv_text.specs.declared.faults.FaultNumber.{FaultNumber}
 use Rattle.rv_text.specs.declared.faults.FaultNumber.TheVariants.{BadByte, BadNumber, BadString, NoStatement, UnknownName, OperandCount, BadRegister, RegisterRange, BadOperand, TooDeep, NotConstant, Undefined, LaterEqu, FaultyEqu, Arithmetic, Range, Multiple, NoPartner, Duplicate, OddAddress, InBss}
 
+-- the number of a fault, from 1 to 21
 abbrev pub fault_number : FaultNumber → ℕ
 fault_number BadByte = 1
 fault_number BadNumber = 2

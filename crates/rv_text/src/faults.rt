@@ -65,6 +65,8 @@ impl FaultNumber {
 /// What is wrong with a line, and the bytes of it at which that is told.
 #[derive(Clone, Copy, Debug, PartialEq, Eq)]
 pub struct Fault {
+    /// Which fault it is.
     pub number: FaultNumber,
+    /// The bytes of the line that are at fault.
     pub span: Span,
 }

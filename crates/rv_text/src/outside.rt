@@ -83,10 +83,7 @@ impl<W: Write> StdSink<W> {
         ensures bytes { IfSome result (λ n. Appends (W.contents self.old.writer) (W.contents self.new.writer) (take n bytes.now)) }
     {
         match self.writer.write(bytes) {
-            Ok(n) if n > 0 || bytes.is_empty() => match self.writer.flush() {
-                Ok(()) => Some(n),
-                Err(_) => None,
-            },
+            Ok(n) if n > 0 || bytes.is_empty() => self.writer.flush().ok().map(|()| n),
             _ => None,
         }
     }

@@ -212,6 +212,11 @@ fn fills_memory(rt: HostRuntime) -> Result<(), Fail> {
 }
 
 #[test]
+fn refusal_has_a_number(rt: HostRuntime) {
+    assert_eq!(rt; TextError::Memory.number(), 1);
+}
+
+#[test]
 fn fails_one_write(rt: HostRuntime) -> Result<(), Fail> {
     for (m, want) in [
         (0, "abcdef"),

@@ -19,6 +19,17 @@ pub enum TextError {
     Memory,
 }
 
+impl TextError {
+    /// The number of the refusal, 1.
+    pub fn number(self) -> u8
+        ensures { result ≡ 1 }
+    {
+        match self {
+            TextError::Memory => 1,
+        }
+    }
+}
+
 impl From<AllocError> for TextError {
     ghost from_gives = { λ _ e. e ≡ Memory };
 
