@@ -101,7 +101,7 @@ pub fn word_of_line<C: Count>(
     ensures word { IfOk result (λ word. word ≡ word_of_line line.now) }
     ensures parsed { C.parsed_count counter.new ≡ C.parsed_count counter.old + 1 }
     ensures valued { C.valued_count counter.new ≡ C.valued_count counter.old }
-    ensures encoded { C.encoded_count counter.new ≤ C.encoded_count counter.old + 1 }
+    ensures encoded { (C.encoded_count counter.old ≤ C.encoded_count counter.new) × (C.encoded_count counter.new ≤ C.encoded_count counter.old + 1) }
 {
     counter.parsed();
     let tokens = tokens(alloc, line)?;

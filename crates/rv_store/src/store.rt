@@ -124,7 +124,7 @@ impl Store {
     /// Refused, in this order, with `Place` where there can be no line `k`, `Line` where the line holds 0x0A or is longer
     /// than `MAX_LINE_LENGTH`, `TooMany` where the text is full, and `Memory`. A refused edit changes nothing.
     ///
-    /// The counter's numbers have to be at most 2^63, and less than 2^32 is added to each.
+    /// The counter's numbers have to be at most 2^63; none of them falls, and less than 2^32 is added to each.
     #[tactic(auto, using(crate::proofs::Lists::map_insert))]
     pub fn insert<C: Count>(
         &mut self,
@@ -136,9 +136,9 @@ impl Store {
         requires valued { C.valued_count counter.old ≤ 2 ^ 63 }
         requires encoded { C.encoded_count counter.old ≤ 2 ^ 63 }
         ensures edit { Edits self.old (Insert k line.now) result self.new }
-        ensures parsed { C.parsed_count counter.new < C.parsed_count counter.old + 2 ^ 32 }
-        ensures valued { C.valued_count counter.new < C.valued_count counter.old + 2 ^ 32 }
-        ensures encoded { C.encoded_count counter.new < C.encoded_count counter.old + 2 ^ 32 }
+        ensures parsed { (C.parsed_count counter.old ≤ C.parsed_count counter.new) × (C.parsed_count counter.new < C.parsed_count counter.old + 2 ^ 32) }
+        ensures valued { (C.valued_count counter.old ≤ C.valued_count counter.new) × (C.valued_count counter.new < C.valued_count counter.old + 2 ^ 32) }
+        ensures encoded { (C.encoded_count counter.old ≤ C.encoded_count counter.new) × (C.encoded_count counter.new < C.encoded_count counter.old + 2 ^ 32) }
     {
         if let Some(e) = insert_refused(&self.lines, k, line) {
             return Err(e);
@@ -163,9 +163,9 @@ impl Store {
         requires valued { C.valued_count counter.old ≤ 2 ^ 63 }
         requires encoded { C.encoded_count counter.old ≤ 2 ^ 63 }
         ensures edit { Edits self.old (Delete k) result self.new }
-        ensures parsed { C.parsed_count counter.new < C.parsed_count counter.old + 2 ^ 32 }
-        ensures valued { C.valued_count counter.new < C.valued_count counter.old + 2 ^ 32 }
-        ensures encoded { C.encoded_count counter.new < C.encoded_count counter.old + 2 ^ 32 }
+        ensures parsed { (C.parsed_count counter.old ≤ C.parsed_count counter.new) × (C.parsed_count counter.new < C.parsed_count counter.old + 2 ^ 32) }
+        ensures valued { (C.valued_count counter.old ≤ C.valued_count counter.new) × (C.valued_count counter.new < C.valued_count counter.old + 2 ^ 32) }
+        ensures encoded { (C.encoded_count counter.old ≤ C.encoded_count counter.new) × (C.encoded_count counter.new < C.encoded_count counter.old + 2 ^ 32) }
     {
         if let Some(e) = delete_refused(&self.lines, k) {
             return Err(e);
