@@ -24,6 +24,7 @@ first_rows start bytes (suc k) =
 abbrev pub row_count : ℕ → ℕ
 row_count size = (size + 15) / 16
 
+-- all rows of a stretch of bytes, the first at the address `start`
 unfoldable pub byte_rows : ℕ → List ℕ → List ℕ
 byte_rows start bytes = first_rows start bytes (row_count (length bytes))
 
@@ -53,5 +54,6 @@ image_of base bytes = text_section base bytes ++ empty_sections (next_base (base
 abbrev pub bytes_of_lines : List (List ℕ) → List ℕ
 bytes_of_lines lines = flat_map bytes_of_line lines
 
+-- the image of a text
 unfoldable pub image_text : Text → List ℕ
 image_text text = image_of text.base (bytes_of_lines text.lines)

@@ -68,6 +68,7 @@ word_spelled tokens =
 abbrev pub word_of_lexed : LexedLine → Option Word
 word_of_lexed line = if is_some line.fault then None else word_spelled (texts line)
 
+-- the word of a line, if it has one
 unfoldable pub word_of_line : List ℕ → Option Word
 word_of_line line = word_of_lexed (lexed_line line)
 
@@ -76,5 +77,6 @@ abbrev pub bytes_of_code : Option Word → List ℕ
 bytes_of_code None = []
 bytes_of_code (Some word) = bytes_of_word word
 
+-- the bytes of a line, which are those of its word
 abbrev pub bytes_of_line : List ℕ → List ℕ
 bytes_of_line line = bytes_of_code (word_of_line line)

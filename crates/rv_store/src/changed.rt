@@ -31,6 +31,7 @@ impl LineNumbers {
 /// What an edit says of the lines that it changed. Which lines it lists is not promised yet.
 #[derive(Debug, Drop)]
 pub struct Changed {
+    /// The lines that are listed, by their numbers.
     pub lines: LineNumbers,
 }
 

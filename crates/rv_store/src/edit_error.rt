@@ -11,14 +11,19 @@ use thiserror::Error;
 /// Why an edit was refused. Reasons are tried in this order.
 #[derive(Clone, Copy, Debug, PartialEq, Eq, Error)]
 pub enum EditError {
+    /// `base_ok` does not hold. Only `Store::new` is refused so, no edit.
     #[error("the base is not a multiple of 4096 up to 0x80000000")]
     Base,
+    /// No line of this number can be put in, or is there to be taken out.
     #[error("there is no such line")]
     Place,
+    /// What has to be put in is not one line, or too long a one.
     #[error("the line holds a line break or is longer than 1000 bytes")]
     Line,
+    /// A line has to be put in, and the text is full.
     #[error("the text has 16384 lines already")]
     TooMany,
+    /// There was no memory for what the store had to keep.
     #[error("out of memory")]
     Memory,
 }

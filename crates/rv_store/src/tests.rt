@@ -165,6 +165,11 @@ fn fills_rows(rt: HostRuntime) -> Result<(), Fail> {
     Ok(())
 }
 
+#[test]
+fn failure_has_a_number(rt: HostRuntime) {
+    assert_eq!(rt; ListError::Write.number(), 1);
+}
+
 // The writer fails at each of its calls in turn.
 #[test]
 fn stops_where_the_writer_fails(rt: HostRuntime) -> Result<(), Fail> {

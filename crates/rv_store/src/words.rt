@@ -39,7 +39,7 @@ pub fn words_without(
 }
 
 // How many bytes a line's word has.
-fn size_of(word: Option<Word>) -> u32
+fn word_size(word: Option<Word>) -> u32
     ensures value { result ≡ length (bytes_of_code word) }
     ensures few { result ≤ 4 }
 {
@@ -58,7 +58,7 @@ pub fn total_size(words: &[Option<Word>]) -> u32
 {
     let mut size = 0;
     for word in words {
-        size += size_of(*word);
+        size += word_size(*word);
     }
     size
 }
