@@ -3,6 +3,12 @@ use Rattle.std.specs.Prelude.{ℕ, List, codes}
 use Rattle.rvedit.specs.declared.run_error.RunError.{RunError}
 use Rattle.rvedit.specs.declared.run_error.RunError.TheVariants.{Read, Write, Memory}
 
+-- the number of the error
+abbrev pub run_refusal_number : RunError → ℕ
+run_refusal_number Read = 1
+run_refusal_number Write = 2
+run_refusal_number Memory = 3
+
 -- the status of the process
 abbrev pub run_status : RunError → ℕ
 run_status Read = 3

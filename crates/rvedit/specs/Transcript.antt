@@ -27,6 +27,7 @@ IsEditAnswerBy None old edit answer new =
     ((answer ≡ accepted (length (text_after old edit).lines)) × (new ≡ text_after old edit))
     ⊎ ((answer ≡ refused Memory) × (new ≡ old))
 
+-- the answer to an edit, and the text afterwards
 abbrev pub IsEditAnswer : Text → Edit → List ℕ → Text → Type 0
 IsEditAnswer old edit answer new = IsEditAnswerBy (refusal_of old.lines edit) old edit answer new
 

@@ -81,10 +81,7 @@ pub fn arguments<S: AsStr>(alloc: Global, words: &[S]) -> Result<u32, ArgFault>
     match command.try_get_matches_from(words) {
         Ok(matches) => match matches.get_str("base") {
             None => Ok(0),
-            Some(text) => match base_of(text) {
-                Some(base) => Ok(base),
-                None => Err(ArgFault::Base),
-            },
+            Some(text) => base_of(text).ok_or(ArgFault::Base),
         },
         Err(error) => Err(fault_of(alloc, &error)?),
     }

@@ -2,7 +2,7 @@
 
 ghost use Rattle.std.specs.Prelude.{◌≡◌};
 ghost use Rattle.rvedit.specs.declared.run_error.RunError.TheVariants.{Memory};
-ghost use Rattle.rvedit.specs.Faults.{run_status, run_message};
+ghost use Rattle.rvedit.specs.Faults.{run_refusal_number, run_status, run_message};
 
 use std::alloc::AllocError;
 use thiserror::Error;
@@ -10,12 +10,28 @@ use thiserror::Error;
 /// Why a run ended early.
 #[derive(Clone, Copy, Debug, PartialEq, Eq, Error)]
 pub enum RunError {
+    /// Not all of the input was read.
     #[error("the reader failed, or the input is longer than 64 MiB")]
     Read,
+    /// Not all of an answer was written.
     #[error("the writer failed")]
     Write,
+    /// There was no memory for a command.
     #[error("out of memory")]
     Memory,
+}
+
+impl RunError {
+    /// The number of the error, from 1 to 3.
+    pub fn number(self) -> u8
+        ensures { result ≡ run_refusal_number self }
+    {
+        match self {
+            RunError::Read => 1,
+            RunError::Write => 2,
+            RunError::Memory => 3,
+        }
+    }
 }
 
 impl From<AllocError> for RunError {

@@ -277,6 +277,13 @@ fn arguments_are_read(rt: HostRuntime) {
 }
 
 #[test]
+fn errors_have_numbers(rt: HostRuntime) {
+    assert_eq!(rt; RunError::Read.number(), 1);
+    assert_eq!(rt; RunError::Write.number(), 2);
+    assert_eq!(rt; RunError::Memory.number(), 3);
+}
+
+#[test]
 fn faults_are_told(rt: HostRuntime) {
     for (fault, number, text) in [
         (RunError::Read, 3u8, "rvedit: read fault"),
