@@ -3,16 +3,49 @@
 ghost use Rattle.std.specs.Prelude.{◌≤◌, length};
 
 use crate::case::{Outcome, pad};
-use rv_expr::{BinaryOp, Expr, ReadFault, read};
-use rv_stmt::{Body, Stmt, StmtError, read_line};
+use rv_expr::{BinaryOp, Expr, ReadFault, UnaryOp, read};
+use rv_stmt::{
+    Body, Instruction, Label, LabelName, Operand, OperandValue, Role, Stmt, StmtError, read_line,
+};
 use rv_text::{Span, Tally, tokens};
 use std::alloc::Global;
+
+// Whether this is the symbol.
+fn is_symbol(found: &Expr, symbol: &[u8]) -> bool {
+    matches!(found, Expr::Word(name) if name.bytes() == symbol)
+}
+
+// Whether this is the number.
+fn is_number(found: &Expr, number: i64) -> bool {
+    matches!(found, Expr::Number(value) if *value == number)
+}
+
+// Whether this is `-.`.
+fn is_minus_here(found: &Expr) -> bool {
+    matches!(found, Expr::Unary(UnaryOp::Neg, operand) if matches!(&**operand, Expr::Here))
+}
+
+// Whether this is `2 + -.`.
+fn is_sum(found: &Expr) -> bool {
+    match found {
+        Expr::Binary(BinaryOp::Add, left, right) => is_number(left, 2) && is_minus_here(right),
+        _ => false,
+    }
+}
+
+// Whether this is `(2 + -.) * 3`.
+fn is_product(found: &Expr) -> bool {
+    match found {
+        Expr::Binary(BinaryOp::Mul, left, right) => is_sum(left) && is_number(right, 3),
+        _ => false,
+    }
+}
 
 // Whether this is the expression `symbol - (2 + -.) * 3`.
 fn is_expression(found: &Result<Expr, ReadFault>) -> bool {
     match found {
-        Ok(Expr::Binary(BinaryOp::Sub, left, _)) => {
-            matches!(&**left, Expr::Word(name) if name.bytes() == b"symbol".as_slice())
+        Ok(Expr::Binary(BinaryOp::Sub, left, right)) => {
+            is_symbol(left, b"symbol") && is_product(right)
         }
         _ => false,
     }
@@ -38,14 +71,49 @@ pub fn expression_refused(alloc: Global, pads: u32) -> Outcome {
     }
 }
 
+// Whether these are the labels `start: 1:`.
+fn are_labels(found: &[Label]) -> bool {
+    match found {
+        [start, one] => {
+            matches!(&start.name, LabelName::Symbol(name) if name.bytes() == b"start".as_slice())
+                && matches!(&one.name, LabelName::Local(1))
+        }
+        _ => false,
+    }
+}
+
+// Whether this is the value `x + 4`.
+fn is_value(found: &OperandValue) -> bool {
+    match found {
+        OperandValue::Plain(Expr::Binary(BinaryOp::Add, left, right)) => {
+            is_symbol(left, b"x") && is_number(right, 4)
+        }
+        _ => false,
+    }
+}
+
+// Whether these are the operands of `lw a0, x + 4(a1)`.
+fn are_operands(found: &[Operand]) -> bool {
+    match found {
+        [operand] => operand.role == Role::Immediate && is_value(&operand.value),
+        _ => false,
+    }
+}
+
+// Whether this is the instruction `lw a0, x + 4(a1)`, its name at byte 10.
+fn is_load(found: &Instruction) -> bool {
+    found.name == Span { from: 10, to: 12 }
+        && found.fields.rd.number() == 10
+        && found.fields.rs1.number() == 11
+        && are_operands(found.operands.as_slice())
+}
+
 // Whether this is the statement `start: 1: lw a0, x + 4(a1)`.
 fn is_statement(found: &Result<Stmt, StmtError>) -> bool {
     match found {
         Ok(statement) => match &statement.body {
             Body::Instr(instruction) => {
-                statement.labels.len() == 2
-                    && instruction.name == Span { from: 10, to: 12 }
-                    && instruction.operands.len() == 1
+                are_labels(statement.labels.as_slice()) && is_load(instruction)
             }
             _ => false,
         },

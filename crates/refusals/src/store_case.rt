@@ -7,6 +7,18 @@ use rv_store::{Changed, EditError, Store, write_image};
 use rv_text::{MemSink, Tally};
 use std::alloc::Global;
 
+const LINES_BEFORE: &[&str] = &["addi a0, a0, 1", "# no bytes", "sub a0, a1, a2", ""];
+
+const LINES_AFTER_INSERT: &[&str] = &[
+    "addi a0, a0, 1",
+    "addi a0, a0, -1",
+    "# no bytes",
+    "sub a0, a1, a2",
+    "",
+];
+
+const LINES_AFTER_DELETE: &[&str] = &["# no bytes", "sub a0, a1, a2", ""];
+
 const BEFORE: &str = ".text 0x00000000 8
 00000000: 13 05 15 00 33 85 c5 40
 .rodata 0x00001000 0
@@ -67,11 +79,22 @@ fn make(store: &mut Store, edit: Edit) -> Result<Changed, EditError> {
     }
 }
 
-// Whether the store has so many lines and this image.
-fn shows(store: &Store, sink: &mut MemSink, lines: usize, image: &str) -> bool
+// Whether these are the lines of the store.
+fn has_lines(store: &Store, lines: &[&str]) -> bool {
+    for k in 0..store.len() as u32 {
+        match (store.line(k + 1), lines.get(k as usize)) {
+            (Some(found), Some(line)) if found == line.as_bytes() => {}
+            _ => return false,
+        }
+    }
+    store.len() == lines.len()
+}
+
+// Whether the store has these lines and this image.
+fn shows(store: &Store, sink: &mut MemSink, lines: &[&str], image: &str) -> bool
     requires { sink.old.failures ≡ 0 }
 {
-    store.len() == lines && write_image(store, sink).is_ok() && sink.bytes() == image.as_bytes()
+    has_lines(store, lines) && write_image(store, sink).is_ok() && sink.bytes() == image.as_bytes()
 }
 
 /// An edit in the midst of four lines, and once more where it is refused.
@@ -90,13 +113,13 @@ pub fn edit_refused(alloc: Global, pads: u32, edit: Edit) -> Outcome {
         return Outcome::Unprepared;
     }
     let (lines, image) = match edit {
-        Edit::Insert => (5, AFTER_INSERT),
-        Edit::Delete => (3, AFTER_DELETE),
+        Edit::Insert => (LINES_AFTER_INSERT, AFTER_INSERT),
+        Edit::Delete => (LINES_AFTER_DELETE, AFTER_DELETE),
     };
     match make(&mut store, edit) {
         Ok(_) if shows(&store, &mut first, lines, image) => Outcome::Made,
         Err(EditError::Memory)
-            if shows(&store, &mut first, 4, BEFORE)
+            if shows(&store, &mut first, LINES_BEFORE, BEFORE)
                 && make(&mut store, edit).is_ok()
                 && shows(&store, &mut second, lines, image) => { Outcome::Refused }
         _ => Outcome::Wrong,
