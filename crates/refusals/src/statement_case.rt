@@ -3,7 +3,7 @@
 ghost use Rattle.std.specs.Prelude.{◌≤◌, length};
 
 use crate::case::{Outcome, pad};
-use rv_expr::{BinaryOp, Expr, ReadFault, UnaryOp, read};
+use rv_expr::{BinaryOp, Expr, Node, ReadFault, UnaryOp, read};
 use rv_stmt::{
     Body, Instruction, Label, LabelName, Operand, OperandValue, Role, Stmt, StmtError, read_line,
 };
@@ -12,42 +12,51 @@ use std::alloc::Global;
 
 // Whether this is the symbol.
 fn is_symbol(found: &Expr, symbol: &[u8]) -> bool {
-    matches!(found, Expr::Word(name) if name.bytes() == symbol)
+    matches!(&found.node, Node::Word(name) if name.bytes() == symbol)
 }
 
 // Whether this is the number.
 fn is_number(found: &Expr, number: i64) -> bool {
-    matches!(found, Expr::Number(value) if *value == number)
+    matches!(&found.node, Node::Number(value) if *value == number)
 }
 
 // Whether this is `-.`.
 fn is_minus_here(found: &Expr) -> bool {
-    matches!(found, Expr::Unary(UnaryOp::Neg, operand) if matches!(&**operand, Expr::Here))
+    match &found.node {
+        Node::Unary(UnaryOp::Neg, operand) => matches!(operand.node, Node::Here),
+        _ => false,
+    }
 }
 
 // Whether this is `2 + -.`.
 fn is_sum(found: &Expr) -> bool {
-    match found {
-        Expr::Binary(BinaryOp::Add, left, right) => is_number(left, 2) && is_minus_here(right),
+    match &found.node {
+        Node::Binary(BinaryOp::Add, left, right) => is_number(left, 2) && is_minus_here(right),
         _ => false,
     }
 }
 
 // Whether this is `(2 + -.) * 3`.
 fn is_product(found: &Expr) -> bool {
-    match found {
-        Expr::Binary(BinaryOp::Mul, left, right) => is_sum(left) && is_number(right, 3),
+    match &found.node {
+        Node::Binary(BinaryOp::Mul, left, right) => is_sum(left) && is_number(right, 3),
         _ => false,
     }
 }
 
-// Whether this is the expression `symbol - (2 + -.) * 3`.
+// Whether this is `symbol - (2 + -.) * 3`.
+fn is_difference(found: &Expr) -> bool {
+    match &found.node {
+        Node::Binary(BinaryOp::Sub, left, right) => is_symbol(left, b"symbol") && is_product(right),
+        _ => false,
+    }
+}
+
+// Whether the expression `symbol - (2 + -.) * 3` was read.
 fn is_expression(found: &Result<Expr, ReadFault>) -> bool {
     match found {
-        Ok(Expr::Binary(BinaryOp::Sub, left, right)) => {
-            is_symbol(left, b"symbol") && is_product(right)
-        }
-        _ => false,
+        Ok(expression) => is_difference(expression),
+        Err(_) => false,
     }
 }
 
@@ -82,12 +91,10 @@ fn are_labels(found: &[Label]) -> bool {
     }
 }
 
-// Whether this is the value `x + 4`.
-fn is_value(found: &OperandValue) -> bool {
-    match found {
-        OperandValue::Plain(Expr::Binary(BinaryOp::Add, left, right)) => {
-            is_symbol(left, b"x") && is_number(right, 4)
-        }
+// Whether this is the expression `x + 4`.
+fn is_offset(found: &Expr) -> bool {
+    match &found.node {
+        Node::Binary(BinaryOp::Add, left, right) => is_symbol(left, b"x") && is_number(right, 4),
         _ => false,
     }
 }
@@ -95,7 +102,13 @@ fn is_value(found: &OperandValue) -> bool {
 // Whether these are the operands of `lw a0, x + 4(a1)`.
 fn are_operands(found: &[Operand]) -> bool {
     match found {
-        [operand] => operand.role == Role::Immediate && is_value(&operand.value),
+        [
+            Operand {
+                value: OperandValue::Plain(offset),
+                role: Role::Immediate,
+                ..
+            },
+        ] => is_offset(offset),
         _ => false,
     }
 }

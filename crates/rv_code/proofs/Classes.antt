@@ -1,4 +1,4 @@
--- The registers of a class, told by bounds.
+-- The registers of a class, by bounds.
 use Rattle.std.proofs.Common.{◌≡◌, ℕ, ◌<◌, ◌≤◌, true, leb, ltb, eqb, leb-true, ltb-true, eqb-true, not, ◌&&◌, IsTrue}
 use Rattle.std.proofs.lemmas.Bool.{and_parts, eqb-false, not-true}
 use Rattle.rv_ops.specs.declared.layouts.RegisterClass.{RegisterClass}

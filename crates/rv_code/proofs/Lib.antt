@@ -3,12 +3,11 @@ pub mod Classes
 pub mod Decoded
 pub mod Examples
 pub mod FittingFields
-pub mod FullWords
-pub mod HalfWords
-pub mod Masks
-pub mod Pieces
 pub mod Reach
+pub mod ReadBack
 pub mod Reading
+pub mod Runs
 pub mod Shapes
+pub mod Slices
 pub mod Values
 pub mod Words

@@ -1,7 +1,9 @@
--- The word of an instruction: RISC-V Unprivileged ISA 20191213, chapters 2, 7, 9 and 16.
-use Rattle.std.specs.Prelude.{Bool, IsTrue, ◌&&◌, ◌==◌, not, nat_lt, nat_le, int_le, negsuc, Option, Some, None, ◌≡◌, ℕ, ℤ, pos, ◌+◌, ◌*◌, ◌/◌, ◌%◌, ◌^◌, ◌≤ℤ◌, ◌<ℤ◌, ◌⊎◌, List, [], ◌∷◌, if◌then◌else◌, unsigned_abs}
+-- The encodings of instructions: RISC-V Unprivileged ISA 20191213, chapters 2, 7, 9 and 16.
+use Rattle.std.specs.Prelude.{Bool, IsTrue, ◌&&◌, ◌==◌, not, nat_lt, nat_le, int_le, negsuc, Option, Some, None, ◌≡◌, ℕ, ℤ, pos, ◌+◌, ◌*◌, ◌/◌, ◌%◌, ◌^◌, List, [], ◌∷◌, if◌then◌else◌}
 use Rattle.std.specs.Int.{cast_unsigned, to_le_bytes, w16, w32}
-use Rattle.rv_ops.specs.Table.{Limits, Piece, shape_of, fixed_of, is_full, classes_of, limits_of, pieces_of}
+use Rattle.rv_ops.specs.Limits.{limit_fault}
+use Rattle.rv_ops.specs.Table.{shape_of, fixed_of, is_full, classes_of, limits_of, slices_of}
+use Rattle.rv_ops.specs.declared.layouts.FieldSlice.{FieldSlice}
 use Rattle.rv_code.specs.declared.instruction.Fields.{Fields}
 use Rattle.rv_ops.specs.declared.op.Op.{Op}
 use Rattle.rv_ops.specs.declared.layouts.Field.{Field}
@@ -18,20 +20,20 @@ bits_of_field Rs1 f = f.rs1
 bits_of_field Rs2 f = f.rs2
 bits_of_field Value f = cast_unsigned w32 f.value
 
--- the bits of a piece at their places in the word
-abbrev pub bits_of_piece : Fields → Piece → ℕ
-bits_of_piece f p = (bits_of_field p.0 f / 2 ^ p.1 % 2 ^ p.2) * 2 ^ p.3
+-- the bits of a slice at their places in the word
+abbrev pub bits_of_slice : Fields → FieldSlice → ℕ
+bits_of_slice f s = (bits_of_field s.field f / 2 ^ s.field_bit % 2 ^ s.width) * 2 ^ s.word_bit
 
 -- all of them together
-abbrev pub placed : Fields → List Piece → ℕ
+abbrev pub placed : Fields → List FieldSlice → ℕ
 placed f [] = 0
-placed f (p ∷ ps) = bits_of_piece f p + placed f ps
+placed f (s ∷ ss) = bits_of_slice f s + placed f ss
 
--- the fixed bits of the row, and each piece of a field at its place
+-- the fixed bits of the row, and each slice of a field at its place
 unfoldable pub encoding_of : Op → Fields → ℕ
-encoding_of o f = fixed_of o + placed f (pieces_of (shape_of o))
+encoding_of o f = fixed_of o + placed f (slices_of (shape_of o))
 
--- the word of thirty-two bits or of sixteen
+-- as a word of thirty-two bits or of sixteen
 unfoldable pub word_of : Op → Fields → Word
 word_of o f = if is_full o then Full (encoding_of o f) else Half (encoding_of o f)
 
@@ -50,19 +52,12 @@ is_in NotSp n = nat_lt 0 n && nat_lt n 32 && not (n == 2)
 is_in Prime n = nat_le 8 n && nat_lt n 16
 is_in Set n = nat_lt 0 n && nat_lt n 16
 
--- from the least value to the greatest, a multiple of the number, and not in the gap
-pub record InLimits (l : Limits) (v : ℤ) : Type 0 where
-  pub low : l.0 ≤ℤ v
-  pub high : v ≤ℤ l.1
-  pub multiple : unsigned_abs v % l.2 ≡ 0
-  pub gap : (v <ℤ l.3) ⊎ (l.4 <ℤ v)
-
 -- the operation takes the fields
 pub record Fits (o : Op) (f : Fields) : Type 0 where
-  pub rd : IsTrue (is_in (classes_of (shape_of o)).0 f.rd)
-  pub rs1 : IsTrue (is_in (classes_of (shape_of o)).1 f.rs1)
-  pub rs2 : IsTrue (is_in (classes_of (shape_of o)).2 f.rs2)
-  pub value : InLimits (limits_of (shape_of o)) f.value
+  pub rd : IsTrue (is_in (classes_of (shape_of o)).rd f.rd)
+  pub rs1 : IsTrue (is_in (classes_of (shape_of o)).rs1 f.rs1)
+  pub rs2 : IsTrue (is_in (classes_of (shape_of o)).rs2 f.rs2)
+  pub value : limit_fault (limits_of (shape_of o)) f.value ≡ None
 
 -- the fields of `op rd, rs1, rs2`
 abbrev pub register_fields : ℕ → ℕ → ℕ → Fields

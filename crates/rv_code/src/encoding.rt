@@ -1,13 +1,13 @@
-//! The words of instructions.
+//! The encodings of instructions.
 ghost use Rattle.std.specs.Prelude.{◌≡◌, ◌+◌, ◌/◌, ◌%◌, ◌^◌, ◌<◌, ◌≤◌, IsTrue};
 ghost use Rattle.std.specs.List.{list_all};
-ghost use Rattle.rv_ops.specs.Room.{is_piece, most, room};
-ghost use Rattle.rv_ops.specs.Table.{fixed_of, pieces_of, shape_of};
-ghost use Rattle.rv_code.specs.Encoding.{bits_of_field, bits_of_piece, placed, encoding_of, word_of};
+ghost use Rattle.rv_ops.specs.Room.{is_slice, most, room};
+ghost use Rattle.rv_ops.specs.Table.{fixed_of, shape_of, slices_of};
+ghost use Rattle.rv_code.specs.Encoding.{bits_of_field, bits_of_slice, placed, encoding_of, word_of};
 
 use crate::instruction::{Fields, Ins};
 use crate::word::Word;
-use rv_ops::{Field, Op, Piece, fixed, is_full, pieces};
+use rv_ops::{Field, FieldSlice, Op, fixed, is_full, slices};
 
 /// `count` bits of a number, from the bit `lowest` on.
 pub fn cut(number: u32, lowest: u32, count: u32) -> u32
@@ -30,49 +30,56 @@ fn field_number(fields: &Fields, field: Field) -> u32
     }
 }
 
-/// The bits of a piece at their places in the word.
-fn put(piece: &Piece, fields: &Fields) -> u32
-    requires { IsTrue (is_piece piece.now) }
-    ensures value { result ≡ bits_of_piece fields.now piece.now }
-    ensures most { result ≤ most piece.now }
+/// The bits of a slice at their places in the word.
+fn put(slice: &FieldSlice, fields: &Fields) -> u32
+    requires { IsTrue (is_slice slice.now) }
+    ensures value { result ≡ bits_of_slice fields.now slice.now }
+    ensures most { result ≤ most slice.now }
 {
-    cut(field_number(fields, piece.0), piece.1, piece.2) << piece.3
+    let number = field_number(fields, slice.field);
+    cut(number, slice.field_bit, slice.width) << slice.word_bit
 }
 
-/// The fixed bits, and each piece of a field at its place.
-fn assembled(fixed: u32, mut pieces: &[Piece], fields: &Fields) -> u32
-    requires pieces { IsTrue (list_all is_piece pieces.now) }
-    requires room { fixed + room pieces.now < 2 ^ 32 }
-    ensures value { result ≡ fixed + placed fields.now pieces.entry.now }
-    ensures most { result ≤ fixed + room pieces.entry.now }
+/// The fixed bits, and each slice of a field at its place.
+fn assembled(fixed: u32, mut slices: &[FieldSlice], fields: &Fields) -> u32
+    requires slices { IsTrue (list_all is_slice slices.now) }
+    requires room { fixed + room slices.now < 2 ^ 32 }
+    ensures value { result ≡ fixed + placed fields.now slices.entry.now }
+    ensures most { result ≤ fixed + room slices.entry.now }
 {
     let mut word = fixed;
-    while let [piece, rest @ ..] = pieces {
-        word += put(piece, fields);
-        pieces = rest;
+    while let [slice, rest @ ..] = slices {
+        word += put(slice, fields);
+        slices = rest;
     }
     word
 }
 
-/// The word of an operation with these fields, as a number.
+/// The encoding of an operation with these fields, as a number.
 pub fn bits(op: Op, fields: &Fields) -> u32
     ensures value { result ≡ encoding_of op fields.now }
-    ensures most { result ≤ fixed_of op + room (pieces_of (shape_of op)) }
+    ensures most { result ≤ fixed_of op + room (slices_of (shape_of op)) }
 {
-    let its_pieces = pieces(op);
+    let its_slices = slices(op);
     let its_fixed = fixed(op);
-    assembled(its_fixed, its_pieces, fields)
+    assembled(its_fixed, its_slices, fields)
 }
 
-/// The word of an instruction.
-pub fn encode(ins: &Ins) -> Word
-    ensures { result ≡ word_of ins.now.0 ins.now.1 }
+/// The encoding of an operation with any fields. Where the operation takes the fields, it is that of an instruction.
+pub fn word_of(op: Op, fields: &Fields) -> Word
+    ensures { result ≡ word_of op fields.now }
 {
-    let op = ins.op();
-    let number = bits(op, ins.fields());
+    let number = bits(op, fields);
     if is_full(op) {
         Word::Full(number)
     } else {
         Word::Half(number as u16)
     }
+}
+
+/// The encoding of an instruction.
+pub fn encode(ins: &Ins) -> Word
+    ensures { result ≡ word_of ins.now.0 ins.now.1 }
+{
+    word_of(ins.op(), ins.fields())
 }

@@ -7,8 +7,8 @@ use rv_ops::{Op, Reg, Shape};
 use std::marker::Model;
 
 /// The fields of an instruction; one that its shape lacks is x0 or 0. The immediate of a `csrrwi` and its kin
-/// stands in `rs1`, and in its bits of the word. A fence has its predecessors in `rs1` and its successors in `rs2`;
-/// they stand in bits 27:24 and 23:20 of the word.
+/// stands in `rs1`, and in its bits of the encoding. A fence has its predecessors in `rs1` and its successors in `rs2`;
+/// they stand in bits 27:24 and 23:20 of the encoding.
 #[derive(Clone, Copy, Debug, PartialEq, Eq)]
 pub struct Fields {
     /// The destination register.
@@ -70,7 +70,7 @@ impl Ins {
         requires { shape_of op ≡ Shape.Register }
         ensures { result ≡ (op, register_fields rd rs1 rs2) }
     {
-        // Tells the prover that each number is below 32.
+        // Shows the prover that each number is below 32.
         let _numbers = (rd.number(), rs1.number(), rs2.number());
         Ins::new(
             op,
@@ -89,7 +89,7 @@ impl Ins {
         ensures fits { IsSome result ↔ ((negsuc 2047 ≤ℤ value) × (value ≤ℤ pos 2047)) }
         ensures value { IfSome result (λ i. i ≡ (op, immediate_fields rd rs1 value)) }
     {
-        // Tells the prover that each number is below 32.
+        // Shows the prover that each number is below 32.
         let _numbers = (rd.number(), rs1.number());
         match i32::try_from(value) {
             Ok(value) => Ins::try_new(

@@ -1,9 +1,9 @@
-//! The words of instructions.
+//! The words that encode instructions.
 ghost use Rattle.std.specs.Prelude.{◌≡◌};
 
 use arrayvec::ArrayVec;
 
-/// The word of an instruction: sixteen bits or thirty-two.
+/// The encoding of an instruction: a word of sixteen bits or of thirty-two.
 #[derive(Clone, Copy, Debug, PartialEq, Eq)]
 pub enum Word {
     /// Sixteen bits.

@@ -1,7 +1,7 @@
 -- Examples of the definitions, computed.
 use Rattle.std.specs.Prelude.{◌≡◌, ℕ, ℤ, pos, negsuc, List, [], ◌∷◌, Option, Some, None, Result, Ok, Err, codes, refl, option_map}
 use Rattle.rv_text.specs.Lexing.{lexed_line, pieces}
-use Rattle.rv_text.specs.declared.lexeme.TokenKind.TheVariants as signs
+use Rattle.rv_text.specs.declared.lexeme.TokenKind.TheVariants as kinds
 use Rattle.rv_expr.specs.declared.faults.ValueFault.{ValueFault}
 use Rattle.rv_expr.specs.declared.faults.ValueFault.TheVariants.{Undefined, Arithmetic, NoPartner}
 use Rattle.rv_expr.specs.declared.tree.Direction.TheVariants.{Back, Forward}
@@ -167,7 +167,7 @@ comma : read_as (codes "1, 2") ≡ None
 comma = refl
 
 -- a run of a line's tokens
-last_operand : run_of (lexed_line (codes "li a0, -1")) 3 5 ≡ pieces (record { line = codes "li a0, -1"; tokens = record { kind = signs.Sign; span = record { from = 7; to = 8 } } ∷ record { kind = signs.Number; span = record { from = 8; to = 9 } } ∷ []; fault = None })
+last_operand : run_of (lexed_line (codes "li a0, -1")) 3 5 ≡ pieces (record { line = codes "li a0, -1"; tokens = record { kind = kinds.Sign; span = record { from = 7; to = 8 } } ∷ record { kind = kinds.Number; span = record { from = 8; to = 9 } } ∷ []; fault = None })
 last_operand = refl
 
 -- parentheses that are open at one place

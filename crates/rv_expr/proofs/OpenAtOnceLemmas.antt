@@ -4,13 +4,13 @@ use Rattle.std.proofs.Math.Nat.{le-max_right, max-le}
 use Rattle.std.proofs.lemmas.Bool.{cases_lt}
 use Rattle.std.proofs.lemmas.List.{append-nil}
 use Rattle.rv_text.specs.Lexing.{Piece}
-use Rattle.rv_expr.specs.Depth.{depth_behind, depth_from, depth_of}
+use Rattle.rv_expr.specs.Depth.{depth_after, depth_from, depth_of}
 use Rattle.rv_expr.specs.OpenAtOnce.{openings, closings, AreOpenAtOnce}
-use Rattle.rv_expr.specs.Roles.{Role, Operand, Operator, Open, Close, role}
+use Rattle.rv_expr.specs.TokenRoles.{TokenRole, Operand, Operator, Open, Close, token_role}
 use Rattle.rv_expr.proofs.Depths.{depth-least}
 
--- what is open behind a stretch, and was not before it, the stretch has opened
-stretch-open : (depth : ℕ) (stretch behind : List Role) → openings stretch + depth ≤ closings stretch + depth_from depth (stretch ++ behind)
+-- what is open after a stretch, and was not before it, the stretch has opened
+stretch-open : (depth : ℕ) (stretch behind : List TokenRole) → openings stretch + depth ≤ closings stretch + depth_from depth (stretch ++ behind)
 stretch-open depth [] behind =
     let least = depth-least depth behind in
     omega (arith, least)
@@ -32,13 +32,13 @@ stretch-open depth (Operator u b ∷ rs) behind =
     omega (arith, inner, most)
 
 -- and so deep it is from any place before
-open-deep : (count depth : ℕ) (before stretch behind : List Role) → closings stretch + count ≤ openings stretch → count ≤ depth_from depth (before ++ (stretch ++ behind))
+open-deep : (count depth : ℕ) (before stretch behind : List TokenRole) → closings stretch + count ≤ openings stretch → count ≤ depth_from depth (before ++ (stretch ++ behind))
 open-deep count depth [] stretch behind h =
     let all = stretch-open depth stretch behind in
     omega (arith, all, h)
 open-deep count depth (r ∷ rs) stretch behind h =
-    let inner = open-deep count (depth_behind depth r) rs stretch behind h in
-    let most = le-max_right depth (depth_from (depth_behind depth r) (rs ++ (stretch ++ behind))) in
+    let inner = open-deep count (depth_after depth r) rs stretch behind h in
+    let most = le-max_right depth (depth_from (depth_after depth r) (rs ++ (stretch ++ behind))) in
     omega (arith, inner, most)
 
 pub depth_from_open : (count : ℕ) (run : List Piece) → AreOpenAtOnce count run → count ≤ depth_of run
@@ -46,20 +46,20 @@ depth_from_open count run o =
     rw o.whole (open-deep count 0 o.before o.stretch o.behind o.opened)
 
 -- the parentheses that are open at a place, where so many are, stand in a stretch that ends there
-record Open-here (depth : ℕ) (taken : List Role) : Type 0 where
-  before : List Role
-  stretch : List Role
+record Open-here (depth : ℕ) (taken : List TokenRole) : Type 0 where
+  before : List TokenRole
+  stretch : List TokenRole
   whole : taken ≡ before ++ stretch
   opened : openings stretch ≡ closings stretch + depth
 
-openings-append : (rs qs : List Role) → openings (rs ++ qs) ≡ openings rs + openings qs
+openings-append : (rs qs : List TokenRole) → openings (rs ++ qs) ≡ openings rs + openings qs
 openings-append [] qs = omega arith
 openings-append (Open ∷ rs) qs = rw (openings-append rs qs) (omega arith)
 openings-append (Close ∷ rs) qs = openings-append rs qs
 openings-append (Operand e ∷ rs) qs = openings-append rs qs
 openings-append (Operator u b ∷ rs) qs = openings-append rs qs
 
-closings-append : (rs qs : List Role) → closings (rs ++ qs) ≡ closings rs + closings qs
+closings-append : (rs qs : List TokenRole) → closings (rs ++ qs) ≡ closings rs + closings qs
 closings-append [] qs = omega arith
 closings-append (Open ∷ rs) qs = closings-append rs qs
 closings-append (Close ∷ rs) qs = rw (closings-append rs qs) (omega arith)
@@ -67,7 +67,7 @@ closings-append (Operand e ∷ rs) qs = closings-append rs qs
 closings-append (Operator u b ∷ rs) qs = closings-append rs qs
 
 -- one more token
-longer : (depth next : ℕ) (taken : List Role) (r : Role) → (o : Open-here depth taken) → openings (r ∷ []) + depth ≡ closings (r ∷ []) + next → Open-here next (taken ++ r ∷ [])
+longer : (depth next : ℕ) (taken : List TokenRole) (r : TokenRole) → (o : Open-here depth taken) → openings (r ∷ []) + depth ≡ closings (r ∷ []) + next → Open-here next (taken ++ r ∷ [])
 longer depth next taken r o same = record {
   before = o.before;
   stretch = o.stretch ++ r ∷ [];
@@ -75,24 +75,24 @@ longer depth next taken r o same = record {
   opened = rw (openings-append o.stretch (r ∷ []), closings-append o.stretch (r ∷ [])) (omega (arith, o.opened, same));
 }
 
-none-open : (taken : List Role) → Open-here 0 taken
+none-open : (taken : List TokenRole) → Open-here 0 taken
 none-open taken = record { before = taken; stretch = []; whole = sym (append-nil taken); opened = refl }
 
-open_behind : (depth : ℕ) (taken : List Role) (r : Role) → Open-here depth taken → Open-here (depth_behind depth r) (taken ++ r ∷ [])
+open_behind : (depth : ℕ) (taken : List TokenRole) (r : TokenRole) → Open-here depth taken → Open-here (depth_after depth r) (taken ++ r ∷ [])
 open_behind depth taken Open o = longer depth (suc depth) taken Open o (omega arith)
 open_behind zero taken Close o = none-open (taken ++ Close ∷ [])
 open_behind (suc depth) taken Close o = longer (suc depth) (suc depth - 1) taken Close o (omega arith)
 open_behind depth taken (Operand e) o = longer depth depth taken (Operand e) o refl
 open_behind depth taken (Operator u b) o = longer depth depth taken (Operator u b) o refl
 
-record Stretch (count : ℕ) (roles : List Role) : Type 0 where
-  before : List Role
-  stretch : List Role
-  behind : List Role
+record Stretch (count : ℕ) (roles : List TokenRole) : Type 0 where
+  before : List TokenRole
+  stretch : List TokenRole
+  behind : List TokenRole
   whole : roles ≡ before ++ (stretch ++ behind)
   opened : closings stretch + count ≤ openings stretch
 
-here-open : (count depth : ℕ) (taken rs : List Role) → Open-here depth taken → count ≤ depth → Stretch count (taken ++ rs)
+here-open : (count depth : ℕ) (taken rs : List TokenRole) → Open-here depth taken → count ≤ depth → Stretch count (taken ++ rs)
 here-open count depth taken rs o h = record {
   before = o.before;
   stretch = o.stretch;
@@ -109,22 +109,22 @@ not-below count x y h x-less y-less =
     let both : max x y ≤ count - 1 = max-le below under in
     absurd (omega (arith, h, both, x-less))
 
-found : (count depth : ℕ) (taken rs : List Role) → Open-here depth taken → count ≤ depth_from depth rs → Stretch count (taken ++ rs)
+found : (count depth : ℕ) (taken rs : List TokenRole) → Open-here depth taken → count ≤ depth_from depth rs → Stretch count (taken ++ rs)
 found count depth taken [] o h = here-open count depth taken [] o h
 found count depth taken (r ∷ rs) o h =
     ⊎_elim
     (λ above.
-    let inner : count ≤ depth_from (depth_behind depth r) rs =
+    let inner : count ≤ depth_from (depth_after depth r) rs =
     ⊎_elim
-    (λ less. absurd (not-below count depth (depth_from (depth_behind depth r) rs) h above less))
+    (λ less. absurd (not-below count depth (depth_from (depth_after depth r) rs) h above less))
     (λ enough. enough)
-    (cases_lt (depth_from (depth_behind depth r) rs) count)
+    (cases_lt (depth_from (depth_after depth r) rs) count)
     in
-    rw (sym (append_assoc taken (r ∷ []) rs)) (found count (depth_behind depth r) (taken ++ r ∷ []) rs (open_behind depth taken r o) inner))
+    rw (sym (append_assoc taken (r ∷ []) rs)) (found count (depth_after depth r) (taken ++ r ∷ []) rs (open_behind depth taken r o) inner))
     (λ here. here-open count depth taken (r ∷ rs) o here)
     (cases_lt depth count)
 
 pub open_from_depth : (count : ℕ) (run : List Piece) → count ≤ depth_of run → AreOpenAtOnce count run
 open_from_depth count run h =
-    let s = found count 0 [] (map role run) (none-open []) h in
+    let s = found count 0 [] (map token_role run) (none-open []) h in
     record { before = s.before; stretch = s.stretch; behind = s.behind; whole = s.whole; opened = s.opened }

@@ -8,8 +8,10 @@ use Rattle.rv_expr.specs.declared.tree.BinaryOp.{BinaryOp}
 use Rattle.rv_expr.specs.declared.tree.BinaryOp.TheVariants.{Mul, Div, Rem, Shl, Shr, And, Or, Xor, Add, Sub}
 use Rattle.rv_expr.specs.declared.tree.UnaryOp.{UnaryOp}
 use Rattle.rv_expr.specs.Tree.{Tree, Unary, Binary, level}
-use Rattle.rv_expr.specs.Roles.{Role, Operand, Operator, Open, Close}
-use Rattle.rv_expr.specs.Reading.{Waiting, Before, After, Parenthesis, signed, joined, closed, alone, wanted, reached}
+use Rattle.rv_expr.specs.TokenRoles.{TokenRole, Operand, Operator, Open, Close}
+use Rattle.rv_expr.specs.declared.reading.Pending.{Pending}
+use Rattle.rv_expr.specs.declared.reading.Pending.TheVariants.{Before, After, Parenthesis}
+use Rattle.rv_expr.specs.Reading.{signed, joined, closed, alone, wanted, reached}
 use Rattle.rv_expr.proofs.RoleGrammar.{RolesSpell, atom, parens, unary, binary, looser}
 use Rattle.rv_expr.proofs.SpelledIsRead.{Above}
 
@@ -26,46 +28,46 @@ level-pos Add = omega arith
 level-pos Sub = omega arith
 
 -- the same roles, grouped in two ways
-regroup_after : (ds qs : List Role) (p : Role) (rs : List Role) → ds ++ (qs ++ p ∷ rs) ≡ (ds ++ (qs ++ p ∷ [])) ++ rs
+regroup_after : (ds qs : List TokenRole) (p : TokenRole) (rs : List TokenRole) → ds ++ (qs ++ p ∷ rs) ≡ (ds ++ (qs ++ p ∷ [])) ++ rs
 regroup_after ds qs p rs = simp append_assoc
 
-regrouped : (ds rs ps cs qs : List Role) → ds ++ rs ≡ cs ++ qs → ds ++ (rs ++ ps) ≡ cs ++ (qs ++ ps)
+regrouped : (ds rs ps cs qs : List TokenRole) → ds ++ rs ≡ cs ++ qs → ds ++ (rs ++ ps) ≡ cs ++ (qs ++ ps)
 regrouped ds rs ps cs qs h = sym (append_assoc ds rs ps) ∙ ap (λ xs. xs ++ ps) h ∙ append_assoc cs qs ps
 
-operator_regrouped : (ds rs : List Role) (p : Role) (ps cs qs : List Role) → ds ++ rs ≡ cs ++ qs → (ds ++ (rs ++ p ∷ [])) ++ ps ≡ cs ++ (qs ++ p ∷ ps)
+operator_regrouped : (ds rs : List TokenRole) (p : TokenRole) (ps cs qs : List TokenRole) → ds ++ rs ≡ cs ++ qs → (ds ++ (rs ++ p ∷ [])) ++ ps ≡ cs ++ (qs ++ p ∷ ps)
 operator_regrouped ds rs p ps cs qs h = sym (regroup_after ds rs p ps) ∙ regrouped ds rs (p ∷ ps) cs qs h
 
-close_regrouped : (ds rs ps is js cs qs : List Role) → ds ++ rs ≡ is ++ (js ++ Close ∷ []) → is ++ js ≡ cs ++ qs → ds ++ (rs ++ ps) ≡ cs ++ (qs ++ Close ∷ ps)
+close_regrouped : (ds rs ps is js cs qs : List TokenRole) → ds ++ rs ≡ is ++ (js ++ Close ∷ []) → is ++ js ≡ cs ++ qs → ds ++ (rs ++ ps) ≡ cs ++ (qs ++ Close ∷ ps)
 close_regrouped ds rs ps is js cs qs h g =
     regrouped ds rs ps is (js ++ Close ∷ []) h
     ∙ ap (λ xs. is ++ xs) (append_assoc js (Close ∷ []) ps)
     ∙ regrouped is js (Close ∷ ps) cs qs g
 
 -- the roles that have been taken are those of what waits
-abbrev Stands : List Waiting → List Role → Type 0
+abbrev Stands : List Pending → List TokenRole → Type 0
 Stands [] cs = cs ≡ []
 Stands (Before op ∷ ws) cs =
-    (b : Option BinaryOp) × (ds : List Role) × Stands ws ds × (cs ≡ ds ++ Operator (Some op) b ∷ [])
+    (b : Option BinaryOp) × (ds : List TokenRole) × Stands ws ds × (cs ≡ ds ++ Operator (Some op) b ∷ [])
 Stands (After op a ∷ ws) cs =
-    (u : Option UnaryOp) × (ds qs : List Role) × Stands ws ds × Above (level op) ws × RolesSpell (level op) qs a × (cs ≡ ds ++ (qs ++ Operator u (Some op) ∷ []))
-Stands (Parenthesis ∷ ws) cs = (ds : List Role) × Stands ws ds × (cs ≡ ds ++ Open ∷ [])
+    (u : Option UnaryOp) × (ds qs : List TokenRole) × Stands ws ds × Above (level op) ws × RolesSpell (level op) qs a × (cs ≡ ds ++ (qs ++ Operator u (Some op) ∷ []))
+Stands (Parenthesis ∷ ws) cs = (ds : List TokenRole) × Stands ws ds × (cs ≡ ds ++ Open ∷ [])
 
-raised : (n k : ℕ) (qs : List Role) (e : Tree) → RolesSpell k qs e → RolesSpell (n + k) qs e
+raised : (n k : ℕ) (qs : List TokenRole) (e : Tree) → RolesSpell k qs e → RolesSpell (n + k) qs e
 raised zero k qs e s = subst (λ m. RolesSpell m qs e) (omega arith) s
 raised (suc n) k qs e s =
     let up : suc (n + k) ≡ suc n + k = omega arith in
     subst (λ m. RolesSpell m qs e) up (looser (raised n k qs e s))
 
-lifted : (k bound : ℕ) (qs : List Role) (e : Tree) → k ≤ bound → RolesSpell k qs e → RolesSpell bound qs e
+lifted : (k bound : ℕ) (qs : List TokenRole) (e : Tree) → k ≤ bound → RolesSpell k qs e → RolesSpell bound qs e
 lifted k bound qs e le s =
     let there : (bound - k) + k ≡ bound = omega arith in
     subst (λ m. RolesSpell m qs e) there (raised (bound - k) k qs e s)
 
--- what waits, what was taken for it, and an operand behind it of roles that the grammar spells
-record Found (bound : ℕ) (cs qs : List Role) (next : List Waiting → Tree → Option Tree) (t : Tree) : Type 0 where
-  ws : List Waiting
-  ds : List Role
-  rs : List Role
+-- what waits, what was taken for it, and after it an operand of roles that the grammar spells
+record Found (bound : ℕ) (cs qs : List TokenRole) (next : List Pending → Tree → Option Tree) (t : Tree) : Type 0 where
+  ws : List Pending
+  ds : List TokenRole
+  rs : List TokenRole
   e : Tree
   stands : Stands ws ds
   above : Above bound ws
@@ -73,14 +75,14 @@ record Found (bound : ℕ) (cs qs : List Role) (next : List Waiting → Tree →
   same : ds ++ rs ≡ cs ++ qs
   goes : next ws e ≡ Some t
 
-binary-at : (op : BinaryOp) (u : Option UnaryOp) (k : ℕ) (ps qs : List Role) (a b : Tree) → k < level op → RolesSpell (level op) ps a → RolesSpell k qs b → RolesSpell (level op) (ps ++ Operator u (Some op) ∷ qs) (Binary op a b)
+binary-at : (op : BinaryOp) (u : Option UnaryOp) (k : ℕ) (ps qs : List TokenRole) (a b : Tree) → k < level op → RolesSpell (level op) ps a → RolesSpell k qs b → RolesSpell (level op) (ps ++ Operator u (Some op) ∷ qs) (Binary op a b)
 binary-at op u k ps qs a b lt s t =
     let below = level op - 1 in
     let is : level op ≡ suc below = omega arith in
     subst (λ m. RolesSpell m (ps ++ Operator u (Some op) ∷ qs) (Binary op a b)) (sym is)
     (binary u is (subst (λ m. RolesSpell m ps a) is s) (lifted k below qs b (omega arith) t))
 
-signed-found : (next : List Waiting → Tree → Option Tree) (ws : List Waiting) (cs qs : List Role) (f t : Tree) → Stands ws cs → RolesSpell 0 qs f → signed next ws f ≡ Some t → Found 0 cs qs next t
+signed-found : (next : List Pending → Tree → Option Tree) (ws : List Pending) (cs qs : List TokenRole) (f t : Tree) → Stands ws cs → RolesSpell 0 qs f → signed next ws f ≡ Some t → Found 0 cs qs next t
 signed-found next [] cs qs f t st s h = record { ws = []; ds = cs; rs = qs; e = f; stands = st; above = tt; spells = s; same = refl; goes = h }
 signed-found next (Before op ∷ ws) cs qs f t st s h =
     let found = signed-found next ws st.1 (Operator (Some op) st.0 ∷ qs) (Unary op f) t st.2 (unary st.0 s) h in
@@ -100,7 +102,7 @@ signed-found next (After op a ∷ ws) cs qs f t st s h =
 signed-found next (Parenthesis ∷ ws) cs qs f t st s h =
     record { ws = Parenthesis ∷ ws; ds = cs; rs = qs; e = f; stands = st; above = tt; spells = s; same = refl; goes = h }
 
-joined-found : (bound : ℕ) (next : List Waiting → Tree → Option Tree) (ws : List Waiting) (k : ℕ) (cs qs : List Role) (f t : Tree) → k ≤ bound → Stands ws cs → Above k ws → RolesSpell k qs f → joined bound next ws f ≡ Some t → Found bound cs qs next t
+joined-found : (bound : ℕ) (next : List Pending → Tree → Option Tree) (ws : List Pending) (k : ℕ) (cs qs : List TokenRole) (f t : Tree) → k ≤ bound → Stands ws cs → Above k ws → RolesSpell k qs f → joined bound next ws f ≡ Some t → Found bound cs qs next t
 joined-found bound next [] k cs qs f t le st ab s h =
     record { ws = []; ds = cs; rs = qs; e = f; stands = st; above = tt; spells = lifted k bound qs f le s; same = refl; goes = h }
 joined-found bound next (Before op ∷ ws) k cs qs f t le st ab s h = absurd ab
@@ -128,12 +130,12 @@ joined-found bound next (After op a ∷ ws) k cs qs f t le st ab s h =
     })
     (cases_lt bound (level op))
 
-finish : (ws : List Waiting) (ds rs : List Role) (e t : Tree) → Stands ws ds → RolesSpell 3 rs e → alone ws e ≡ Some t → RolesSpell 3 (ds ++ rs) t
+finish : (ws : List Pending) (ds rs : List TokenRole) (e t : Tree) → Stands ws ds → RolesSpell 3 rs e → alone ws e ≡ Some t → RolesSpell 3 (ds ++ rs) t
 finish [] ds rs e t st s h =
     subst (λ xs. RolesSpell 3 (xs ++ rs) t) (sym st) (subst (λ x. RolesSpell 3 rs x) (same_Some e t h) s)
 finish (w ∷ ws) ds rs e t st s h = absurd (none-some t h)
 
-closed-found : (next : List Waiting → Tree → Option Tree) (ws : List Waiting) (ds rs : List Role) (e t : Tree) → Stands ws ds → RolesSpell 3 rs e → closed (signed next) ws e ≡ Some t → Found 0 ds (rs ++ Close ∷ []) next t
+closed-found : (next : List Pending → Tree → Option Tree) (ws : List Pending) (ds rs : List TokenRole) (e t : Tree) → Stands ws ds → RolesSpell 3 rs e → closed (signed next) ws e ≡ Some t → Found 0 ds (rs ++ Close ∷ []) next t
 closed-found next [] ds rs e t st s h = absurd (none-some t h)
 closed-found next (Before op ∷ ws) ds rs e t st s h = absurd (none-some t h)
 closed-found next (After op a ∷ ws) ds rs e t st s h = absurd (none-some t h)
@@ -152,7 +154,7 @@ closed-found next (Parenthesis ∷ ws) ds rs e t st s h =
     }
 
 mutual
-  from_wanted : (ps : List Role) (ws : List Waiting) (cs : List Role) (e : Tree) → Stands ws cs → wanted ws ps ≡ Some e → RolesSpell 3 (cs ++ ps) e
+  from_wanted : (ps : List TokenRole) (ws : List Pending) (cs : List TokenRole) (e : Tree) → Stands ws cs → wanted ws ps ≡ Some e → RolesSpell 3 (cs ++ ps) e
   from_wanted [] ws cs e st h = absurd (none-some e h)
   from_wanted (Operand a ∷ ps) ws cs e st h =
       let found = signed-found (λ vs f. reached vs f ps) ws cs (Operand a ∷ []) a e st atom h in
@@ -165,7 +167,7 @@ mutual
       subst (λ xs. RolesSpell 3 xs e) (append_assoc cs (Open ∷ []) ps) (from_wanted ps (Parenthesis ∷ ws) (cs ++ Open ∷ []) e (cs, st, refl) h)
   from_wanted (Close ∷ ps) ws cs e st h = absurd (none-some e h)
 
-  from_reached : (ps : List Role) (ws : List Waiting) (f : Tree) (cs qs : List Role) (e : Tree) → Stands ws cs → Above 0 ws → RolesSpell 0 qs f → reached ws f ps ≡ Some e → RolesSpell 3 (cs ++ (qs ++ ps)) e
+  from_reached : (ps : List TokenRole) (ws : List Pending) (f : Tree) (cs qs : List TokenRole) (e : Tree) → Stands ws cs → Above 0 ws → RolesSpell 0 qs f → reached ws f ps ≡ Some e → RolesSpell 3 (cs ++ (qs ++ ps)) e
   from_reached [] ws f cs qs e st ab s h =
       let found = joined-found 3 alone ws 0 cs qs f e (omega arith) st ab s h in
       subst (λ xs. RolesSpell 3 xs e) (found.same ∙ ap (λ xs. cs ++ xs) (sym (append-nil qs))) (finish found.ws found.ds found.rs found.e e found.stands found.spells found.goes)
@@ -183,5 +185,5 @@ mutual
       subst (λ xs. RolesSpell 3 xs e) (close_regrouped found.ds found.rs ps inner.ds inner.rs cs qs found.same inner.same) there
 
 -- what is read, the roles spell
-pub spelled_from_wanted : (ps : List Role) (e : Tree) → wanted [] ps ≡ Some e → RolesSpell 3 ps e
+pub spelled_from_wanted : (ps : List TokenRole) (e : Tree) → wanted [] ps ≡ Some e → RolesSpell 3 ps e
 spelled_from_wanted ps e h = from_wanted ps [] [] e refl h

@@ -6,51 +6,51 @@ use Rattle.rv_expr.specs.declared.tree.BinaryOp.{BinaryOp}
 use Rattle.rv_expr.specs.declared.tree.UnaryOp.{UnaryOp}
 use Rattle.rv_expr.specs.Grammar as tokens
 use Rattle.rv_expr.specs.Grammar.{Spells}
-use Rattle.rv_expr.specs.Roles.{Role, Operand, Operator, Open, Close, role}
+use Rattle.rv_expr.specs.TokenRoles.{TokenRole, Operand, Operator, Open, Close, token_role}
 use Rattle.rv_expr.specs.Tree.{Tree, Unary, Binary, level}
 
-pub data RolesSpell : ℕ → List Role → Tree → Type 0 where
+pub data RolesSpell : ℕ → List TokenRole → Tree → Type 0 where
   atom : {e : Tree} → RolesSpell 0 (Operand e ∷ []) e
-  parens : {rs : List Role} {e : Tree} → RolesSpell 3 rs e → RolesSpell 0 (Open ∷ (rs ++ (Close ∷ []))) e
-  unary : {op : UnaryOp} (b : Option BinaryOp) {rs : List Role} {e : Tree} → RolesSpell 0 rs e → RolesSpell 0 (Operator (Some op) b ∷ rs) (Unary op e)
-  binary : {bound : ℕ} {op : BinaryOp} (u : Option UnaryOp) {ps qs : List Role} {a b : Tree} → level op ≡ suc bound → RolesSpell (suc bound) ps a → RolesSpell bound qs b → RolesSpell (suc bound) (ps ++ (Operator u (Some op) ∷ qs)) (Binary op a b)
-  looser : {bound : ℕ} {rs : List Role} {e : Tree} → RolesSpell bound rs e → RolesSpell (suc bound) rs e
+  parens : {rs : List TokenRole} {e : Tree} → RolesSpell 3 rs e → RolesSpell 0 (Open ∷ (rs ++ (Close ∷ []))) e
+  unary : {op : UnaryOp} (b : Option BinaryOp) {rs : List TokenRole} {e : Tree} → RolesSpell 0 rs e → RolesSpell 0 (Operator (Some op) b ∷ rs) (Unary op e)
+  binary : {bound : ℕ} {op : BinaryOp} (u : Option UnaryOp) {ps qs : List TokenRole} {a b : Tree} → level op ≡ suc bound → RolesSpell (suc bound) ps a → RolesSpell bound qs b → RolesSpell (suc bound) (ps ++ (Operator u (Some op) ∷ qs)) (Binary op a b)
+  looser : {bound : ℕ} {rs : List TokenRole} {e : Tree} → RolesSpell bound rs e → RolesSpell (suc bound) rs e
 
 -- what tokens spell, they spell by what they are
-pub roles_from_tokens : {bound : ℕ} {run : List Piece} {e : Tree} → Spells bound run e → RolesSpell bound (map role run) e
+pub roles_from_tokens : {bound : ℕ} {run : List Piece} {e : Tree} → Spells bound run e → RolesSpell bound (map token_role run) e
 roles_from_tokens (tokens.operand p e is) = rw is atom
 roles_from_tokens (tokens.parentheses p q run e opens s closes) =
-    rw (opens, map-append role run (q ∷ []), closes) (parens (roles_from_tokens s))
+    rw (opens, map-append token_role run (q ∷ []), closes) (parens (roles_from_tokens s))
 roles_from_tokens (tokens.unary p op other run e is s) = rw is (unary other (roles_from_tokens s))
 roles_from_tokens (tokens.binary bound p op other left right a b at s is t) =
-    rw (map-append role left (p ∷ right), is) (binary other at (roles_from_tokens s) (roles_from_tokens t))
+    rw (map-append token_role left (p ∷ right), is) (binary other at (roles_from_tokens s) (roles_from_tokens t))
 roles_from_tokens (tokens.tighter bound run e s) = looser (roles_from_tokens s)
 
 -- a list of tokens by a first one
-record First (run : List Piece) (r : Role) (rs : List Role) : Type 0 where
+record First (run : List Piece) (r : TokenRole) (rs : List TokenRole) : Type 0 where
   p : Piece
   rest : List Piece
   whole : run ≡ p ∷ rest
-  is : role p ≡ r
-  behind : map role rest ≡ rs
+  is : token_role p ≡ r
+  behind : map token_role rest ≡ rs
 
-first : (run : List Piece) (r : Role) (rs : List Role) → map role run ≡ r ∷ rs → First run r rs
+first : (run : List Piece) (r : TokenRole) (rs : List TokenRole) → map token_role run ≡ r ∷ rs → First run r rs
 first [] r rs h = absurd (omega (arith, ap length h))
 first (p ∷ run) r rs h = record { p = p; rest = run; whole = refl; is = ap (λ xs. get_or xs 0 r) h; behind = ap (drop 1) h }
 
-nothing : (run : List Piece) → map role run ≡ [] → run ≡ []
+nothing : (run : List Piece) → map token_role run ≡ [] → run ≡ []
 nothing [] h = refl
 nothing (p ∷ run) h = absurd (omega (arith, ap length h))
 
 -- a list of tokens in two parts
-record Parts (run : List Piece) (rs qs : List Role) : Type 0 where
+record Parts (run : List Piece) (rs qs : List TokenRole) : Type 0 where
   front : List Piece
   back : List Piece
   whole : run ≡ front ++ back
-  before : map role front ≡ rs
-  behind : map role back ≡ qs
+  before : map token_role front ≡ rs
+  behind : map token_role back ≡ qs
 
-parts : (run : List Piece) (rs qs : List Role) → map role run ≡ rs ++ qs → Parts run rs qs
+parts : (run : List Piece) (rs qs : List TokenRole) → map token_role run ≡ rs ++ qs → Parts run rs qs
 parts run [] qs h = record { front = []; back = run; whole = refl; before = refl; behind = h }
 parts run (r ∷ rs) qs h =
     let f = first run r (rs ++ qs) h in
@@ -64,7 +64,7 @@ parts run (r ∷ rs) qs h =
     }
 
 -- what is spelled by what tokens are, they spell
-pub tokens_from_roles : {bound : ℕ} {rs : List Role} {e : Tree} → RolesSpell bound rs e → (run : List Piece) → map role run ≡ rs → Spells bound run e
+pub tokens_from_roles : {bound : ℕ} {rs : List TokenRole} {e : Tree} → RolesSpell bound rs e → (run : List Piece) → map token_role run ≡ rs → Spells bound run e
 tokens_from_roles (atom {e}) run h =
     let f = first run (Operand e) [] h in
     rw (f.whole, nothing f.rest f.behind) (tokens.operand f.p e f.is)

@@ -5,13 +5,13 @@ use Rattle.std.proofs.lemmas.List.{drop_more, get_or-map, length-map}
 use Rattle.rv_text.specs.declared.lexeme.Token.{Token}
 use Rattle.rv_text.specs.Lexing.{LexedLine, Piece, text_at, pieces}
 use Rattle.rv_expr.specs.Reading.{run_of}
-use Rattle.rv_expr.specs.Roles.{role, role_text}
+use Rattle.rv_expr.specs.TokenRoles.{token_role, token_role_of_text}
 
 module _ (line : LexedLine) (k to : ℕ) (d : Token) (within : k < length line.tokens) (before : k < to) where
   abbrev piece_of : Token → Piece
   piece_of t = record { kind = t.kind; text = text_at line.line t.span; span = t.span }
 
-  -- the token and those behind it
+  -- the token and those after it
   dropped : drop k (pieces line) ≡ piece_of (slice_index_or line.tokens k d) ∷ drop (k + 1) (pieces line)
   dropped =
       drop_more (pieces line) k (piece_of d) (rw length-map within)
@@ -22,5 +22,5 @@ module _ (line : LexedLine) (k to : ℕ) (d : Token) (within : k < length line.t
       let more : to - k ≡ suc (to - (k + 1)) = omega arith in
       rw (more, dropped) refl
 
-  pub roles_step : map role (run_of line k to) ≡ role_text (slice_index_or line.tokens k d).kind (text_at line.line (slice_index_or line.tokens k d).span) ∷ map role (run_of line (k + 1) to)
-  roles_step = ap (map role) run-step
+  pub roles_step : map token_role (run_of line k to) ≡ token_role_of_text (slice_index_or line.tokens k d).kind (text_at line.line (slice_index_or line.tokens k d).span) ∷ map token_role (run_of line (k + 1) to)
+  roles_step = ap (map token_role) run-step

@@ -1,8 +1,8 @@
 -- The stack of what waits.
-use Rattle.std.proofs.Common.{◌≡◌, List, [], ◌∷◌, ◌++◌, map, reverse, ap, ◌∙◌}
-use Rattle.std.proofs.lemmas.List.{map-append, reverse-append}
+use Rattle.std.proofs.Common.{◌≡◌, List, [], ◌∷◌, ◌++◌}
+use Rattle.std.proofs.lemmas.List.{reverse-append}
 use Rattle.rv_expr.specs.declared.reading.Pending.{Pending}
-use Rattle.rv_expr.specs.ReaderState.{waits, waiting_of}
+use Rattle.rv_expr.specs.ReaderState.{waits}
 
-pub waits_push : (xs : List Pending) (x : Pending) → waits (xs ++ x ∷ []) ≡ waiting_of x ∷ waits xs
-waits_push xs x = ap reverse (map-append waiting_of xs (x ∷ [])) ∙ reverse-append (map waiting_of xs) (waiting_of x ∷ [])
+pub waits_push : (xs : List Pending) (x : Pending) → waits (xs ++ x ∷ []) ≡ x ∷ waits xs
+waits_push xs x = reverse-append xs (x ∷ [])

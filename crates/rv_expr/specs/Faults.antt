@@ -1,4 +1,4 @@
--- The numbers and names by which refusals and faults are told.
+-- The numbers of refusals, and the faults of lines that faults of values are reported as.
 use Rattle.std.specs.Prelude.{ℕ}
 use Rattle.rv_text.specs.declared.faults.FaultNumber.{FaultNumber}
 use Rattle.rv_text.specs.declared.faults.FaultNumber.TheVariants as line

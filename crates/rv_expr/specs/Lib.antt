@@ -1,8 +1,10 @@
 pub mod Tree
+pub mod TreeCode
+pub mod Nodes
 pub mod Faults
 pub mod Arithmetic
 pub mod Value
-pub mod Roles
+pub mod TokenRoles
 pub mod Reading
 pub mod Grammar
 pub mod Depth

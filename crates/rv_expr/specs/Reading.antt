@@ -1,30 +1,26 @@
 -- The tree of a run of tokens. (docs/LANGUAGE.md, Expressions)
 use Rattle.std.specs.Prelude.{ℕ, nat_le, List, [], ◌∷◌, map, Option, Some, None, slice_range, if◌then◌else◌}
 use Rattle.rv_text.specs.Lexing.{LexedLine, Piece, pieces}
-use Rattle.rv_expr.specs.declared.tree.BinaryOp.{BinaryOp}
-use Rattle.rv_expr.specs.declared.tree.UnaryOp.{UnaryOp}
-use Rattle.rv_expr.specs.Roles.{Role, Operand, Operator, Open, Close, role}
+use Rattle.rv_expr.specs.declared.reading.Pending.{Pending}
+use Rattle.rv_expr.specs.declared.reading.Pending.TheVariants.{Before, After, Parenthesis}
+use Rattle.rv_expr.specs.TokenRoles.{TokenRole, Operand, Operator, Open, Close, token_role}
 use Rattle.rv_expr.specs.Tree.{Tree, Unary, Binary, level}
 
 -- the tokens of a line from a place up to, and without, another
 abbrev pub run_of : LexedLine → ℕ → ℕ → List Piece
 run_of line from to = slice_range (pieces line) from to
 
--- what waits for an operand, the innermost first: a unary operator, a left operand with its operator, a parenthesis
-pub data Waiting : Type 0 where
-  Before : UnaryOp → Waiting
-  After : BinaryOp → Tree → Waiting
-  Parenthesis : Waiting
+-- The lists hold what waits for an operand, the innermost first, and `next` goes on from there.
 
--- the unary operators in front of an operand act on it; `next` goes on from there
-abbrev pub signed : (List Waiting → Tree → Option Tree) → List Waiting → Tree → Option Tree
+-- the unary operators before an operand act on it
+abbrev pub signed : (List Pending → Tree → Option Tree) → List Pending → Tree → Option Tree
 signed next [] e = next [] e
 signed next (Before op ∷ ws) e = signed next ws (Unary op e)
 signed next (After op a ∷ ws) e = next (After op a ∷ ws) e
 signed next (Parenthesis ∷ ws) e = next (Parenthesis ∷ ws) e
 
 -- the operators that bind as tightly as the level, or tighter, act on what stands on their two sides
-abbrev pub joined : ℕ → (List Waiting → Tree → Option Tree) → List Waiting → Tree → Option Tree
+abbrev pub joined : ℕ → (List Pending → Tree → Option Tree) → List Pending → Tree → Option Tree
 joined bound next [] e = next [] e
 joined bound next (After op a ∷ ws) e =
     if nat_le (level op) bound then joined bound next ws (Binary op a e) else next (After op a ∷ ws) e
@@ -32,20 +28,20 @@ joined bound next (Before op ∷ ws) e = next (Before op ∷ ws) e
 joined bound next (Parenthesis ∷ ws) e = next (Parenthesis ∷ ws) e
 
 -- the innermost open parenthesis is closed
-abbrev pub closed : (List Waiting → Tree → Option Tree) → List Waiting → Tree → Option Tree
+abbrev pub closed : (List Pending → Tree → Option Tree) → List Pending → Tree → Option Tree
 closed next [] e = None
 closed next (Parenthesis ∷ ws) e = next ws e
 closed next (Before op ∷ ws) e = None
 closed next (After op a ∷ ws) e = None
 
 -- nothing waits
-abbrev pub alone : List Waiting → Tree → Option Tree
+abbrev pub alone : List Pending → Tree → Option Tree
 alone [] e = Some e
 alone (w ∷ ws) e = None
 
--- what becomes of a place where an operand is wanted, and of one behind an operand
+-- what becomes of a place where an operand is wanted, and of one after an operand
 abbrev mutual
-  pub wanted : List Waiting → List Role → Option Tree
+  pub wanted : List Pending → List TokenRole → Option Tree
   wanted ws [] = None
   wanted ws (Operand e ∷ rs) = signed (λ vs f. reached vs f rs) ws e
   wanted ws (Operator None b ∷ rs) = None
@@ -53,7 +49,7 @@ abbrev mutual
   wanted ws (Open ∷ rs) = wanted (Parenthesis ∷ ws) rs
   wanted ws (Close ∷ rs) = None
 
-  pub reached : List Waiting → Tree → List Role → Option Tree
+  pub reached : List Pending → Tree → List TokenRole → Option Tree
   reached ws e [] = joined 3 alone ws e
   reached ws e (Operand f ∷ rs) = None
   reached ws e (Operator u None ∷ rs) = None
@@ -63,4 +59,4 @@ abbrev mutual
 
 -- the tree of a run of tokens, where it is an expression
 abbrev pub expression_of : List Piece → Option Tree
-expression_of run = wanted [] (map role run)
+expression_of run = wanted [] (map token_role run)

@@ -6,7 +6,7 @@ use Rattle.rv_expr.specs.declared.faults.ReadFault.TheVariants.{Deep, Operand, M
 use Rattle.rv_expr.specs.Depth.{depth_of}
 use Rattle.rv_expr.specs.Reading.{expression_of}
 
--- too many open parentheses, whatever else is wrong; then no expression; nothing, where memory was wanting
+-- too many open parentheses, whatever else is wrong; then no expression; nothing, where memory ran out
 abbrev pub Refuses : ReadFault → List Piece → Type 0
 Refuses Deep run = 64 < depth_of run
 Refuses Operand run = (depth_of run ≤ 64) × (expression_of run ≡ None)

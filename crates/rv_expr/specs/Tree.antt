@@ -1,11 +1,9 @@
--- Expressions as trees, without where they lie in memory.
-use Rattle.std.specs.Prelude.{ℕ, ℤ, List, Option, Some, None}
+-- Expressions as trees, apart from where they lie in memory.
+use Rattle.std.specs.Prelude.{ℕ, ◌+◌, ℤ, List, Option, Some, None}
 use Rattle.rv_expr.specs.declared.tree.BinaryOp.{BinaryOp}
 use Rattle.rv_expr.specs.declared.tree.BinaryOp.TheVariants.{Mul, Div, Rem, Shl, Shr, And, Or, Xor, Add, Sub}
 use Rattle.rv_expr.specs.declared.tree.UnaryOp.{UnaryOp}
 use Rattle.rv_expr.specs.declared.tree.Direction.{Direction}
-use Rattle.rv_expr.specs.declared.tree.Expr.{Expr}
-use Rattle.rv_expr.specs.declared.tree.Expr.TheVariants as code
 use Rattle.rv_expr.specs.declared.tree.LabelReference.{LabelReference}
 use Rattle.rv_expr.specs.declared.tree.LabelReference.TheVariants as labels
 
@@ -31,20 +29,20 @@ level Xor = 2
 level Add = 3
 level Sub = 3
 
--- the tree of an expression
-abbrev pub tree_of : Expr → Tree
-tree_of (code.Number n) = Number n
-tree_of (code.Word name) = Word name
-tree_of (code.Local number direction) = Local number direction
-tree_of code.Here = Here
-tree_of (code.Unary' op p a) = Unary op (tree_of a)
-tree_of (code.Binary' op p a q b) = Binary op (tree_of a) (tree_of b)
+-- how many operators a tree has
+abbrev pub tree_size : Tree → ℕ
+tree_size (Number n) = 0
+tree_size (Word name) = 0
+tree_size (Local number direction) = 0
+tree_size Here = 0
+tree_size (Unary op a) = tree_size a + 1
+tree_size (Binary op a b) = tree_size a + tree_size b + 1
 
 -- the label that a tree is, where it is a symbol, a local label or `.` alone
-abbrev pub label_of : Tree → Option LabelReference
-label_of (Word name) = Some (labels.Symbol name)
-label_of (Local number direction) = Some (labels.Local number direction)
-label_of Here = Some labels.Here
-label_of (Number n) = None
-label_of (Unary op a) = None
-label_of (Binary op a b) = None
+abbrev pub label_reference_of : Tree → Option LabelReference
+label_reference_of (Word name) = Some (labels.Symbol name)
+label_reference_of (Local number direction) = Some (labels.Local number direction)
+label_reference_of Here = Some labels.Here
+label_reference_of (Number n) = None
+label_reference_of (Unary op a) = None
+label_reference_of (Binary op a b) = None

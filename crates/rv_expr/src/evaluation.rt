@@ -1,15 +1,14 @@
 //! The value of an expression.
 
 ghost use Rattle.std.specs.Prelude.{◌≡◌, ℕ, ℤ, Result, ◌+◌, ◌-◌, ◌<◌, ◌^◌};
-ghost use Rattle.rv_expr.specs.Tree.{tree_of};
 ghost use Rattle.rv_expr.specs.Value.{Environment, value_of};
 
 use crate::arithmetic::{apply, apply_unary};
 use crate::faults::ValueFault;
-use crate::tree::{Direction, Expr, LabelReference};
+use crate::tree::{Direction, Expr, LabelReference, Node};
 use rv_text::Count;
 
-/// What names give on one line of a text. Every call is told `here`, the line's address.
+/// What names give on one line of a text. Every call is given `here`, the address of that line.
 pub trait Names {
     /// What symbols, local labels, `.` and the labels of `%pcrel_lo` give at an address: each a value, or why there is
     /// none.
@@ -35,18 +34,18 @@ pub trait Names {
 
 // The value of an expression, uncounted.
 fn evaluate<N: Names>(expression: &Expr, names: &N, here: u32) -> Result<i64, ValueFault>
-    ensures { result ≡ value_of (N.environment names.now here) (tree_of expression.now) }
+    ensures { result ≡ value_of (N.environment names.now here) expression.now }
 {
-    match expression {
-        Expr::Number(n) => Ok(*n),
-        Expr::Word(name) => names.symbol(here, name.bytes()),
-        Expr::Local(number, direction) => names.local(here, *number, *direction),
-        Expr::Here => names.here(here),
-        Expr::Unary(op, operand) => {
+    match &expression.node {
+        Node::Number(n) => Ok(*n),
+        Node::Word(name) => names.symbol(here, name.bytes()),
+        Node::Local(number, direction) => names.local(here, *number, *direction),
+        Node::Here => names.here(here),
+        Node::Unary(op, operand) => {
             let x = evaluate(operand, names, here)?;
             apply_unary(*op, x).ok_or(ValueFault::Arithmetic)
         }
-        Expr::Binary(op, left, right) => {
+        Node::Binary(op, left, right) => {
             let x = evaluate(left, names, here)?;
             let y = evaluate(right, names, here)?;
             apply(*op, x, y).ok_or(ValueFault::Arithmetic)
@@ -63,7 +62,7 @@ pub fn value<N: Names, C: Count>(
     count: &mut C,
 ) -> Result<i64, ValueFault>
     requires { C.valued_count count.old < 2 ^ 64 - 1 }
-    ensures value { result ≡ value_of (N.environment names.now here) (tree_of expression.now) }
+    ensures value { result ≡ value_of (N.environment names.now here) expression.now }
     ensures valued { C.valued_count count.new ≡ C.valued_count count.old + 1 }
     ensures parsed { C.parsed_count count.new ≡ C.parsed_count count.old }
     ensures encoded { C.encoded_count count.new ≡ C.encoded_count count.old }

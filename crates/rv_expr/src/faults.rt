@@ -8,7 +8,7 @@ use rv_text::FaultNumber;
 use std::alloc::{AllocError, AllocFailed};
 use thiserror::Error;
 
-/// Why a run of tokens was not read as an expression. Reasons are tried in this order, but memory may be wanting at any
+/// Why a run of tokens was not read as an expression. Reasons are tried in this order, but memory may run out at any
 /// time.
 #[derive(Clone, Copy, Debug, PartialEq, Eq, Error)]
 pub enum ReadFault {

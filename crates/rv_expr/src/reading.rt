@@ -2,28 +2,28 @@
 
 ghost use Rattle.std.specs.Prelude.{◌≡◌, ◌≤◌, [], ◌∷◌, List, Option, Some, length, IfOk, IfErr, MatchResult};
 ghost use Rattle.rv_expr.specs.Depth.{depth_of};
-ghost use Rattle.rv_expr.specs.ReaderState.{waits, operand_tree, role_of_part, left_of, Fails};
-ghost use Rattle.rv_expr.specs.Reading.{Waiting, signed, joined, wanted, reached, run_of, expression_of};
-ghost use Rattle.rv_expr.specs.Roles.{Role};
+ghost use Rattle.rv_expr.specs.ReaderState.{waits, primary_tree, expression_token_role, left_of, Fails};
+ghost use Rattle.rv_expr.specs.Reading.{signed, joined, wanted, reached, run_of, expression_of};
+ghost use Rattle.rv_expr.specs.TokenRoles.{TokenRole};
 ghost use Rattle.rv_expr.specs.Refusals.{Refuses};
-ghost use Rattle.rv_expr.specs.Tree.{Tree, tree_of, Unary, Binary, level};
+ghost use Rattle.rv_expr.specs.Tree.{Tree, Unary, Binary, level};
 
 use crate::depth::{MAX_DEPTH, parenthesis_depth};
+use crate::expression_tokens::{ExpressionToken, Primary, expression_token_at};
 use crate::faults::ReadFault;
 use crate::naming::Name;
-use crate::parts::{Operand, Part, part_at};
-use crate::tree::{BinaryOp, Expr, UnaryOp};
+use crate::tree::{BinaryOp, Expr, Node, UnaryOp};
 use rv_text::Tokens;
 use std::alloc::{AllocError, Global};
 
-/// What waits for its operand, or for the rest of it.
+/// What waits while the tokens after it are read.
 #[derive(Drop)]
 pub enum Pending {
-    /// A unary operator.
+    /// A unary operator, for its operand.
     Before(UnaryOp),
-    /// An operator with its left operand.
+    /// An operator with its left operand, for the right one.
     After(BinaryOp, Expr),
-    /// An open parenthesis.
+    /// An open parenthesis, for the one that closes it.
     Parenthesis,
 }
 
@@ -43,25 +43,30 @@ fn level(op: BinaryOp) -> u32
 
 // A unary operator with its operand.
 fn make_unary(alloc: Global, op: UnaryOp, operand: Expr) -> Result<Expr, AllocError>
-    ensures { IfOk result (λ e. tree_of e ≡ Unary op (tree_of operand)) }
+    ensures { IfOk result (λ e. e ≡ Unary op operand) }
 {
-    Ok(Expr::Unary(op, Box::new(alloc, operand)?))
+    let operand = Box::new(alloc, operand)?;
+    Ok(Expr {
+        node: Node::Unary(op, operand),
+    })
 }
 
 // An operator with its two operands.
 fn make_binary(alloc: Global, op: BinaryOp, left: Expr, right: Expr) -> Result<Expr, AllocError>
-    ensures { IfOk result (λ e. tree_of e ≡ Binary op (tree_of left) (tree_of right)) }
+    ensures { IfOk result (λ e. e ≡ Binary op left right) }
 {
     let left = Box::new(alloc, left)?;
     let right = Box::new(alloc, right)?;
-    Ok(Expr::Binary(op, left, right))
+    Ok(Expr {
+        node: Node::Binary(op, left, right),
+    })
 }
 
-// The unary operators in front of an operand act on it.
+// The unary operators before an operand act on it.
 #[tactic(auto, using(crate::proofs::Waits::waits_push))]
 fn apply_signs(alloc: Global, pending: &mut Vec<Pending>, operand: Expr) -> Result<Expr, AllocError>
-    ensures { IfOk result (λ t. (next : List Waiting → Tree → Option Tree)
-        → signed next (waits pending.old.items) (tree_of operand) ≡ next (waits pending.new.items) (tree_of t)) }
+    ensures { IfOk result (λ t. (next : List Pending → Tree → Option Tree)
+        → signed next (waits pending.old.items) operand ≡ next (waits pending.new.items) t) }
 {
     let mut whole = operand;
     while let Some(last) = pending.pop() {
@@ -84,8 +89,8 @@ fn apply_operators(
     bound: u32,
     operand: Expr,
 ) -> Result<Expr, AllocError>
-    ensures { IfOk result (λ t. (next : List Waiting → Tree → Option Tree)
-        → joined bound next (waits pending.old.items) (tree_of operand) ≡ next (waits pending.new.items) (tree_of t)) }
+    ensures { IfOk result (λ t. (next : List Pending → Tree → Option Tree)
+        → joined bound next (waits pending.old.items) operand ≡ next (waits pending.new.items) t) }
 {
     let mut whole = operand;
     while let Some(last) = pending.pop() {
@@ -103,15 +108,16 @@ fn apply_operators(
 }
 
 // The expression that is one operand.
-fn make_operand(alloc: Global, operand: Operand<'_>) -> Result<Expr, AllocError>
-    ensures { IfOk result (λ e. tree_of e ≡ operand_tree operand.entry) }
+fn make_operand(alloc: Global, operand: Primary<'_>) -> Result<Expr, AllocError>
+    ensures { IfOk result (λ e. e ≡ primary_tree operand.entry) }
 {
-    Ok(match operand {
-        Operand::Number(n) => Expr::Number(n),
-        Operand::Word(name) => Expr::Word(Name::of(alloc, name)?),
-        Operand::Local(number, direction) => Expr::Local(number, direction),
-        Operand::Here => Expr::Here,
-    })
+    let node = match operand {
+        Primary::Number(n) => Node::Number(n),
+        Primary::Word(name) => Node::Word(Name::of(alloc, name)?),
+        Primary::Local(number, direction) => Node::Local(number, direction),
+        Primary::Here => Node::Here,
+    };
+    Ok(Expr { node })
 }
 
 // A step where an operand is wanted.
@@ -119,81 +125,82 @@ fn make_operand(alloc: Global, operand: Operand<'_>) -> Result<Expr, AllocError>
 fn step_wanted(
     alloc: Global,
     pending: &mut Vec<Pending>,
-    part: Part<'_>,
+    token: ExpressionToken<'_>,
 ) -> Result<Option<Expr>, ReadFault>
-    ensures ok { IfOk result (λ have. (rs : List Role)
-        → wanted (waits pending.old.items) (role_of_part part.entry ∷ rs) ≡ left_of pending.new.items have rs) }
-    ensures err { IfErr result (λ f. (rs : List Role) → Fails f (wanted (waits pending.old.items) (role_of_part part.entry ∷ rs))) }
+    ensures ok { IfOk result (λ have. (rs : List TokenRole)
+        → wanted (waits pending.old.items) (expression_token_role token.entry ∷ rs) ≡ left_of pending.new.items have rs) }
+    ensures err { IfErr result (λ f. (rs : List TokenRole) → Fails f (wanted (waits pending.old.items) (expression_token_role token.entry ∷ rs))) }
 {
-    match part {
-        Part::Operand(operand) => {
+    match token {
+        ExpressionToken::Operand(operand) => {
             let operand = make_operand(alloc, operand)?;
             Ok(Some(apply_signs(alloc, pending, operand)?))
         }
-        Part::Operator(Some(op), _) => {
+        ExpressionToken::Operator(Some(op), _) => {
             pending.push(Pending::Before(op))?;
             Ok(None)
         }
-        Part::Open => {
+        ExpressionToken::Open => {
             pending.push(Pending::Parenthesis)?;
             Ok(None)
         }
-        Part::Operator(None, _) | Part::Close => Err(ReadFault::Operand),
+        ExpressionToken::Operator(None, _) | ExpressionToken::Close => Err(ReadFault::Operand),
     }
 }
 
-// A step behind an operand.
+// A step after an operand.
 #[tactic(auto, using(crate::proofs::Waits::waits_push))]
 fn step_reached(
     alloc: Global,
     pending: &mut Vec<Pending>,
     operand: Expr,
-    part: Part<'_>,
+    token: ExpressionToken<'_>,
 ) -> Result<Option<Expr>, ReadFault>
-    ensures ok { IfOk result (λ have. (rs : List Role)
-        → reached (waits pending.old.items) (tree_of operand) (role_of_part part.entry ∷ rs) ≡ left_of pending.new.items have rs) }
-    ensures err { IfErr result (λ f. (rs : List Role)
-        → Fails f (reached (waits pending.old.items) (tree_of operand) (role_of_part part.entry ∷ rs))) }
+    ensures ok { IfOk result (λ have. (rs : List TokenRole)
+        → reached (waits pending.old.items) operand (expression_token_role token.entry ∷ rs) ≡ left_of pending.new.items have rs) }
+    ensures err { IfErr result (λ f. (rs : List TokenRole)
+        → Fails f (reached (waits pending.old.items) operand (expression_token_role token.entry ∷ rs))) }
 {
-    match part {
-        Part::Operator(_, Some(op)) => {
+    match token {
+        ExpressionToken::Operator(_, Some(op)) => {
             let left = apply_operators(alloc, pending, level(op), operand)?;
             pending.push(Pending::After(op, left))?;
             Ok(None)
         }
-        Part::Close => {
+        ExpressionToken::Close => {
             let inner = apply_operators(alloc, pending, LOOSEST_LEVEL, operand)?;
             match pending.pop() {
                 Some(Pending::Parenthesis) => Ok(Some(apply_signs(alloc, pending, inner)?)),
                 _ => Err(ReadFault::Operand),
             }
         }
-        Part::Operand(_) | Part::Operator(_, None) | Part::Open => Err(ReadFault::Operand),
+        ExpressionToken::Operand(_) | ExpressionToken::Operator(_, None) | ExpressionToken::Open =>
+            Err(ReadFault::Operand),
     }
 }
 
-// A step behind an operand that is there, or where one is wanted.
+// A step after an operand that is there, or where one is wanted.
 fn step(
     alloc: Global,
     pending: &mut Vec<Pending>,
     have: Option<Expr>,
-    part: Part<'_>,
+    token: ExpressionToken<'_>,
 ) -> Result<Option<Expr>, ReadFault>
-    ensures ok { IfOk result (λ now. (rs : List Role)
-        → left_of pending.old.items have (role_of_part part.entry ∷ rs) ≡ left_of pending.new.items now rs) }
-    ensures err { IfErr result (λ f. (rs : List Role) → Fails f (left_of pending.old.items have (role_of_part part.entry ∷ rs))) }
+    ensures ok { IfOk result (λ now. (rs : List TokenRole)
+        → left_of pending.old.items have (expression_token_role token.entry ∷ rs) ≡ left_of pending.new.items now rs) }
+    ensures err { IfErr result (λ f. (rs : List TokenRole) → Fails f (left_of pending.old.items have (expression_token_role token.entry ∷ rs))) }
 {
     match have {
-        Some(operand) => step_reached(alloc, pending, operand, part),
-        None => step_wanted(alloc, pending, part),
+        Some(operand) => step_reached(alloc, pending, operand, token),
+        None => step_wanted(alloc, pending, token),
     }
 }
 
-// The end of the tokens, behind an operand.
+// The end of the tokens, after an operand.
 fn finish(alloc: Global, pending: &mut Vec<Pending>, operand: Expr) -> Result<Expr, ReadFault>
     ensures { MatchResult result
-        (λ e. reached (waits pending.old.items) (tree_of operand) [] ≡ Some (tree_of e))
-        (λ f. Fails f (reached (waits pending.old.items) (tree_of operand) [])) }
+        (λ e. reached (waits pending.old.items) operand [] ≡ Some e)
+        (λ f. Fails f (reached (waits pending.old.items) operand [])) }
 {
     let whole = apply_operators(alloc, pending, LOOSEST_LEVEL, operand)?;
     if pending.is_empty() {
@@ -208,13 +215,13 @@ fn expression(alloc: Global, tokens: &Tokens<'_>, from: usize, to: usize) -> Res
     requires ordered { from ≤ to }
     requires within { to ≤ length tokens.now.tokens }
     ensures { MatchResult result
-        (λ e. expression_of (run_of tokens.now from to) ≡ Some (tree_of e))
+        (λ e. expression_of (run_of tokens.now from to) ≡ Some e)
         (λ f. Fails f (expression_of (run_of tokens.now from to))) }
 {
     let mut pending = Vec::new(alloc);
     let mut have = None;
     for k in from..to {
-        have = step(alloc, &mut pending, have, part_at(tokens, k))?;
+        have = step(alloc, &mut pending, have, expression_token_at(tokens, k))?;
     }
     match have {
         Some(operand) => finish(alloc, &mut pending, operand),
@@ -237,7 +244,7 @@ pub fn read(alloc: Global, tokens: &Tokens<'_>, from: usize, to: usize) -> Resul
     requires ordered { from ≤ to }
     requires within { to ≤ length tokens.now.tokens }
     ensures depth { IfOk result (λ e. depth_of (run_of tokens.now from to) ≤ 64) }
-    ensures expression { IfOk result (λ e. expression_of (run_of tokens.now from to) ≡ Some (tree_of e)) }
+    ensures expression { IfOk result (λ e. expression_of (run_of tokens.now from to) ≡ Some e) }
     ensures refused { IfErr result (λ f. Refuses f (run_of tokens.now from to)) }
 {
     if parenthesis_depth(tokens, from, to) > MAX_DEPTH {

@@ -1,9 +1,10 @@
 //! The tree of an expression.
 
 ghost use Rattle.std.specs.Prelude.{◌≡◌};
-ghost use Rattle.rv_expr.specs.Tree.{label_of, tree_of};
+ghost use Rattle.rv_expr.specs.Tree.{label_reference_of};
 
 use crate::naming::Name;
+use std::marker::Model;
 
 /// An operator between two operands.
 #[derive(Clone, Copy, Debug, PartialEq, Eq)]
@@ -48,10 +49,21 @@ pub enum Direction {
     Forward,
 }
 
-/// An expression. A character is the number of its byte.
+/// An expression. Matching on `node` takes it apart, and the operands of an operator are expressions again.
+///
+/// Contracts see its tree, apart from where it lies in memory.
+#[cycle(expr)]
 #[derive(Drop)]
-pub enum Expr {
-    /// A whole number.
+pub struct Expr {
+    /// The root of the tree.
+    pub node: Node,
+}
+
+/// The root of an expression: an operand by itself, or an operator with its operands.
+#[cycle(expr)]
+#[derive(Drop)]
+pub enum Node {
+    /// A whole number, or a character as the number of its byte.
     Number(i64),
     /// A symbol, also one that is spelt like a register.
     Word(Name),
@@ -63,6 +75,25 @@ pub enum Expr {
     Unary(UnaryOp, Box<Expr>),
     /// An operator, its left operand and its right one.
     Binary(BinaryOp, Box<Expr>, Box<Expr>),
+}
+
+impl Model for Expr {
+    ghost use Rattle.rv_expr.specs.Tree.{Tree, tree_size};
+    ghost use Rattle.rv_expr.specs.TreeCode.{tree_code};
+
+    ghost Value = { Tree };
+
+    ghost coded = { tree_code };
+
+    ghost use Rattle.rv_expr.specs.Nodes.{tree_of_node};
+
+    ghost view = { λ a. tree_of_node a.node };
+
+    ghost size = { tree_size };
+
+    ghost use Rattle.std.proofs.Common.{arith};
+
+    ghost size_decreases = { λ a h. Prim.grind arith };
 }
 
 /// What the label of `%pcrel_lo` is named by.
@@ -79,13 +110,13 @@ pub enum LabelReference {
 impl Expr {
     /// The label that the expression is, where it is a symbol, a local label or `.` alone.
     pub fn into_label(self) -> Option<LabelReference>
-        ensures { result ≡ label_of (tree_of self) }
+        ensures { result ≡ label_reference_of self }
     {
-        match self {
-            Expr::Word(name) => Some(LabelReference::Symbol(name)),
-            Expr::Local(number, direction) => Some(LabelReference::Local(number, direction)),
-            Expr::Here => Some(LabelReference::Here),
-            Expr::Number(_) | Expr::Unary(_, _) | Expr::Binary(_, _, _) => None,
+        match self.node {
+            Node::Word(name) => Some(LabelReference::Symbol(name)),
+            Node::Local(number, direction) => Some(LabelReference::Local(number, direction)),
+            Node::Here => Some(LabelReference::Here),
+            Node::Number(_) | Node::Unary(_, _) | Node::Binary(_, _, _) => None,
         }
     }
 }

@@ -4,11 +4,12 @@ use Rattle.std.specs.Prelude.{codes, bit_and, if◌then◌else◌}
 use Rattle.rv_ops.specs.declared.op.Op.{Op}
 use Rattle.rv_ops.specs.declared.op.Op.TheVariants.{Lui}
 use Rattle.rv_ops.specs.declared.op.Op.TheVariants as op
-use Rattle.rv_ops.specs.declared.op.Shape.{Shape}
-use Rattle.rv_ops.specs.declared.op.Shape.TheVariants.{Upper}
+use Rattle.rv_ops.specs.declared.layouts.FieldSlice.{FieldSlice}
+use Rattle.rv_ops.specs.declared.value_limits.LimitFault.TheVariants.{Range, Multiple}
+use Rattle.rv_ops.specs.Limits.{limit_fault}
 use Rattle.rv_ops.specs.Csrs.{csr_name, csr_named, csr_names}
 use Rattle.rv_ops.specs.Registers.{register_named, register_names, register_name}
-use Rattle.rv_ops.specs.Table.{operation_named, operation_names, row_of, layout_of, Piece, fixed_of, mask_of, is_full, limits_of, pieces_of, shape_of}
+use Rattle.rv_ops.specs.Table.{operation_named, operation_names, row_of, layout_of, fixed_of, mask_of, is_full, limits_of, slices_of, shape_of}
 
 -- names are read in either letter case
 named_addi : operation_named (codes "ADDI") ≡ Some op.Addi
@@ -115,42 +116,48 @@ unfolding row_of
 fence_mask = refl
 
 -- what c.lui takes: 1 to 31 and 0xfffe0 to 0xfffff
-c_lui_limits : limits_of (shape_of op.CLui) ≡ (pos 1, pos 0xfffff, 1, pos 32, pos 0xfffdf)
+c_lui_limits : limits_of (shape_of op.CLui) ≡ record { least = pos 1; greatest = pos 0xfffff; multiple = 1; gap_first = pos 32; gap_last = pos 0xfffdf }
 unfolding row_of layout_of
 c_lui_limits = refl
 
 -- a branch reaches from -4096 to 4094, by 2
-beq_limits : limits_of (shape_of op.Beq) ≡ (negsuc 4095, pos 4094, 2, pos 1, pos 0)
+beq_limits : limits_of (shape_of op.Beq) ≡ record { least = negsuc 4095; greatest = pos 4094; multiple = 2; gap_first = pos 1; gap_last = pos 0 }
 unfolding row_of layout_of
 beq_limits = refl
 
--- each row and each layout stands at its own place
-row_of-operation : (o : Op) → (row_of o).0 ≡ o
-unfolding row_of
-row_of-operation Lui = refl
-row_of-operation _ = refl
+-- worked values against the limits
+beq_fault_of_2 : limit_fault (limits_of (shape_of op.Beq)) (pos 2) ≡ None
+unfolding limit_fault row_of layout_of
+beq_fault_of_2 = refl
 
-layout_of-shape : (s : Shape) → (layout_of s).0 ≡ s
-unfolding layout_of
-layout_of-shape Upper = refl
-layout_of-shape _ = refl
+beq_fault_of_3 : limit_fault (limits_of (shape_of op.Beq)) (pos 3) ≡ Some Multiple
+unfolding limit_fault row_of layout_of
+beq_fault_of_3 = refl
+
+-- the range comes first
+beq_fault_of_4095 : limit_fault (limits_of (shape_of op.Beq)) (pos 4095) ≡ Some Range
+unfolding limit_fault row_of layout_of
+beq_fault_of_4095 = refl
+
+c_lui_fault_of_32 : limit_fault (limits_of (shape_of op.CLui)) (pos 32) ≡ Some Range
+unfolding limit_fault row_of layout_of
+c_lui_fault_of_32 = refl
+
+c_lui_fault_of_0xfffe0 : limit_fault (limits_of (shape_of op.CLui)) (pos 0xfffe0) ≡ None
+unfolding limit_fault row_of layout_of
+c_lui_fault_of_0xfffe0 = refl
 
 -- a number of bits that is the greatest of its number of bits at a place
-bits_at : Piece → ℕ
-bits_at p = (2 ^ p.2 - 1) * 2 ^ p.3
+bits_at : FieldSlice → ℕ
+bits_at s = (2 ^ s.width - 1) * 2 ^ s.word_bit
 
--- whether the pieces of the fields, one after another, take bits of the word that are still free, and in the end all
-fills : List Piece → ℕ → ℕ → Bool
+-- whether the slices of the fields, one after another, take bits of the encoding that are still free, and in the end all
+fills : List FieldSlice → ℕ → ℕ → Bool
 fills [] taken whole = nat_eq taken whole
-fills (p ∷ ps) taken whole = nat_eq (bit_and (bits_at p) taken) 0 && fills ps (taken + bits_at p) whole
+fills (s ∷ ss) taken whole = nat_eq (bit_and (bits_at s) taken) 0 && fills ss (taken + bits_at s) whole
 
--- the fixed bits and the pieces of the fields part the word
-words_are_parted : (o : Op) → fills (pieces_of (shape_of o)) (mask_of o) (2 ^ (if is_full o then 32 else 16) - 1) ≡ true
+-- the fixed bits and the slices of the fields part the encoding
+words_are_parted : (o : Op) → fills (slices_of (shape_of o)) (mask_of o) (2 ^ (if is_full o then 32 else 16) - 1) ≡ true
 unfolding row_of layout_of fills bits_at
 words_are_parted Lui = refl
 words_are_parted _ = refl
-
-fixed_bits_are_in_the_mask : (o : Op) → bit_and (fixed_of o) (mask_of o) ≡ fixed_of o
-unfolding row_of
-fixed_bits_are_in_the_mask Lui = refl
-fixed_bits_are_in_the_mask _ = refl

@@ -26,7 +26,7 @@ first_named-same (x ∷ rows) m n e =
     ap (λ t. cond (bytes_eq (str_to_ascii_lowercase x.1) t) (Some x.0) (first_named rows m)) e
     ∙ ap (λ r. cond (bytes_eq (str_to_ascii_lowercase x.1) (str_to_ascii_lowercase n)) (Some x.0) r) (first_named-same rows m n e)
 
--- the first row with an operation's name is its own
+-- the first row with an operation's mnemonic is its own
 pub operation_named-name : (o : Op) → operation_named (operation_name o) ≡ Some o
 unfolding operation_named operation_names operation_name row_of
 operation_named-name Lui = refl
@@ -49,12 +49,12 @@ first_named-found (x ∷ rows) n h =
     (λ e. subst (λ t. str_eq_ignore_ascii_case t n ≡ true) (bytes_eq-true x.1 (operation_name x.0) parts.0) e)
     (λ _. first_named-found rows n parts.1)
 
--- what is found has the name
+-- what is found has the mnemonic
 pub operation_named-found : (n : List ℕ) → IfSome (operation_named n) (λ o. str_eq_ignore_ascii_case (operation_name o) n ≡ true)
 unfolding operation_named
 operation_named-found n = first_named-found operation_names n all_own
 
--- an operation whose name it is, is found
+-- an operation whose mnemonic it is, is found
 pub operation_named-only : (n : List ℕ) (o : Op) → str_eq_ignore_ascii_case (operation_name o) n ≡ true → operation_named n ≡ Some o
 unfolding operation_named
 operation_named-only n o e =

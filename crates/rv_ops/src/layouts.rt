@@ -1,6 +1,7 @@
-//! The layouts of the words, by shape.
+//! The layouts of the encodings, by shape.
 
 use crate::op::Shape;
+use crate::value_limits::Limits;
 
 /// A field of an instruction.
 #[derive(Clone, Copy, Debug, PartialEq, Eq)]
@@ -32,482 +33,439 @@ pub enum RegisterClass {
     Set,
 }
 
-/// The registers that rd, rs1 and rs2 may be.
-pub type Classes = (RegisterClass, RegisterClass, RegisterClass);
+/// The registers that the fields of a shape take.
+#[derive(Clone, Copy, Debug, PartialEq, Eq)]
+pub struct Classes {
+    /// The class of the destination register.
+    pub rd: RegisterClass,
+    /// The class of the first source register.
+    pub rs1: RegisterClass,
+    /// The class of the second source register.
+    pub rs2: RegisterClass,
+}
 
-/// The limits of the value: the least, the greatest, the number of which each is a multiple, and the first and
-/// the last of a gap between them (no gap where the first is above the last).
-pub type Limits = (i32, i32, u32, i32, i32);
+/// How the sign of a value is read back: a number in the encoding above the greatest stands for itself less the
+/// modulus.
+#[derive(Clone, Copy, Debug, PartialEq, Eq)]
+pub struct SignExtension {
+    /// The greatest number that stands for itself.
+    pub greatest: i32,
+    /// What is taken from a number above it: 2 to the power of the field's width where the field has a sign.
+    pub modulus: i32,
+}
 
-/// The sign of the value: a number in the word above the first stands for itself less the second.
-pub type Sign = (i32, i32);
+/// Some bits of a field, and where they stand in the encoding.
+#[derive(Clone, Copy, Debug, PartialEq, Eq)]
+pub struct FieldSlice {
+    /// The field.
+    pub field: Field,
+    /// The lowest of the bits in the field.
+    pub field_bit: u32,
+    /// How many bits.
+    pub width: u32,
+    /// The lowest of the bits in the encoding.
+    pub word_bit: u32,
+}
 
-/// A piece of a word: the field that fills it, its lowest bit there, how many bits, and the lowest bit in the
-/// word.
-pub type Piece = (Field, u32, u32, u32);
-
-/// What the layouts say of a shape.
+/// What the table of the layouts says of a shape.
 #[derive(Clone, Copy)]
 pub struct Layout {
     /// The classes of the registers.
-    pub classes: Classes,
+    pub registers: Classes,
     /// The limits of the value.
     pub limits: Limits,
     /// The sign of the value.
-    pub sign: Sign,
-    /// The pieces of the words that the fields fill.
-    pub pieces: &'static [Piece],
+    pub sign: SignExtension,
+    /// The slices of the fields that fill the encoding.
+    pub slices: &'static [FieldSlice],
 }
 
-/// Each shape with the classes of its registers, the limits and the sign of its value, and the pieces of its
-/// words that the fields fill: RISC-V Unprivileged ISA 20191213, sections 2.2 to 2.8, 9.1 and 16.2 to 16.5.
-pub const LAYOUTS: [(Shape, Classes, Limits, Sign, &[Piece]); 31] = [
+/// The layout of a shape as it stands in the table: the shape, the classes of its registers, the limits of its
+/// value, the sign of the value, and the slices of its fields.
+pub type LayoutRow = (Shape, Classes, Limits, SignExtension, &'static [FieldSlice]);
+
+/// The classes of rd, rs1 and rs2.
+macro_rules! registers {
+    ($rd:ident, $rs1:ident, $rs2:ident) => {
+        Classes {
+            rd: RegisterClass::$rd,
+            rs1: RegisterClass::$rs1,
+            rs2: RegisterClass::$rs2,
+        }
+    };
+}
+
+/// From a value to a value, in steps of a number, without those of a gap.
+macro_rules! limits {
+    ($least:literal to $greatest:literal) => {
+        limits!($least to $greatest by 1)
+    };
+    ($least:literal to $greatest:literal by $multiple:literal) => {
+        limits!($least to $greatest by $multiple without 1 to 0)
+    };
+    ($least:literal to $greatest:literal by $multiple:literal without $first:literal to $last:literal) => {
+        Limits {
+            least: $least,
+            greatest: $greatest,
+            multiple: $multiple,
+            gap_first: $first,
+            gap_last: $last,
+        }
+    };
+}
+
+/// A number in the encoding above the greatest stands for itself less the modulus.
+macro_rules! sign {
+    ($greatest:literal less $modulus:literal) => {
+        SignExtension {
+            greatest: $greatest,
+            modulus: $modulus,
+        }
+    };
+}
+
+/// Bits of a field, and the bit of the encoding at which the lowest of them stands.
+macro_rules! slice {
+    ($field:ident[$highest:literal : $lowest:literal] at $word_bit:literal) => {
+        FieldSlice {
+            field: Field::$field,
+            field_bit: $lowest,
+            width: $highest - $lowest + 1,
+            word_bit: $word_bit,
+        }
+    };
+}
+
+/// The layout of each shape, in the order of the shapes: RISC-V Unprivileged ISA 20191213, sections 2.2 to 2.8,
+/// 9.1 and 16.2 to 16.5. The columns are the shape, the classes of rd, rs1 and rs2, the limits of the value, its
+/// sign, and the slices of the fields that fill the encoding.
+pub const LAYOUTS: [LayoutRow; 31] = [
     (
         Shape::Upper,
-        (
-            RegisterClass::Any,
-            RegisterClass::Absent,
-            RegisterClass::Absent,
-        ),
-        (0, 1048575, 1, 1, 0),
-        (1048575, 0),
-        &[(Field::Rd, 0, 5, 7), (Field::Value, 0, 20, 12)],
+        registers!(Any, Absent, Absent),
+        limits!(0 to 1048575),
+        sign!(1048575 less 0),
+        &[slice!(Rd[4:0] at 7), slice!(Value[19:0] at 12)],
     ),
     (
         Shape::Jump,
-        (
-            RegisterClass::Any,
-            RegisterClass::Absent,
-            RegisterClass::Absent,
-        ),
-        (-1048576, 1048574, 2, 1, 0),
-        (1048574, 2097152),
+        registers!(Any, Absent, Absent),
+        limits!(-1048576 to 1048574 by 2),
+        sign!(1048574 less 2097152),
         &[
-            (Field::Rd, 0, 5, 7),
-            (Field::Value, 12, 8, 12),
-            (Field::Value, 11, 1, 20),
-            (Field::Value, 1, 10, 21),
-            (Field::Value, 20, 1, 31),
+            slice!(Rd[4:0] at 7),
+            slice!(Value[19:12] at 12),
+            slice!(Value[11:11] at 20),
+            slice!(Value[10:1] at 21),
+            slice!(Value[20:20] at 31),
         ],
     ),
     (
         Shape::JumpRegister,
-        (
-            RegisterClass::Any,
-            RegisterClass::Any,
-            RegisterClass::Absent,
-        ),
-        (-2048, 2047, 1, 1, 0),
-        (2047, 4096),
+        registers!(Any, Any, Absent),
+        limits!(-2048 to 2047),
+        sign!(2047 less 4096),
         &[
-            (Field::Rd, 0, 5, 7),
-            (Field::Rs1, 0, 5, 15),
-            (Field::Value, 0, 12, 20),
+            slice!(Rd[4:0] at 7),
+            slice!(Rs1[4:0] at 15),
+            slice!(Value[11:0] at 20),
         ],
     ),
     (
         Shape::Branch,
-        (
-            RegisterClass::Absent,
-            RegisterClass::Any,
-            RegisterClass::Any,
-        ),
-        (-4096, 4094, 2, 1, 0),
-        (4094, 8192),
+        registers!(Absent, Any, Any),
+        limits!(-4096 to 4094 by 2),
+        sign!(4094 less 8192),
         &[
-            (Field::Value, 11, 1, 7),
-            (Field::Value, 1, 4, 8),
-            (Field::Rs1, 0, 5, 15),
-            (Field::Rs2, 0, 5, 20),
-            (Field::Value, 5, 6, 25),
-            (Field::Value, 12, 1, 31),
+            slice!(Value[11:11] at 7),
+            slice!(Value[4:1] at 8),
+            slice!(Rs1[4:0] at 15),
+            slice!(Rs2[4:0] at 20),
+            slice!(Value[10:5] at 25),
+            slice!(Value[12:12] at 31),
         ],
     ),
     (
         Shape::Load,
-        (
-            RegisterClass::Any,
-            RegisterClass::Any,
-            RegisterClass::Absent,
-        ),
-        (-2048, 2047, 1, 1, 0),
-        (2047, 4096),
+        registers!(Any, Any, Absent),
+        limits!(-2048 to 2047),
+        sign!(2047 less 4096),
         &[
-            (Field::Rd, 0, 5, 7),
-            (Field::Rs1, 0, 5, 15),
-            (Field::Value, 0, 12, 20),
+            slice!(Rd[4:0] at 7),
+            slice!(Rs1[4:0] at 15),
+            slice!(Value[11:0] at 20),
         ],
     ),
     (
         Shape::Store,
-        (
-            RegisterClass::Absent,
-            RegisterClass::Any,
-            RegisterClass::Any,
-        ),
-        (-2048, 2047, 1, 1, 0),
-        (2047, 4096),
+        registers!(Absent, Any, Any),
+        limits!(-2048 to 2047),
+        sign!(2047 less 4096),
         &[
-            (Field::Value, 0, 5, 7),
-            (Field::Rs1, 0, 5, 15),
-            (Field::Rs2, 0, 5, 20),
-            (Field::Value, 5, 7, 25),
+            slice!(Value[4:0] at 7),
+            slice!(Rs1[4:0] at 15),
+            slice!(Rs2[4:0] at 20),
+            slice!(Value[11:5] at 25),
         ],
     ),
     (
         Shape::Immediate,
-        (
-            RegisterClass::Any,
-            RegisterClass::Any,
-            RegisterClass::Absent,
-        ),
-        (-2048, 2047, 1, 1, 0),
-        (2047, 4096),
+        registers!(Any, Any, Absent),
+        limits!(-2048 to 2047),
+        sign!(2047 less 4096),
         &[
-            (Field::Rd, 0, 5, 7),
-            (Field::Rs1, 0, 5, 15),
-            (Field::Value, 0, 12, 20),
+            slice!(Rd[4:0] at 7),
+            slice!(Rs1[4:0] at 15),
+            slice!(Value[11:0] at 20),
         ],
     ),
     (
         Shape::Shift,
-        (
-            RegisterClass::Any,
-            RegisterClass::Any,
-            RegisterClass::Absent,
-        ),
-        (0, 31, 1, 1, 0),
-        (31, 0),
+        registers!(Any, Any, Absent),
+        limits!(0 to 31),
+        sign!(31 less 0),
         &[
-            (Field::Rd, 0, 5, 7),
-            (Field::Rs1, 0, 5, 15),
-            (Field::Value, 0, 5, 20),
+            slice!(Rd[4:0] at 7),
+            slice!(Rs1[4:0] at 15),
+            slice!(Value[4:0] at 20),
         ],
     ),
     (
         Shape::Register,
-        (RegisterClass::Any, RegisterClass::Any, RegisterClass::Any),
-        (0, 0, 1, 1, 0),
-        (0, 0),
+        registers!(Any, Any, Any),
+        limits!(0 to 0),
+        sign!(0 less 0),
         &[
-            (Field::Rd, 0, 5, 7),
-            (Field::Rs1, 0, 5, 15),
-            (Field::Rs2, 0, 5, 20),
+            slice!(Rd[4:0] at 7),
+            slice!(Rs1[4:0] at 15),
+            slice!(Rs2[4:0] at 20),
         ],
     ),
     (
         Shape::Csr,
-        (
-            RegisterClass::Any,
-            RegisterClass::Any,
-            RegisterClass::Absent,
-        ),
-        (0, 4095, 1, 1, 0),
-        (4095, 0),
+        registers!(Any, Any, Absent),
+        limits!(0 to 4095),
+        sign!(4095 less 0),
         &[
-            (Field::Rd, 0, 5, 7),
-            (Field::Rs1, 0, 5, 15),
-            (Field::Value, 0, 12, 20),
+            slice!(Rd[4:0] at 7),
+            slice!(Rs1[4:0] at 15),
+            slice!(Value[11:0] at 20),
         ],
     ),
     (
         Shape::CsrImmediate,
-        (
-            RegisterClass::Any,
-            RegisterClass::Any,
-            RegisterClass::Absent,
-        ),
-        (0, 4095, 1, 1, 0),
-        (4095, 0),
+        registers!(Any, Any, Absent),
+        limits!(0 to 4095),
+        sign!(4095 less 0),
         &[
-            (Field::Rd, 0, 5, 7),
-            (Field::Rs1, 0, 5, 15),
-            (Field::Value, 0, 12, 20),
+            slice!(Rd[4:0] at 7),
+            slice!(Rs1[4:0] at 15),
+            slice!(Value[11:0] at 20),
         ],
     ),
     (
         Shape::Fence,
-        (
-            RegisterClass::Absent,
-            RegisterClass::Set,
-            RegisterClass::Set,
-        ),
-        (0, 0, 1, 1, 0),
-        (0, 0),
-        &[(Field::Rs2, 0, 4, 20), (Field::Rs1, 0, 4, 24)],
+        registers!(Absent, Set, Set),
+        limits!(0 to 0),
+        sign!(0 less 0),
+        &[slice!(Rs2[3:0] at 20), slice!(Rs1[3:0] at 24)],
     ),
     (
         Shape::Whole,
-        (
-            RegisterClass::Absent,
-            RegisterClass::Absent,
-            RegisterClass::Absent,
-        ),
-        (0, 0, 1, 1, 0),
-        (0, 0),
+        registers!(Absent, Absent, Absent),
+        limits!(0 to 0),
+        sign!(0 less 0),
         &[],
     ),
     (
         Shape::CStackAddress,
-        (
-            RegisterClass::Prime,
-            RegisterClass::Absent,
-            RegisterClass::Absent,
-        ),
-        (4, 1020, 4, 1, 0),
-        (1020, 0),
+        registers!(Prime, Absent, Absent),
+        limits!(4 to 1020 by 4),
+        sign!(1020 less 0),
         &[
-            (Field::Rd, 0, 3, 2),
-            (Field::Value, 3, 1, 5),
-            (Field::Value, 2, 1, 6),
-            (Field::Value, 6, 4, 7),
-            (Field::Value, 4, 2, 11),
+            slice!(Rd[2:0] at 2),
+            slice!(Value[3:3] at 5),
+            slice!(Value[2:2] at 6),
+            slice!(Value[9:6] at 7),
+            slice!(Value[5:4] at 11),
         ],
     ),
     (
         Shape::CLoad,
-        (
-            RegisterClass::Prime,
-            RegisterClass::Prime,
-            RegisterClass::Absent,
-        ),
-        (0, 124, 4, 1, 0),
-        (124, 0),
+        registers!(Prime, Prime, Absent),
+        limits!(0 to 124 by 4),
+        sign!(124 less 0),
         &[
-            (Field::Rd, 0, 3, 2),
-            (Field::Value, 6, 1, 5),
-            (Field::Value, 2, 1, 6),
-            (Field::Rs1, 0, 3, 7),
-            (Field::Value, 3, 3, 10),
+            slice!(Rd[2:0] at 2),
+            slice!(Value[6:6] at 5),
+            slice!(Value[2:2] at 6),
+            slice!(Rs1[2:0] at 7),
+            slice!(Value[5:3] at 10),
         ],
     ),
     (
         Shape::CStore,
-        (
-            RegisterClass::Absent,
-            RegisterClass::Prime,
-            RegisterClass::Prime,
-        ),
-        (0, 124, 4, 1, 0),
-        (124, 0),
+        registers!(Absent, Prime, Prime),
+        limits!(0 to 124 by 4),
+        sign!(124 less 0),
         &[
-            (Field::Rs2, 0, 3, 2),
-            (Field::Value, 6, 1, 5),
-            (Field::Value, 2, 1, 6),
-            (Field::Rs1, 0, 3, 7),
-            (Field::Value, 3, 3, 10),
+            slice!(Rs2[2:0] at 2),
+            slice!(Value[6:6] at 5),
+            slice!(Value[2:2] at 6),
+            slice!(Rs1[2:0] at 7),
+            slice!(Value[5:3] at 10),
         ],
     ),
     (
         Shape::CWhole,
-        (
-            RegisterClass::Absent,
-            RegisterClass::Absent,
-            RegisterClass::Absent,
-        ),
-        (0, 0, 1, 1, 0),
-        (0, 0),
+        registers!(Absent, Absent, Absent),
+        limits!(0 to 0),
+        sign!(0 less 0),
         &[],
     ),
     (
         Shape::CImmediate,
-        (
-            RegisterClass::NotZero,
-            RegisterClass::Absent,
-            RegisterClass::Absent,
-        ),
-        (-32, 31, 1, 0, 0),
-        (31, 64),
+        registers!(NotZero, Absent, Absent),
+        limits!(-32 to 31 by 1 without 0 to 0),
+        sign!(31 less 64),
         &[
-            (Field::Value, 0, 5, 2),
-            (Field::Rd, 0, 5, 7),
-            (Field::Value, 5, 1, 12),
+            slice!(Value[4:0] at 2),
+            slice!(Rd[4:0] at 7),
+            slice!(Value[5:5] at 12),
         ],
     ),
     (
         Shape::CJump,
-        (
-            RegisterClass::Absent,
-            RegisterClass::Absent,
-            RegisterClass::Absent,
-        ),
-        (-2048, 2046, 2, 1, 0),
-        (2046, 4096),
+        registers!(Absent, Absent, Absent),
+        limits!(-2048 to 2046 by 2),
+        sign!(2046 less 4096),
         &[
-            (Field::Value, 5, 1, 2),
-            (Field::Value, 1, 3, 3),
-            (Field::Value, 7, 1, 6),
-            (Field::Value, 6, 1, 7),
-            (Field::Value, 10, 1, 8),
-            (Field::Value, 8, 2, 9),
-            (Field::Value, 4, 1, 11),
-            (Field::Value, 11, 1, 12),
+            slice!(Value[5:5] at 2),
+            slice!(Value[3:1] at 3),
+            slice!(Value[7:7] at 6),
+            slice!(Value[6:6] at 7),
+            slice!(Value[10:10] at 8),
+            slice!(Value[9:8] at 9),
+            slice!(Value[4:4] at 11),
+            slice!(Value[11:11] at 12),
         ],
     ),
     (
         Shape::CLoadImmediate,
-        (
-            RegisterClass::NotZero,
-            RegisterClass::Absent,
-            RegisterClass::Absent,
-        ),
-        (-32, 31, 1, 1, 0),
-        (31, 64),
+        registers!(NotZero, Absent, Absent),
+        limits!(-32 to 31),
+        sign!(31 less 64),
         &[
-            (Field::Value, 0, 5, 2),
-            (Field::Rd, 0, 5, 7),
-            (Field::Value, 5, 1, 12),
+            slice!(Value[4:0] at 2),
+            slice!(Rd[4:0] at 7),
+            slice!(Value[5:5] at 12),
         ],
     ),
     (
         Shape::CStackAdjust,
-        (
-            RegisterClass::Absent,
-            RegisterClass::Absent,
-            RegisterClass::Absent,
-        ),
-        (-512, 496, 16, 0, 0),
-        (496, 1024),
+        registers!(Absent, Absent, Absent),
+        limits!(-512 to 496 by 16 without 0 to 0),
+        sign!(496 less 1024),
         &[
-            (Field::Value, 5, 1, 2),
-            (Field::Value, 7, 2, 3),
-            (Field::Value, 6, 1, 5),
-            (Field::Value, 4, 1, 6),
-            (Field::Value, 9, 1, 12),
+            slice!(Value[5:5] at 2),
+            slice!(Value[8:7] at 3),
+            slice!(Value[6:6] at 5),
+            slice!(Value[4:4] at 6),
+            slice!(Value[9:9] at 12),
         ],
     ),
     (
         Shape::CUpper,
-        (
-            RegisterClass::NotSp,
-            RegisterClass::Absent,
-            RegisterClass::Absent,
-        ),
-        (1, 1048575, 1, 32, 1048543),
-        (31, -1048512),
+        registers!(NotSp, Absent, Absent),
+        limits!(1 to 1048575 by 1 without 32 to 1048543),
+        sign!(31 less -1048512),
         &[
-            (Field::Value, 0, 5, 2),
-            (Field::Rd, 0, 5, 7),
-            (Field::Value, 5, 1, 12),
+            slice!(Value[4:0] at 2),
+            slice!(Rd[4:0] at 7),
+            slice!(Value[5:5] at 12),
         ],
     ),
     (
         Shape::CShiftRight,
-        (
-            RegisterClass::Prime,
-            RegisterClass::Absent,
-            RegisterClass::Absent,
-        ),
-        (1, 31, 1, 1, 0),
-        (31, 0),
-        &[(Field::Value, 0, 5, 2), (Field::Rd, 0, 3, 7)],
+        registers!(Prime, Absent, Absent),
+        limits!(1 to 31),
+        sign!(31 less 0),
+        &[slice!(Value[4:0] at 2), slice!(Rd[2:0] at 7)],
     ),
     (
         Shape::CAndImmediate,
-        (
-            RegisterClass::Prime,
-            RegisterClass::Absent,
-            RegisterClass::Absent,
-        ),
-        (-32, 31, 1, 1, 0),
-        (31, 64),
+        registers!(Prime, Absent, Absent),
+        limits!(-32 to 31),
+        sign!(31 less 64),
         &[
-            (Field::Value, 0, 5, 2),
-            (Field::Rd, 0, 3, 7),
-            (Field::Value, 5, 1, 12),
+            slice!(Value[4:0] at 2),
+            slice!(Rd[2:0] at 7),
+            slice!(Value[5:5] at 12),
         ],
     ),
     (
         Shape::CRegisters,
-        (
-            RegisterClass::Prime,
-            RegisterClass::Absent,
-            RegisterClass::Prime,
-        ),
-        (0, 0, 1, 1, 0),
-        (0, 0),
-        &[(Field::Rs2, 0, 3, 2), (Field::Rd, 0, 3, 7)],
+        registers!(Prime, Absent, Prime),
+        limits!(0 to 0),
+        sign!(0 less 0),
+        &[slice!(Rs2[2:0] at 2), slice!(Rd[2:0] at 7)],
     ),
     (
         Shape::CBranch,
-        (
-            RegisterClass::Absent,
-            RegisterClass::Prime,
-            RegisterClass::Absent,
-        ),
-        (-256, 254, 2, 1, 0),
-        (254, 512),
+        registers!(Absent, Prime, Absent),
+        limits!(-256 to 254 by 2),
+        sign!(254 less 512),
         &[
-            (Field::Value, 5, 1, 2),
-            (Field::Value, 1, 2, 3),
-            (Field::Value, 6, 2, 5),
-            (Field::Rs1, 0, 3, 7),
-            (Field::Value, 3, 2, 10),
-            (Field::Value, 8, 1, 12),
+            slice!(Value[5:5] at 2),
+            slice!(Value[2:1] at 3),
+            slice!(Value[7:6] at 5),
+            slice!(Rs1[2:0] at 7),
+            slice!(Value[4:3] at 10),
+            slice!(Value[8:8] at 12),
         ],
     ),
     (
         Shape::CShiftLeft,
-        (
-            RegisterClass::NotZero,
-            RegisterClass::Absent,
-            RegisterClass::Absent,
-        ),
-        (1, 31, 1, 1, 0),
-        (31, 0),
-        &[(Field::Value, 0, 5, 2), (Field::Rd, 0, 5, 7)],
+        registers!(NotZero, Absent, Absent),
+        limits!(1 to 31),
+        sign!(31 less 0),
+        &[slice!(Value[4:0] at 2), slice!(Rd[4:0] at 7)],
     ),
     (
         Shape::CLoadStack,
-        (
-            RegisterClass::NotZero,
-            RegisterClass::Absent,
-            RegisterClass::Absent,
-        ),
-        (0, 252, 4, 1, 0),
-        (252, 0),
+        registers!(NotZero, Absent, Absent),
+        limits!(0 to 252 by 4),
+        sign!(252 less 0),
         &[
-            (Field::Value, 6, 2, 2),
-            (Field::Value, 2, 3, 4),
-            (Field::Rd, 0, 5, 7),
-            (Field::Value, 5, 1, 12),
+            slice!(Value[7:6] at 2),
+            slice!(Value[4:2] at 4),
+            slice!(Rd[4:0] at 7),
+            slice!(Value[5:5] at 12),
         ],
     ),
     (
         Shape::CJumpRegister,
-        (
-            RegisterClass::Absent,
-            RegisterClass::NotZero,
-            RegisterClass::Absent,
-        ),
-        (0, 0, 1, 1, 0),
-        (0, 0),
-        &[(Field::Rs1, 0, 5, 7)],
+        registers!(Absent, NotZero, Absent),
+        limits!(0 to 0),
+        sign!(0 less 0),
+        &[slice!(Rs1[4:0] at 7)],
     ),
     (
         Shape::CTwoRegisters,
-        (
-            RegisterClass::NotZero,
-            RegisterClass::Absent,
-            RegisterClass::NotZero,
-        ),
-        (0, 0, 1, 1, 0),
-        (0, 0),
-        &[(Field::Rs2, 0, 5, 2), (Field::Rd, 0, 5, 7)],
+        registers!(NotZero, Absent, NotZero),
+        limits!(0 to 0),
+        sign!(0 less 0),
+        &[slice!(Rs2[4:0] at 2), slice!(Rd[4:0] at 7)],
     ),
     (
         Shape::CStoreStack,
-        (
-            RegisterClass::Absent,
-            RegisterClass::Absent,
-            RegisterClass::Any,
-        ),
-        (0, 252, 4, 1, 0),
-        (252, 0),
+        registers!(Absent, Absent, Any),
+        limits!(0 to 252 by 4),
+        sign!(252 less 0),
         &[
-            (Field::Rs2, 0, 5, 2),
-            (Field::Value, 6, 2, 7),
-            (Field::Value, 2, 4, 9),
+            slice!(Rs2[4:0] at 2),
+            slice!(Value[7:6] at 7),
+            slice!(Value[5:2] at 9),
         ],
     ),
 ];

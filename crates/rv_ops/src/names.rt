@@ -1,4 +1,4 @@
-//! The names of the operations, the registers, and the control and status registers. They are read in either letter case.
+//! The mnemonics of the operations, and the names of the registers and of the control and status registers. They are read in either letter case.
 ghost use Rattle.std.specs.Prelude.{◌≡◌, ℕ, ◌<◌, List, [], length, map, slice_index_or, Some, IfSome, IsSome, option_map};
 ghost use Rattle.rv_ops.specs.Csrs.{csr_name, csr_named, IsNameOfCsr};
 ghost use Rattle.rv_ops.specs.Names.{first_name, first_named};
@@ -10,13 +10,13 @@ use crate::csr::Csr;
 use crate::csrs::CSRS;
 use crate::lookup::row;
 use crate::name_lists::{first_named, is_name};
-use crate::op::{Op, Shape};
+use crate::op::Op;
 use crate::register::Reg;
 use crate::registers::REGISTERS;
-use crate::table::TABLE;
+use crate::table::{TABLE, TableRow};
 
-/// The operation of the first row that has the name.
-fn first_operation(mut rows: &[(Op, &str, Shape, u32, u32)], name: &[u8]) -> Option<Op>
+/// The operation of the first row that has the mnemonic.
+fn first_operation(mut rows: &[TableRow], name: &[u8]) -> Option<Op>
     ensures { result ≡ first_named (map (λ row. (row.0, row.1.now)) rows.entry.now) name.now }
 {
     while let [row, rest @ ..] = rows {
@@ -41,7 +41,7 @@ fn first_name(mut rows: &[(u16, &'static str)], number: u16) -> Option<&'static 
     None
 }
 
-/// The operation of a name, if there is one.
+/// The operation of a mnemonic, if there is one.
 pub fn op_by_name(name: &[u8]) -> Option<Op>
     ensures value { result ≡ operation_named name.now }
     ensures found { IfSome result (λ op. IsNameOfOperation op name.now) }
@@ -50,7 +50,7 @@ pub fn op_by_name(name: &[u8]) -> Option<Op>
     first_operation(&TABLE, name)
 }
 
-/// The name of an operation.
+/// The mnemonic of an operation.
 pub fn name_of(op: Op) -> &'static str
     ensures value { result.now ≡ operation_name op }
     ensures read { operation_named result.now ≡ Some op }

@@ -87,7 +87,7 @@ pub enum Op {
     CSwsp,
 }
 
-/// The operands of an instruction, as they are written, and which fields of its word hold them. An apostrophe
+/// The operands of an instruction, as they are written, and which fields of its encoding hold them. An apostrophe
 /// marks a register of x8 to x15.
 #[derive(Clone, Copy, Debug, PartialEq, Eq)]
 pub enum Shape {
@@ -114,7 +114,7 @@ pub enum Shape {
     /// `rd, value, immediate`: the immediate stands in the place of rs1.
     CsrImmediate,
     /// `predecessors, successors`: two sets, which the fields rs1 and rs2 hold; they stand in bits 27:24 and 23:20
-    /// of the word.
+    /// of the encoding.
     Fence,
     /// No operand.
     Whole,
@@ -159,12 +159,12 @@ pub enum Shape {
 /// What the table says of an operation.
 #[derive(Clone, Copy, Debug)]
 pub struct Row {
-    /// The operation's name, in lower case.
+    /// The mnemonic, in lower case.
     pub name: &'static str,
     /// The shape of its instructions.
     pub shape: Shape,
-    /// The bits of the word that no field fills.
+    /// The bits of the encoding that no field fills.
     pub fixed: u32,
-    /// Which bits of the word are fixed.
+    /// Which bits of the encoding are fixed.
     pub mask: u32,
 }

@@ -2,9 +2,17 @@
 
 use crate::op::{Op, Shape};
 
-/// Each operation with its name, its shape, its fixed bits and the mask of these: RISC-V Unprivileged
-/// ISA 20191213, chapter 24 for the words of 32 bits, and section 16.8 for those of 16.
-pub const TABLE: [(Op, &str, Shape, u32, u32); 82] = [
+/// An operation as it stands in the table: the operation, its mnemonic, its shape, its fixed bits and the mask of
+/// these.
+pub type TableRow = (Op, &'static str, Shape, u32, u32);
+
+/// How many rows of the table have encodings of 32 bits. They stand first. The others have 16 bits.
+pub const FULL_COUNT: usize = 55;
+
+/// The operations, in the order of `Op`: RISC-V Unprivileged ISA 20191213, chapter 24 for the encodings of 32
+/// bits, and section 16.8 for those of 16. The columns are the operation, its mnemonic, its shape, its fixed bits and
+/// the mask of these.
+pub const TABLE: [TableRow; 82] = [
     (Op::Lui, "lui", Shape::Upper, 0x37, 0x7f),
     (Op::Auipc, "auipc", Shape::Upper, 0x17, 0x7f),
     (Op::Jal, "jal", Shape::Jump, 0x6f, 0x7f),

@@ -1,4 +1,5 @@
 -- Worked lines, computed on the definitions.
+use denote.Enum.Declared.{tag_of}
 use Rattle.std.proofs.Common.{◌≡◌, refl}
 use Rattle.std.specs.Prelude.{ℕ, ℤ, pos, negsuc, List, [], ◌∷◌, map, codes}
 use Rattle.rv_text.specs.declared.faults.FaultNumber.{FaultNumber}
@@ -6,6 +7,7 @@ use Rattle.rv_text.specs.declared.faults.FaultNumber.TheVariants.{BadNumber, Bad
 use Rattle.rv_ops.specs.Csrs.{csr_named, csr_names}
 use Rattle.rv_ops.specs.Registers.{register_named, register_names}
 use Rattle.rv_ops.specs.Table.{operation_named, operation_names, row_of, layout_of}
+use Rattle.rv_ops.specs.contracts.op.Shape.{the_type as shape_type}
 use Rattle.rv_ops.specs.declared.op.Op.{Op}
 use Rattle.rv_ops.specs.declared.op.Op.TheVariants as op
 use Rattle.rv_expr.specs.declared.tree.BinaryOp.TheVariants.{Add}
@@ -15,11 +17,17 @@ use Rattle.rv_expr.specs.Tree.{Tree, Number, Word, Here, Binary}
 use Rattle.rv_stmt.specs.declared.label.LabelName.TheVariants as name
 use Rattle.rv_stmt.specs.declared.operand.Role.{Role}
 use Rattle.rv_stmt.specs.declared.operand.Role.TheVariants.{Immediate, SourceImmediate, Target, PairTarget, Constant}
-use Rattle.rv_stmt.specs.Draft.{Operand, fields}
+use Rattle.rv_stmt.specs.Draft.{fields}
+use Rattle.rv_stmt.specs.declared.operand.Operand.{Operand}
+use Rattle.rv_stmt.specs.declared.operand.OperandValue.{OperandValue}
+use Rattle.rv_stmt.specs.declared.operand.OperandValue.TheVariants.{Plain, High, Low, PcrelLow}
+use Rattle.rv_stmt.specs.declared.slots.TheConstants.{OPERANDS}
+use Rattle.rv_stmt.specs.declared.statement.Body.{Body}
+use Rattle.rv_stmt.specs.declared.statement.Body.TheVariants.{Empty, Instr, Pseudo, Faulty}
 use Rattle.rv_stmt.specs.Forms.{other_forms, slots_of}
 use Rattle.rv_stmt.specs.Registers.{set_named, set_names}
-use Rattle.rv_stmt.specs.Statement.{Body, Empty, Instr, Pseudo, Faulty, statement_of}
-use Rattle.rv_stmt.specs.Values.{Value, Plain, High, Low, PcrelLow, modifier_named, modifier_names}
+use Rattle.rv_stmt.specs.Statement.{statement_of}
+use Rattle.rv_stmt.specs.Values.{modifier_named, modifier_names}
 
 abbrev body : List ℕ → Body
 body line = (statement_of line).body
@@ -34,7 +42,7 @@ faulty number from to = Faulty (record { number = number; span = record { from =
 abbrev value : Tree → Role → ℕ → ℕ → Operand
 value tree role from to = record { value = Plain tree; role = role; span = record { from = from; to = to } }
 
-abbrev modified : Value → ℕ → ℕ → Operand
+abbrev modified : OperandValue → ℕ → ℕ → Operand
 modified v from to = record { value = v; role = Immediate; span = record { from = from; to = to } }
 
 abbrev instr : ℕ → ℕ → Op → ℕ → ℕ → ℕ → ℤ → List Operand → Body
@@ -68,6 +76,9 @@ bodies_rows =
     ∷ (codes ".: nop", faulty UnknownName 0 1)
     ∷ (codes "nop 08", faulty BadNumber 4 6)
     ∷ (codes "li a0, 'ab'", faulty BadString 7 11)
+    ∷ (codes "'a", faulty BadString 0 2)
+    ∷ (codes "+ 'a", faulty BadString 2 4)
+    ∷ (codes "frob 08", faulty BadNumber 5 7)
     ∷ (codes "+ nop", faulty NoStatement 0 1)
     ∷ (codes "frob a0", faulty UnknownName 0 4)
     ∷ []
@@ -318,3 +329,8 @@ depth_rows =
 depth : are_bodies depth_rows
 unfolding operation_named operation_names other_forms row_of layout_of slots_of register_named register_names
 depth = refl
+
+-- the table of operands is in the order of the shapes
+
+operands_in_order : map (λ row. tag_of shape_type row.0) OPERANDS ≡ 0 ∷ 1 ∷ 2 ∷ 3 ∷ 4 ∷ 5 ∷ 6 ∷ 7 ∷ 8 ∷ 9 ∷ 10 ∷ 11 ∷ 12 ∷ 13 ∷ 14 ∷ 15 ∷ 16 ∷ 17 ∷ 18 ∷ 19 ∷ 20 ∷ 21 ∷ 22 ∷ 23 ∷ 24 ∷ 25 ∷ 26 ∷ 27 ∷ 28 ∷ 29 ∷ 30 ∷ []
+operands_in_order = refl

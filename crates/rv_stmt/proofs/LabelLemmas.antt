@@ -15,7 +15,7 @@ slice_get-drop (x ∷ xs) (suc k) i =
     let place : suc k + i ≡ suc (k + i) = omega arith in
     ap (slice_get (x ∷ xs)) place ∙ slice_get-drop xs k i
 
--- the label of a token with another behind it
+-- the label of a token with another after it
 abbrev label_of_two : Option Piece → Option Piece → Option Label
 label_of_two first second =
     if is_sign_there (codes ":") second then option_and_then label_of first else None

@@ -2,13 +2,14 @@
 use Rattle.std.proofs.Common.{[], ◌∷◌, Some, None, ◌≡◌, ℕ, ◌+◌, ◌-◌, ◌≤◌, List, length, take, drop, sym, ap, ◌∙◌, refl, arith}
 use Rattle.std.specs.List.{slice_range, slice_get}
 use Rattle.std.proofs.lemmas.Option.{none-some, same_Some}
-use Rattle.std.proofs.lemmas.List.{drop_all, length-take-le, length-drop, drop-take, take-take, drop-drop, length-map}
+use Rattle.std.proofs.lemmas.List.{drop_all, length-take-le, length-drop, drop-take, take-take, drop-drop}
 use Rattle.rv_text.specs.Lexing.{LexedLine, pieces}
+use Rattle.rv_text.specs.TokenLaws.{count_of_pieces}
 use Rattle.rv_expr.specs.Reading.{run_of}
 
 pub length_run : (l : LexedLine) (from to : ℕ) → to ≤ length l.tokens → length (run_of l from to) ≡ to - from
 length_run l from to h =
-    let count : length (pieces l) ≡ length l.tokens = length-map l.tokens _ in
+    let count : length (pieces l) ≡ length l.tokens = count_of_pieces l in
     length-take-le (to - from) (drop from (pieces l)) (rw length-drop omega (arith, h, count))
 
 pub part_of_part : {A : Type 0} (xs : List A) (f t a b : ℕ) → a ≤ b → b ≤ t - f → slice_range xs (f + a) (f + b) ≡ slice_range (slice_range xs f t) a b
@@ -38,7 +39,7 @@ past_range xs f t k h =
     let n : t - t ≡ 0 = omega arith in
     ap (λ c. take c (drop t xs)) n ∙ sym (drop_all k (slice_range xs f t) h)
 
--- the first element of a list and those behind it
+-- the first element of a list and those after it
 pub first_and_rest : {A : Type 0} (xs : List A) (x : A) → Some x ≡ slice_get xs 0 → xs ≡ x ∷ drop 1 xs
 first_and_rest [] x h = absurd (none-some x (sym h))
 first_and_rest (y ∷ ys) x h = ap (λ z. z ∷ ys) (sym (same_Some x y h))
@@ -47,6 +48,6 @@ pub none_first : {A : Type 0} (xs : List A) → None ≡ slice_get xs 0 → xs �
 none_first [] h = refl
 none_first (x ∷ xs) h = absurd (none-some x h)
 
--- what is left behind a place
+-- what is left after a place
 pub length_behind : {A : Type 0} (xs : List A) (k : ℕ) → length (drop k xs) ≡ length xs - k
 length_behind xs k = length-drop k xs

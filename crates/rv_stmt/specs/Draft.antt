@@ -1,26 +1,11 @@
 -- An instruction while its operands are read.
-use Rattle.std.specs.Prelude.{ℕ, ℤ, List, [], ◌∷◌, ◌++◌}
-use Rattle.rv_text.specs.declared.lexeme.Span.{Span}
-use Rattle.rv_code.specs.declared.instruction.Fields.{Fields as CodeFields}
-use Rattle.rv_stmt.specs.declared.operand.Role.{Role}
-use Rattle.rv_stmt.specs.Values.{Value}
-
-abbrev pub Fields : Type 0
-Fields = CodeFields
+use Rattle.std.specs.Prelude.{ℕ, ℤ, [], ◌∷◌, ◌++◌}
+use Rattle.rv_code.specs.declared.instruction.Fields.{Fields}
+use Rattle.rv_stmt.specs.declared.draft.Draft.{Draft}
+use Rattle.rv_stmt.specs.declared.operand.Operand.{Operand}
 
 abbrev pub fields : ℕ → ℕ → ℕ → ℤ → Fields
 fields rd rs1 rs2 v = record { rd = rd; rs1 = rs1; rs2 = rs2; value = v }
-
--- the value of an operand, what it is for, and the span at which its faults are told
-pub record Operand : Type 0 where
-  pub value : Value
-  pub role : Role
-  pub span : Span
-
--- the fields that are filled, and the operands that wait for their values
-pub record Draft : Type 0 where
-  pub fields : Fields
-  pub operands : List Operand
 
 abbrev pub with_rd : Draft → ℕ → Draft
 with_rd d n = record { fields = fields n d.fields.rs1 d.fields.rs2 d.fields.value; operands = d.operands }

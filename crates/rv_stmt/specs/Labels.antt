@@ -5,7 +5,7 @@ use Rattle.rv_text.specs.declared.lexeme.TokenKind.{TokenKind}
 use Rattle.rv_text.specs.declared.lexeme.TokenKind.TheVariants as kinds
 use Rattle.rv_text.specs.Lexing.{Piece}
 use Rattle.rv_text.specs.Numbers.{is_local_number}
-use Rattle.rv_expr.specs.Roles.{label_number}
+use Rattle.rv_expr.specs.TokenRoles.{label_number}
 use Rattle.rv_stmt.specs.declared.label.Label.{Label}
 use Rattle.rv_stmt.specs.declared.label.LabelName.{LabelName}
 use Rattle.rv_stmt.specs.declared.label.LabelName.TheVariants.{Symbol, Local}
@@ -21,7 +21,7 @@ label_name kind text = None
 abbrev pub label_of : Piece → Option Label
 label_of p = option_map (λ name. record { name = name; span = p.span }) (label_name p.kind p.text)
 
--- the label at a place, where a `:` stands behind it
+-- the label at a place, where a `:` stands after it
 abbrev pub label_at : List Piece → ℕ → Option Label
 label_at ps k = if sign_at (codes ":") ps (k + 1) then option_and_then label_of (slice_get ps k) else None
 

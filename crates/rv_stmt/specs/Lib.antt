@@ -1,13 +1,15 @@
 pub mod Draft
+pub mod Expansion
 pub mod FirstRun
 pub mod Forms
 pub mod Labels
 pub mod Memory
+pub mod Operands
 pub mod Readings
 pub mod Registers
 pub mod Runs
 pub mod Slots
 pub mod Statement
 pub mod Tokens
+pub mod ValueParts
 pub mod Values
-pub mod Views

@@ -4,18 +4,15 @@ use Rattle.rv_text.specs.declared.faults.FaultNumber.TheVariants.{BadRegister}
 use Rattle.rv_text.specs.Lexing.{Piece}
 use Rattle.rv_ops.specs.Registers.{register_named}
 use Rattle.rv_ops.specs.declared.op.Shape.{Shape}
-use Rattle.rv_expr.specs.Depth.{depth_behind}
-use Rattle.rv_expr.specs.Roles.{role}
+use Rattle.rv_expr.specs.Depth.{depth_after}
+use Rattle.rv_expr.specs.TokenRoles.{token_role}
+use Rattle.rv_stmt.specs.declared.memory.Located.{Located}
+use Rattle.rv_stmt.specs.declared.operand.OperandValue.{OperandValue}
 use Rattle.rv_stmt.specs.declared.registers.Accepted.{Accepted}
 use Rattle.rv_stmt.specs.Readings.{Reading, and_then, or_fault}
 use Rattle.rv_stmt.specs.Registers.{accepted_register}
 use Rattle.rv_stmt.specs.Tokens.{sign_at, word_at}
-use Rattle.rv_stmt.specs.Values.{Value, plain, modified_value}
-
--- a place in memory: an offset from a register, which may be absent
-pub record Located : Type 0 where
-  pub base : ℕ
-  pub offset : Option Value
+use Rattle.rv_stmt.specs.Values.{plain, modified_value}
 
 -- `(`, a register and `)` from a place on
 abbrev pub base_at : List Piece → ℕ → Option ℕ
@@ -29,12 +26,12 @@ abbrev pub base_of : List Piece → Option ℕ
 base_of run = if nat_le 3 (length run) then base_at run (length run - 3) else None
 
 -- the offset before a base; none where nothing stands there
-abbrev pub offset : List Piece → Reading (Option Value)
+abbrev pub offset : List Piece → Reading (Option OperandValue)
 offset [] = Ok None
 offset (p ∷ ps) = and_then (plain (p ∷ ps)) (λ v. Ok (Some v))
 
 -- the place of a base that the operand accepts, and of an offset; the base's fault comes first
-abbrev pub place_in_memory : Accepted → Option ℕ → Reading (Option Value) → Reading Located
+abbrev pub place_in_memory : Accepted → Option ℕ → Reading (Option OperandValue) → Reading Located
 place_in_memory a base reading =
     and_then
     (and_then (or_fault BadRegister base) (accepted_register a))
@@ -44,7 +41,7 @@ place_in_memory a base reading =
 abbrev pub closed_within : ℕ → List Piece → Option ℕ
 closed_within depth [] = None
 closed_within depth (p ∷ ps) =
-    if depth_behind depth (role p) == 0 then Some 1 else option_map suc (closed_within (depth_behind depth (role p)) ps)
+    if depth_after depth (token_role p) == 0 then Some 1 else option_map suc (closed_within (depth_after depth (token_role p)) ps)
 
 -- how many tokens a modifier has with its parentheses: `%`, a name if there is one, and up to the parenthesis that
 -- closes the first
@@ -56,11 +53,11 @@ group_from run k =
 abbrev pub group_of : List Piece → Option ℕ
 group_of run = group_from run (if is_some (word_at run 1) then 2 else 1)
 
--- the base behind a modifier, which nothing else follows
+-- the base after a modifier, which nothing else follows
 abbrev pub base_behind : List Piece → ℕ → Option ℕ
 base_behind run n = if length run == n + 3 then base_at run n else None
 
--- an offset with a modifier, and behind it the base and nothing else
+-- an offset with a modifier, and after it the base and nothing else
 abbrev pub modified_memory : Shape → Accepted → List Piece → Reading Located
 modified_memory s a run =
     and_then

@@ -8,20 +8,14 @@ use Rattle.rv_ops.specs.declared.op.Shape.TheVariants as shape
 use Rattle.rv_expr.specs.declared.tree.LabelReference.{LabelReference}
 use Rattle.rv_expr.specs.Depth.{depth_of}
 use Rattle.rv_expr.specs.Reading.{expression_of}
-use Rattle.rv_expr.specs.Tree.{Tree, label_of}
+use Rattle.rv_expr.specs.Tree.{Tree, label_reference_of}
 use Rattle.rv_stmt.specs.declared.modifiers.Modifier.{Modifier}
 use Rattle.rv_stmt.specs.declared.modifiers.Modifier.TheVariants as modifier
 use Rattle.rv_stmt.specs.declared.modifiers.TheConstants.{MODIFIERS}
+use Rattle.rv_stmt.specs.declared.operand.OperandValue.{OperandValue}
+use Rattle.rv_stmt.specs.declared.operand.OperandValue.TheVariants.{Plain, High, Low, PcrelHigh, PcrelLow}
 use Rattle.rv_stmt.specs.Readings.{Reading, and_then, or_fault}
 use Rattle.rv_stmt.specs.Tokens.{sign_at, word_at}
-
--- an expression, a part of its value, or the low part of what a label names
-pub data Value : Type 0 where
-  Plain : Tree → Value
-  High : Tree → Value
-  Low : Tree → Value
-  PcrelHigh : Tree → Value
-  PcrelLow : LabelReference → Value
 
 -- more than 64 parentheses are open at one place
 abbrev pub is_deep : List Piece → Bool
@@ -32,7 +26,7 @@ abbrev pub expression : List Piece → Reading Tree
 expression run = if is_deep run then Err TooDeep else or_fault BadOperand (expression_of run)
 
 -- a value without a modifier
-abbrev pub plain : List Piece → Reading Value
+abbrev pub plain : List Piece → Reading OperandValue
 plain run = and_then (expression run) (λ e. Ok (Plain e))
 
 -- the names of the modifiers
@@ -65,17 +59,17 @@ modifier_of_shape s (Some m) = if takes_modifier s m then Some m else None
 -- a symbol, a local label or `.`, which one token is
 abbrev pub label_reference : List Piece → Reading LabelReference
 label_reference run =
-    if length run == 1 then and_then (expression run) (λ e. or_fault BadOperand (label_of e)) else Err BadOperand
+    if length run == 1 then and_then (expression run) (λ e. or_fault BadOperand (label_reference_of e)) else Err BadOperand
 
 -- the value that a modifier makes of what stands between its parentheses
-abbrev pub value_of_modifier : Modifier → List Piece → Reading Value
+abbrev pub value_of_modifier : Modifier → List Piece → Reading OperandValue
 value_of_modifier modifier.High run = and_then (expression run) (λ e. Ok (High e))
 value_of_modifier modifier.Low run = and_then (expression run) (λ e. Ok (Low e))
 value_of_modifier modifier.PcrelHigh run = and_then (expression run) (λ e. Ok (PcrelHigh e))
 value_of_modifier modifier.PcrelLow run = and_then (label_reference run) (λ label. Ok (PcrelLow label))
 
 -- `%name(..)`, with a modifier that the shape takes
-abbrev pub modified_value : Shape → List Piece → Reading Value
+abbrev pub modified_value : Shape → List Piece → Reading OperandValue
 modified_value s run =
     if nat_le 4 (length run) && sign_at (codes "(") run 2 && sign_at (codes ")") run (length run - 1)
     then and_then
@@ -84,5 +78,5 @@ modified_value s run =
     else Err BadOperand
 
 -- an immediate: an expression, or one with a modifier
-abbrev pub immediate : Shape → List Piece → Reading Value
+abbrev pub immediate : Shape → List Piece → Reading OperandValue
 immediate s run = if sign_at (codes "%") run 0 then modified_value s run else plain run

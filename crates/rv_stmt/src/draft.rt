@@ -1,38 +1,37 @@
 //! An instruction while its operands are read.
 
-ghost use Rattle.std.specs.Prelude.{◌≡◌, [], map, option_map, IfOk};
+ghost use Rattle.std.specs.Prelude.{◌≡◌, [], IfOk};
 ghost use Rattle.rv_stmt.specs.Draft.{with_rd, with_rs1, with_rs2, with_value, with_operand};
 ghost use Rattle.rv_stmt.specs.Slots.{with_waiting, with_offset};
-ghost use Rattle.rv_stmt.specs.Views.{reading_view, value_view, operand_view, draft_view};
 
 use crate::operand::{Operand, OperandValue, Role};
 use crate::reading::{Attempt, Reading};
 use rv_code::Fields;
 use rv_ops::Reg;
-use rv_text::Span;
+use rv_text::{Sequence, Span};
 use std::alloc::{AllocError, Global};
 
 /// The fields that are filled so far, and the operands whose values are still to come.
 #[derive(Drop)]
 pub struct Draft {
     pub fields: Fields,
-    pub operands: Vec<Operand>,
+    pub operands: Sequence<Operand>,
 }
 
 impl Draft {
     /// No operand is read yet.
     pub fn new(alloc: Global, fields: Fields) -> Draft
-        ensures { draft_view result ≡ record { fields = fields; operands = [] } }
+        ensures { result ≡ record { fields = fields; operands = [] } }
     {
         Draft {
             fields,
-            operands: Vec::new(alloc),
+            operands: Sequence::new(alloc),
         }
     }
 
     /// With this rd.
     pub fn with_rd(mut self, register: Reg) -> Draft
-        ensures { draft_view result ≡ with_rd (draft_view self) register }
+        ensures { result ≡ with_rd self register }
     {
         self.fields.rd = register;
         self
@@ -40,7 +39,7 @@ impl Draft {
 
     /// With this rs1.
     pub fn with_rs1(mut self, register: Reg) -> Draft
-        ensures { draft_view result ≡ with_rs1 (draft_view self) register }
+        ensures { result ≡ with_rs1 self register }
     {
         self.fields.rs1 = register;
         self
@@ -48,7 +47,7 @@ impl Draft {
 
     /// With the register of rd in rs1 too.
     pub fn with_rd_as_rs1(self) -> Draft
-        ensures { draft_view result ≡ with_rs1 (draft_view self) self.fields.rd }
+        ensures { result ≡ with_rs1 self self.fields.rd }
     {
         let Draft { fields, operands } = self;
         let fields = Fields {
@@ -62,7 +61,7 @@ impl Draft {
 
     /// With this rs2.
     pub fn with_rs2(mut self, register: Reg) -> Draft
-        ensures { draft_view result ≡ with_rs2 (draft_view self) register }
+        ensures { result ≡ with_rs2 self register }
     {
         self.fields.rs2 = register;
         self
@@ -70,7 +69,7 @@ impl Draft {
 
     /// With this value.
     pub fn with_value(mut self, value: i32) -> Draft
-        ensures { draft_view result ≡ with_value (draft_view self) value }
+        ensures { result ≡ with_value self value }
     {
         self.fields.value = value;
         self
@@ -78,7 +77,7 @@ impl Draft {
 
     // With one more operand.
     fn with_operand(mut self, operand: Operand) -> Result<Draft, AllocError>
-        ensures { IfOk result (λ d. draft_view d ≡ with_operand (draft_view self) (operand_view operand)) }
+        ensures { IfOk result (λ d. d ≡ with_operand self operand) }
     {
         self.operands.push(operand)?;
         Ok(self)
@@ -91,7 +90,7 @@ impl Draft {
         span: Span,
         value: Reading<OperandValue>,
     ) -> Attempt<Draft>
-        ensures { IfOk result (λ r. reading_view draft_view r ≡ with_waiting role span (draft_view self) (reading_view value_view value)) }
+        ensures { IfOk result (λ r. r ≡ with_waiting role span self value) }
     {
         match value {
             Ok(value) => Ok(Ok(self.with_operand(Operand { value, role, span })?)),
@@ -101,7 +100,7 @@ impl Draft {
 
     /// With the offset of a place in memory, 0 where it is absent.
     pub fn with_offset(self, span: Span, offset: Option<OperandValue>) -> Attempt<Draft>
-        ensures { IfOk result (λ r. reading_view draft_view r ≡ with_offset span (draft_view self) (option_map value_view offset)) }
+        ensures { IfOk result (λ r. r ≡ with_offset span self offset) }
     {
         match offset {
             None => Ok(Ok(self.with_value(0))),

@@ -7,7 +7,7 @@ use rv_text::TextError;
 use std::alloc::AllocError;
 use thiserror::Error;
 
-/// Why a line was not read. What is wrong with the line itself is told in its statement.
+/// Why a line was not read. What is wrong with the line itself is reported in its statement.
 #[derive(Clone, Copy, Debug, PartialEq, Eq, Drop, Error)]
 pub enum StmtError {
     /// There was no memory for the tokens or the statement.

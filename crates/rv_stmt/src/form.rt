@@ -1,9 +1,8 @@
-//! Which way of writing an instruction a name and a number of operands choose.
+//! Which way of writing an instruction a mnemonic and a number of operands choose.
 
 ghost use Rattle.std.specs.Prelude.{◌≡◌, map, IsTrue, IfSome, IsSome};
 ghost use Rattle.std.specs.List.{list_all};
-ghost use Rattle.rv_stmt.specs.Forms.{slots_of, own_form, forms_named, named_form, has_registers, other_forms, first_of_count, form_of};
-ghost use Rattle.rv_stmt.specs.Views.{reading_view, form_view};
+ghost use Rattle.rv_stmt.specs.Forms.{slots_of, own_form, forms_named, named_form, has_registers, other_forms, takes, operand_count, first_of_count, form_of};
 
 use crate::forms::{FORMS, FormRow};
 use crate::reading::Reading;
@@ -11,15 +10,54 @@ use crate::slots::{OPERANDS, Slot};
 use rv_code::Fields;
 use rv_ops::{Op, Reg, Shape, is_name, op_by_name, shape};
 use rv_text::FaultNumber;
+use std::marker::Model;
 
 /// A way to write an instruction: its operation, the fields where no operand fills them, and the operands.
-#[derive(Clone, Copy)]
+#[derive(Drop)]
 pub struct Form {
-    /// Whether it is the operation's own way, and not one of another name, with operands left out or in a further way.
+    /// Whether it is the operation's own way, and not one of another mnemonic, with operands left out or in a further way.
     pub own: bool,
     pub op: Op,
     pub fields: Fields,
     pub slots: &'static [Slot],
+}
+
+impl Model for Form {
+    ghost use Rattle.rv_stmt.specs.Forms.{Form as FormValue};
+
+    ghost Value = { FormValue };
+
+    ghost view = { λ f. record { own = f.own; op = f.op; fields = f.fields; slots = f.slots.now } };
+}
+
+/// How many operands may stand after a name.
+#[derive(Clone, Copy, Debug, PartialEq, Eq)]
+pub enum OperandCount {
+    /// So many.
+    Exactly(usize),
+    /// So many or more.
+    AtLeast(usize),
+}
+
+impl OperandCount {
+    /// Whether so many operands may stand there.
+    pub fn takes(self, count: usize) -> bool
+        ensures { result ≡ takes self count }
+    {
+        match self {
+            OperandCount::Exactly(number) => count == number,
+            OperandCount::AtLeast(least) => count >= least,
+        }
+    }
+}
+
+impl Form {
+    // How many operands the form takes: one for each slot.
+    fn operand_count(&self) -> OperandCount
+        ensures { result ≡ operand_count self.now }
+    {
+        OperandCount::Exactly(self.slots.len())
+    }
 }
 
 // The operands of a shape.
@@ -32,7 +70,7 @@ fn slots(shape: Shape) -> &'static [Slot]
 
 // The operation's own way.
 fn own_form(op: Op) -> Form
-    ensures { form_view result ≡ own_form op }
+    ensures { result ≡ own_form op }
 {
     let fields = Fields {
         rd: Reg::ZERO,
@@ -51,7 +89,7 @@ fn own_form(op: Op) -> Form
 // The way of a row of the table of other ways.
 fn form_of_row(row: &FormRow) -> Option<Form>
     ensures registers { IsTrue (has_registers row.now.2) → IsSome result }
-    ensures form { IfSome result (λ f. form_view f ≡ (named_form row.now.0.now row.now.1 row.now.2 row.now.3.now).1) }
+    ensures form { IfSome result (λ f. f ≡ (named_form row.now.0.now row.now.1 row.now.2 row.now.3.now).1) }
 {
     let (rd, rs1, rs2, value) = row.2;
     let fields = Fields {
@@ -68,7 +106,7 @@ fn form_of_row(row: &FormRow) -> Option<Form>
     })
 }
 
-// The first of these ways that has the name and so many operands; `fault` where none has the name.
+// The first of these ways that has the mnemonic and takes so many operands; `unknown` where none has the mnemonic.
 fn other_form(
     mut forms: &[FormRow],
     name: &[u8],
@@ -76,17 +114,15 @@ fn other_form(
     unknown: FaultNumber,
 ) -> Reading<Form>
     requires { IsTrue (list_all (λ row. has_registers row.2) forms.now) }
-    ensures { reading_view form_view result
+    ensures { result
         ≡ first_of_count unknown count (forms_named (map (λ row. named_form row.0.now row.1 row.2 row.3.now) forms.entry.now) name.now) }
 {
     let mut fault = unknown;
     while let [row, rest @ ..] = forms {
         if is_name(row.0, name) {
-            if row.3.len() == count {
-                return match form_of_row(row) {
-                    Some(form) => Ok(form),
-                    None => Err(FaultNumber::OperandCount),
-                };
+            let form = form_of_row(row).ok_or(FaultNumber::OperandCount)?;
+            if form.operand_count().takes(count) {
+                return Ok(form);
             }
             fault = FaultNumber::OperandCount;
         }
@@ -95,20 +131,20 @@ fn other_form(
     Err(fault)
 }
 
-/// The way of a name that takes so many operands.
+/// The way of a mnemonic that takes so many operands.
 ///
 /// # Errors
 ///
-/// `UnknownName` if the name has no way at all, else `OperandCount`.
+/// `UnknownName` if the mnemonic has no way at all, else `OperandCount`.
 #[tactic(auto, unfolding(crate::specs::Forms::other_forms))]
 pub fn form_of(name: &[u8], count: usize) -> Reading<Form>
-    ensures { reading_view form_view result ≡ form_of name.now count }
+    ensures { result ≡ form_of name.now count }
 {
     let Some(op) = op_by_name(name) else {
         return other_form(&FORMS, name, count, FaultNumber::UnknownName);
     };
     let form = own_form(op);
-    if form.slots.len() == count {
+    if form.operand_count().takes(count) {
         Ok(form)
     } else {
         other_form(&FORMS, name, count, FaultNumber::OperandCount)

@@ -1,14 +1,16 @@
-//! The names that stand for instructions with some operands filled in, and further ways to write an instruction.
+//! Pseudo-instructions, which are mnemonics for instructions with some operands filled in, and further ways to write an
+//! instruction.
 
 use crate::slots::Slot;
 use rv_ops::Op;
 
-/// A name, its operation, that operation's rd, rs1, rs2 and value where no operand fills them, and the operands.
+/// The columns: the mnemonic, its operation, that operation's rd, rs1, rs2 and value where no operand fills them, and the
+/// operands.
 pub type FormRow = (&'static str, Op, (u8, u8, u8, i32), &'static [Slot]);
 
-/// Each name with the operation that it stands for, that operation's rd, rs1, rs2 and value where no operand fills
-/// them, and the operands: RISC-V Unprivileged ISA 20191213, chapter 25, tables 25.2 and 25.3, and our own rules in
-/// docs/LANGUAGE.md. A name may have several ways, each with another number of operands.
+/// Each mnemonic with a way to write it that is not the operation's own: RISC-V Unprivileged ISA 20191213, chapter 25,
+/// tables 25.2 and 25.3, and our own rules in docs/LANGUAGE.md. A mnemonic may have several ways, each with another number
+/// of operands.
 pub const FORMS: [FormRow; 48] = [
     (
         "jalr",

@@ -3,10 +3,12 @@
 
 mod draft;
 mod error;
+mod expansion;
 mod form;
 mod forms;
 mod label;
 mod labels;
+mod laws;
 mod line;
 mod memory;
 mod modifiers;
@@ -19,14 +21,16 @@ mod runs;
 mod sets;
 mod slots;
 mod statement;
-#[cfg(test)]
-mod tests;
 mod token_range;
+mod value_parts;
 mod value_slots;
 mod values;
 
 pub use error::StmtError;
+pub use expansion::{Expansion, Instructions, MachineInstruction, expansion_of, instructions_of};
 pub use label::{Label, LabelName};
+pub use laws::{operands_are_few, parts_are_the_value, values_keep_sizes};
 pub use line::read_line;
 pub use operand::{Operand, OperandValue, Role};
 pub use statement::{Body, Instruction, Stmt};
+pub use value_parts::{high_part, low_part, word_bits};

@@ -2,14 +2,13 @@
 
 ghost use Rattle.std.specs.Prelude.{◌≡◌, ◌+◌, ◌<◌, ◌≤◌, ◌^◌, IfOk, IfSome, option_map, length, take, drop};
 ghost use Rattle.rv_stmt.specs.Memory.{base_at, base_of, offset, closed_within, group_from, group_of, base_behind, modified_memory, plain_memory, memory};
-ghost use Rattle.rv_stmt.specs.Views.{reading_view, value_view, located_view};
 
 use crate::operand::OperandValue;
 use crate::reading::Attempt;
 use crate::registers::Accepted;
 use crate::token_range::TokenRange;
 use crate::values::{modified_value, plain};
-use rv_expr::depth_behind;
+use rv_expr::depth_after;
 use rv_ops::{Reg, Shape, reg_by_name};
 use rv_text::FaultNumber;
 use std::alloc::Global;
@@ -52,13 +51,13 @@ fn closed_within(run: &TokenRange<'_>) -> Option<usize>
     let mut rest = run.skip(0);
     let mut depth = 0;
     let mut length = 0;
-    while let Some((token, behind)) = rest.split_first() {
-        depth = depth_behind(depth, token.kind, token.text);
+    while let Some((token, after)) = rest.split_first() {
+        depth = depth_after(depth, token.kind, token.text);
         length += 1;
         if depth == 0 {
             return Some(length);
         }
-        rest = behind;
+        rest = after;
     }
     None
 }
@@ -77,7 +76,7 @@ fn group_of(run: &TokenRange<'_>) -> Option<usize>
     Some(open + closed_within(&run.skip(open))?)
 }
 
-// The register in parentheses behind a modifier, if nothing else follows.
+// The register in parentheses after a modifier, if nothing else follows.
 fn base_behind(run: &TokenRange<'_>, place: usize) -> Option<Reg>
     ensures { result ≡ base_behind run.now place }
 {
@@ -90,7 +89,7 @@ fn base_behind(run: &TokenRange<'_>, place: usize) -> Option<Reg>
 
 // The offset before a base; none where nothing stands there.
 fn offset(alloc: Global, run: &TokenRange<'_>) -> Attempt<Option<OperandValue>>
-    ensures { IfOk result (λ r. reading_view (option_map value_view) r ≡ offset run.now) }
+    ensures { IfOk result (λ r. r ≡ offset run.now) }
 {
     if run.len() == 0 {
         return Ok(Ok(None));
@@ -105,7 +104,7 @@ fn modified_memory(
     accepted: Accepted,
     run: &TokenRange<'_>,
 ) -> Attempt<Located>
-    ensures { IfOk result (λ r. reading_view located_view r ≡ modified_memory shape accepted run.now) }
+    ensures { IfOk result (λ r. r ≡ modified_memory shape accepted run.now) }
 {
     let Some(length) = group_of(run) else {
         return Ok(Err(FaultNumber::BadRegister));
@@ -123,7 +122,7 @@ fn modified_memory(
 
 // A place in memory whose offset has no modifier.
 fn plain_memory(alloc: Global, accepted: Accepted, run: &TokenRange<'_>) -> Attempt<Located>
-    ensures { IfOk result (λ r. reading_view located_view r ≡ plain_memory accepted run.now) }
+    ensures { IfOk result (λ r. r ≡ plain_memory accepted run.now) }
 {
     let base = match accepted.check(base_of(run)) {
         Ok(base) => base,
@@ -141,7 +140,7 @@ pub fn memory(
     accepted: Accepted,
     run: &TokenRange<'_>,
 ) -> Attempt<Located>
-    ensures { IfOk result (λ r. reading_view located_view r ≡ memory shape accepted run.now) }
+    ensures { IfOk result (λ r. r ≡ memory shape accepted run.now) }
 {
     if run.sign_at(b"%", 0) {
         modified_memory(alloc, shape, accepted, run)

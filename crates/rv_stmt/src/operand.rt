@@ -38,6 +38,6 @@ pub enum OperandValue {
 pub struct Operand {
     pub value: OperandValue,
     pub role: Role,
-    /// The whole operand, at which the faults of its value are told.
+    /// The whole operand, at which the faults of its value are reported.
     pub span: Span,
 }

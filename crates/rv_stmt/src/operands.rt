@@ -2,7 +2,6 @@
 
 ghost use Rattle.std.specs.Prelude.{◌≡◌, map, IfOk};
 ghost use Rattle.rv_stmt.specs.Slots.{slot_of, operand_of_slot, slots_read};
-ghost use Rattle.rv_stmt.specs.Views.{reading_view, draft_view, run_view};
 
 use crate::draft::Draft;
 use crate::operand::Role;
@@ -11,18 +10,18 @@ use crate::registers::Accepted;
 use crate::runs::Run;
 use crate::slots::Slot;
 use rv_ops::{Op, classes};
-use rv_text::{Fault, FaultNumber};
+use rv_text::Fault;
 use std::alloc::{AllocError, Global};
 
 impl Draft {
     // One operand, by its slot.
     fn read_slot(self, alloc: Global, op: Op, slot: Slot, run: &Run<'_>) -> Attempt<Draft>
-        ensures { IfOk result (λ r. reading_view draft_view r ≡ slot_of op slot (run_view run.now) (draft_view self)) }
+        ensures { IfOk result (λ r. r ≡ slot_of op slot run.now self) }
     {
         match slot {
-            Slot::Rd => Ok(self.rd_slot(Accepted::Class(classes(op).0), &run.tokens)),
-            Slot::Rs1 => Ok(self.rs1_slot(Accepted::Class(classes(op).1), &run.tokens)),
-            Slot::Rs2 => Ok(self.rs2_slot(Accepted::Class(classes(op).2), &run.tokens)),
+            Slot::Rd => Ok(self.rd_slot(Accepted::Class(classes(op).rd), &run.tokens)),
+            Slot::Rs1 => Ok(self.rs1_slot(Accepted::Class(classes(op).rs1), &run.tokens)),
+            Slot::Rs2 => Ok(self.rs2_slot(Accepted::Class(classes(op).rs2), &run.tokens)),
             Slot::StackPointer => Ok(self.stack_pointer_slot(&run.tokens)),
             Slot::Immediate => self.immediate_slot(alloc, op, run),
             Slot::SourceImmediate => self.expression_slot(alloc, Role::SourceImmediate, run),
@@ -40,7 +39,7 @@ impl Draft {
         }
     }
 
-    // One operand, or what is wrong with it; too many open parentheses are wrong whatever else it is.
+    // One operand, or what is wrong with it.
     fn read_operand(
         self,
         alloc: Global,
@@ -48,17 +47,9 @@ impl Draft {
         slot: Slot,
         run: &Run<'_>,
     ) -> Result<Result<Draft, Fault>, AllocError>
-        ensures { IfOk result (λ r. reading_view draft_view r ≡ operand_of_slot op slot (run_view run.now) (draft_view self)) }
+        ensures { IfOk result (λ r. r ≡ operand_of_slot op slot run.now self) }
     {
-        let span = run.span;
-        if run.tokens.is_deep() {
-            return Ok(Err(Fault {
-                number: FaultNumber::TooDeep,
-                span,
-            }));
-        }
-        let draft = self.read_slot(alloc, op, slot, run)?;
-        Ok(draft.map_err(|number| Fault { number, span }))
+        Ok(run.operand(self.read_slot(alloc, op, slot, run)?))
     }
 
     /// The operands from left to right, up to the first fault.
@@ -69,8 +60,8 @@ impl Draft {
         mut slots: &[Slot],
         mut runs: &[Run<'_>],
     ) -> Result<Result<Draft, Fault>, AllocError>
-        ensures { IfOk result (λ r. reading_view draft_view r
-            ≡ slots_read op slots.entry.now (map run_view runs.entry.now) (draft_view self)) }
+        ensures { IfOk result (λ r. r
+            ≡ slots_read op slots.entry.now runs.entry.now self) }
     {
         let mut draft = self;
         while let [slot, more_slots @ ..] = slots {

@@ -4,7 +4,6 @@ ghost use Rattle.std.specs.Prelude.{◌≡◌};
 ghost use Rattle.rv_stmt.specs.declared.registers.Accepted.TheVariants.{StackPointer};
 ghost use Rattle.rv_stmt.specs.Draft.{with_rd, with_rs1, with_rs2};
 ghost use Rattle.rv_stmt.specs.Slots.{register_slot, predecessors_slot, successors_slot};
-ghost use Rattle.rv_stmt.specs.Views.{reading_view, draft_view};
 
 use crate::draft::Draft;
 use crate::reading::Reading;
@@ -15,28 +14,28 @@ use crate::token_range::TokenRange;
 impl Draft {
     /// A register, into `rd`.
     pub fn rd_slot(self, accepted: Accepted, run: &TokenRange<'_>) -> Reading<Draft>
-        ensures { reading_view draft_view result ≡ register_slot accepted run.now (with_rd (draft_view self)) }
+        ensures { result ≡ register_slot accepted run.now (with_rd self) }
     {
         Ok(self.with_rd(register(accepted, run)?))
     }
 
     /// A register, into `rs1`.
     pub fn rs1_slot(self, accepted: Accepted, run: &TokenRange<'_>) -> Reading<Draft>
-        ensures { reading_view draft_view result ≡ register_slot accepted run.now (with_rs1 (draft_view self)) }
+        ensures { result ≡ register_slot accepted run.now (with_rs1 self) }
     {
         Ok(self.with_rs1(register(accepted, run)?))
     }
 
     /// A register, into `rs2`.
     pub fn rs2_slot(self, accepted: Accepted, run: &TokenRange<'_>) -> Reading<Draft>
-        ensures { reading_view draft_view result ≡ register_slot accepted run.now (with_rs2 (draft_view self)) }
+        ensures { result ≡ register_slot accepted run.now (with_rs2 self) }
     {
         Ok(self.with_rs2(register(accepted, run)?))
     }
 
     /// The register `sp`, which no field holds.
     pub fn stack_pointer_slot(self, run: &TokenRange<'_>) -> Reading<Draft>
-        ensures { reading_view draft_view result ≡ register_slot StackPointer run.now (λ n. draft_view self) }
+        ensures { result ≡ register_slot StackPointer run.now (λ n. self) }
     {
         register(Accepted::StackPointer, run)?;
         Ok(self)
@@ -44,14 +43,14 @@ impl Draft {
 
     /// A fence's set of predecessors, in the place of `rs1`.
     pub fn predecessors_slot(self, run: &TokenRange<'_>) -> Reading<Draft>
-        ensures { reading_view draft_view result ≡ predecessors_slot run.now (draft_view self) }
+        ensures { result ≡ predecessors_slot run.now self }
     {
         Ok(self.with_rs1(set(run)?))
     }
 
     /// A fence's set of successors, in the place of `rs2`.
     pub fn successors_slot(self, run: &TokenRange<'_>) -> Reading<Draft>
-        ensures { reading_view draft_view result ≡ successors_slot run.now (draft_view self) }
+        ensures { result ≡ successors_slot run.now self }
     {
         Ok(self.with_rs2(set(run)?))
     }

@@ -1,15 +1,16 @@
-//! Cuts the tokens behind a name into runs at commas.
+//! Cuts the tokens after a name into runs at commas.
 
 ghost use Rattle.std.specs.Prelude.{◌≡◌, ◌+◌, ◌-◌, ◌&&◌, ◌==◌, codes, ◌<◌, ◌≤◌, ◌^◌, [], ◌∷◌, length, map, IfOk};
 ghost use Rattle.rv_text.specs.declared.lexeme.Span.{Span};
 ghost use Rattle.rv_stmt.specs.FirstRun.{run_length, run_end, runs_behind};
+ghost use Rattle.rv_stmt.specs.Operands.{reported_at, operand_of_run};
 ghost use Rattle.rv_stmt.specs.Runs.{runs_from, runs_of};
 ghost use Rattle.rv_stmt.specs.Tokens.{is_sign};
-ghost use Rattle.rv_stmt.specs.Views.{lexeme_view, run_view};
 
+use crate::reading::Reading;
 use crate::token_range::{Lexeme, TokenRange};
-use rv_expr::depth_behind;
-use rv_text::Span;
+use rv_expr::depth_after;
+use rv_text::{Fault, FaultNumber, Span};
 use std::alloc::{AllocError, Global};
 
 /// The tokens between two commas, with the span from the first to the last. The span of no tokens is empty, at the
@@ -20,9 +21,28 @@ pub struct Run<'a> {
     pub span: Span,
 }
 
+// What some tokens are read as, with a fault reported at their span.
+fn reported_at<T>(span: Span, reading: Reading<T>) -> Result<T, Fault>
+    ensures { result ≡ reported_at span reading }
+{
+    reading.map_err(|number| Fault { number, span })
+}
+
+impl Run<'_> {
+    /// What the run is read as. More than 64 open parentheses at one place are a fault whatever else the run is.
+    pub fn operand<T: Drop>(&self, reading: Reading<T>) -> Result<T, Fault>
+        ensures { result ≡ operand_of_run self.now reading }
+    {
+        if self.tokens.is_deep() {
+            return reported_at(self.span, Err(FaultNumber::TooDeep));
+        }
+        reported_at(self.span, reading)
+    }
+}
+
 // Whether a token is a comma outside parentheses.
 fn ends_run(depth: usize, token: &Lexeme<'_>) -> bool
-    ensures { result ≡ (is_sign (codes ",") (lexeme_view token.now) && depth == 0) }
+    ensures { result ≡ (is_sign (codes ",") token.now && depth == 0) }
 {
     token.is_sign(b",") && depth == 0
 }
@@ -37,14 +57,14 @@ fn run_extent(tokens: &TokenRange<'_>, before: u32) -> (usize, u32)
     let mut end = before;
     let mut depth = 0;
     let mut length = 0;
-    while let Some((token, behind)) = rest.split_first() {
+    while let Some((token, after)) = rest.split_first() {
         if ends_run(depth, &token) {
             return (length, end);
         }
-        depth = depth_behind(depth, token.kind, token.text);
+        depth = depth_after(depth, token.kind, token.text);
         end = token.span.to;
         length += 1;
-        rest = behind;
+        rest = after;
     }
     (length, end)
 }
@@ -52,7 +72,7 @@ fn run_extent(tokens: &TokenRange<'_>, before: u32) -> (usize, u32)
 // The run at the front of some tokens, and what follows it, from its comma on.
 #[tactic(auto, using(crate::proofs::RunLemmas::first_run, crate::proofs::RunLemmas::run_length_within))]
 fn next_run<'a>(tokens: &TokenRange<'a>, end: u32) -> (Run<'a>, TokenRange<'a>)
-    ensures runs { runs_from end 0 tokens.now ≡ run_view result.0 ∷ runs_behind result.1 }
+    ensures runs { runs_from end 0 tokens.now ≡ result.0 ∷ runs_behind result.1 }
     ensures shorter { length result.1 ≤ length tokens.now }
 {
     let (length, to) = run_extent(tokens, end);
@@ -74,7 +94,7 @@ pub fn runs<'a>(
     tokens: &TokenRange<'a>,
     before: u32,
 ) -> Result<Vec<Run<'a>>, AllocError>
-    ensures { IfOk result (λ runs. map run_view runs.items ≡ runs_of before tokens.now) }
+    ensures { IfOk result (λ runs. runs.items ≡ runs_of before tokens.now) }
 {
     let mut runs = Vec::new(alloc);
     if tokens.len() == 0 {
@@ -83,12 +103,12 @@ pub fn runs<'a>(
     let mut rest = tokens.skip(0);
     let mut end = before;
     loop {
-        let (run, behind) = next_run(&rest, end);
+        let (run, after) = next_run(&rest, end);
         runs.push(run)?;
-        let Some((comma, behind)) = behind.split_first() else {
+        let Some((comma, after)) = after.split_first() else {
             return Ok(runs);
         };
         end = comma.span.to;
-        rest = behind;
+        rest = after;
     }
 }

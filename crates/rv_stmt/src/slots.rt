@@ -41,8 +41,8 @@ pub enum Slot {
     Constant,
 }
 
-/// Each shape with its operands, in the order in which they are written; the shapes stand in their own order: RISC-V Unprivileged ISA 20191213,
-/// chapters 2, 7, 9, 16 and 25.
+/// The columns: each shape, and its operands in the order in which they are written. The shapes stand in their own order.
+/// RISC-V Unprivileged ISA 20191213, chapters 2, 7, 9, 16 and 25.
 pub const OPERANDS: [(Shape, &[Slot]); 31] = [
     (Shape::Upper, &[Slot::Rd, Slot::Immediate]),
     (Shape::Jump, &[Slot::Rd, Slot::Target]),

@@ -1,33 +1,31 @@
 //! Statements: the labels of a line and its body.
 
-ghost use Rattle.std.specs.Prelude.{◌≡◌, ◌<◌, ◌^◌, Ok, length, map, IfOk};
-ghost use Rattle.std.specs.List.{list_any};
-ghost use Rattle.rv_stmt.specs.Forms.{form_of};
-ghost use Rattle.rv_stmt.specs.Statement.{is_pair, body_of_draft, body_of_form, body_of, statement_of_lexed};
-ghost use Rattle.rv_stmt.specs.Views.{operand_view, draft_view, form_view, run_view, body_view, statement_view};
+ghost use Rattle.std.specs.Prelude.{◌≡◌, ◌<◌, ◌^◌, Ok, length, IfOk};
+ghost use Rattle.rv_stmt.specs.Statement.{body_of_draft, body_of_form, body_of_mnemonic, unless_lexical, body_of_name, body_of, statement_of_lexed, operands_of};
 
 use crate::draft::Draft;
+use crate::expansion::{Expansion, expansion_of};
 use crate::form::{Form, form_of};
 use crate::label::Label;
 use crate::labels::labels;
-use crate::operand::{Operand, Role};
+use crate::operand::Operand;
 use crate::runs::{Run, runs};
-use crate::token_range::TokenRange;
+use crate::token_range::{Lexeme, TokenRange};
 use rv_code::Fields;
 use rv_ops::Op;
-use rv_text::{Fault, FaultNumber, Span, TokenKind, Tokens};
+use rv_text::{Fault, FaultNumber, Sequence, Span, TokenKind, Tokens};
 use std::alloc::{AllocError, Global};
 
-/// An instruction, or those that a name stands for: the operation, its fields, and the operands whose values are still
+/// An instruction, or those that a mnemonic stands for: the operation, its fields, and the operands whose values are still
 /// to come.
 #[derive(Drop)]
 pub struct Instruction {
-    /// The name as it is written.
+    /// The mnemonic as it is written.
     pub name: Span,
     pub op: Op,
-    /// The fields that the name and the operands gave; 0 where a value is still to come.
+    /// The fields that the mnemonic and the operands gave; 0 where a value is still to come.
     pub fields: Fields,
-    pub operands: Vec<Operand>,
+    pub operands: Sequence<Operand>,
 }
 
 /// What follows the labels of a line. Directives are not read yet: their names are unknown.
@@ -37,7 +35,7 @@ pub enum Body {
     Empty,
     /// One instruction, written in its own way.
     Instr(Instruction),
-    /// One or two instructions, by another name, with operands left out, in a further way, or with an address that
+    /// One or two instructions, by another mnemonic, with operands left out, in a further way, or with an address that
     /// takes two.
     Pseudo(Instruction),
     /// What is wrong with the line.
@@ -48,39 +46,37 @@ pub enum Body {
 #[derive(Drop)]
 pub struct Stmt {
     /// The labels, from left to right.
-    pub labels: Vec<Label>,
+    pub labels: Sequence<Label>,
     pub body: Body,
 }
 
-// Whether two words reach the address that one of the operands is.
-fn has_pair(mut operands: &[Operand]) -> bool
-    ensures { result ≡ list_any is_pair (map operand_view operands.entry.now) }
-{
-    while let [operand, rest @ ..] = operands {
-        if operand.role == Role::PairTarget {
-            return true;
+impl Body {
+    /// The operands whose values expressions give, from left to right.
+    pub fn operands(&self) -> &[Operand]
+        ensures { result.now ≡ operands_of self.now }
+    {
+        match self {
+            Body::Empty | Body::Faulty(_) => &[],
+            Body::Instr(instruction) | Body::Pseudo(instruction) => instruction.operands.as_slice(),
         }
-        operands = rest;
     }
-    false
 }
 
 // The body of an instruction whose operands are read.
 fn body_of_draft(form: &Form, name: Span, draft: Draft) -> Body
-    ensures { body_view result ≡ body_of_draft (form_view form.now) name (Ok (draft_view draft)) }
+    ensures { result ≡ body_of_draft form.now name (Ok draft) }
 {
     let Draft { fields, operands } = draft;
-    let has_pair = has_pair(operands.as_slice());
+    let expansion = expansion_of(operands.as_slice());
     let instruction = Instruction {
         name,
         op: form.op,
         fields,
         operands,
     };
-    if form.own && !has_pair {
-        Body::Instr(instruction)
-    } else {
-        Body::Pseudo(instruction)
+    match expansion {
+        Expansion::Itself if form.own => Body::Instr(instruction),
+        _ => Body::Pseudo(instruction),
     }
 }
 
@@ -91,7 +87,7 @@ fn body_of_form(
     name: Span,
     runs: &[Run<'_>],
 ) -> Result<Body, AllocError>
-    ensures { IfOk result (λ b. body_view b ≡ body_of_form name (map run_view runs.now) (Ok (form_view form.now))) }
+    ensures { IfOk result (λ b. b ≡ body_of_form name runs.now (Ok form.now)) }
 {
     let draft = Draft::new(alloc, form.fields);
     match draft.read_operands(alloc, form.op, form.slots, runs)? {
@@ -100,50 +96,75 @@ fn body_of_form(
     }
 }
 
-// The body of a name and its runs.
-fn body_of_name(
-    alloc: Global,
-    name: &[u8],
-    span: Span,
-    runs: &[Run<'_>],
-) -> Result<Body, AllocError>
-    ensures { IfOk result (λ b. body_view b ≡ body_of_form span (map run_view runs.now) (form_of name.now (length runs.now))) }
+// The body of an instruction's mnemonic and its runs.
+fn body_of_mnemonic(alloc: Global, name: &Lexeme<'_>, runs: &[Run<'_>]) -> Result<Body, AllocError>
+    ensures { IfOk result (λ b. b ≡ body_of_mnemonic name.now runs.now) }
 {
-    match form_of(name, runs.len()) {
-        Ok(form) => body_of_form(alloc, &form, span, runs),
-        Err(number) => Ok(Body::Faulty(Fault { number, span })),
+    match form_of(name.text, runs.len()) {
+        Ok(form) => body_of_form(alloc, &form, name.span, runs),
+        Err(number) => Ok(Body::Faulty(Fault {
+            number,
+            span: name.span,
+        })),
     }
 }
 
-// The body that some tokens are.
-#[tactic(auto, using(crate::proofs::StatementLemmas::count_of_runs))]
-fn body_of(alloc: Global, tokens: &TokenRange<'_>) -> Result<Body, AllocError>
-    ensures { IfOk result (λ b. body_view b ≡ body_of tokens.now) }
+// The body of a name and the tokens after it, which a lexical fault may end: the name decides whether that fault counts,
+// and it does after the mnemonics of instructions and after unknown names.
+fn body_of_name(
+    alloc: Global,
+    lexical: Option<Fault>,
+    name: &Lexeme<'_>,
+    after: &TokenRange<'_>,
+) -> Result<Body, AllocError>
+    ensures { IfOk result (λ b. b ≡ body_of_name lexical name.now after.now) }
 {
-    let Some((name, behind)) = tokens.split_first() else {
-        return Ok(Body::Empty);
-    };
-    if name.kind != TokenKind::Word {
-        return Ok(Body::Faulty(Fault {
-            number: FaultNumber::NoStatement,
-            span: name.span,
-        }));
+    if let Some(fault) = lexical {
+        return Ok(Body::Faulty(fault));
     }
-    let runs = runs(alloc, &behind, name.span.to)?;
-    body_of_name(alloc, name.text, name.span, runs.as_slice())
+    let runs = runs(alloc, after, name.span.to)?;
+    body_of_mnemonic(alloc, name, runs.as_slice())
+}
+
+// The lexical fault, if there is one, or else the body.
+fn unless_lexical(lexical: Option<Fault>, body: Body) -> Body
+    ensures { result ≡ unless_lexical lexical body }
+{
+    match lexical {
+        Some(fault) => Body::Faulty(fault),
+        None => body,
+    }
+}
+
+// The body that some tokens are, which a lexical fault may end.
+fn body_of(
+    alloc: Global,
+    lexical: Option<Fault>,
+    tokens: &TokenRange<'_>,
+) -> Result<Body, AllocError>
+    ensures { IfOk result (λ b. b ≡ body_of lexical tokens.now) }
+{
+    let Some((first, after)) = tokens.split_first() else {
+        return Ok(unless_lexical(lexical, Body::Empty));
+    };
+    if first.kind == TokenKind::Word {
+        return body_of_name(alloc, lexical, &first, &after);
+    }
+    let fault = Fault {
+        number: FaultNumber::NoStatement,
+        span: first.span,
+    };
+    Ok(unless_lexical(lexical, Body::Faulty(fault)))
 }
 
 /// The statement of a line's tokens.
-#[tactic(auto, using(crate::proofs::StatementLemmas::all_pieces, crate::proofs::StatementLemmas::count_of_pieces))]
+#[tactic(auto, using(crate::proofs::StatementLemmas::all_pieces, rv_text::specs::TokenLaws::count_of_pieces))]
 pub fn statement(alloc: Global, tokens: &Tokens<'_>) -> Result<Stmt, AllocError>
     requires { length tokens.now.tokens < 2 ^ 31 }
-    ensures { IfOk result (λ s. statement_view s ≡ statement_of_lexed tokens.now) }
+    ensures { IfOk result (λ s. s ≡ statement_of_lexed tokens.now) }
 {
     let line = TokenRange::new(tokens, 0, tokens.tokens().len());
     let (labels, place) = labels(alloc, &line)?;
-    let body = match tokens.fault() {
-        Some(fault) => Body::Faulty(fault),
-        None => body_of(alloc, &line.skip(place))?,
-    };
+    let body = body_of(alloc, tokens.fault(), &line.skip(place))?;
     Ok(Stmt { labels, body })
 }

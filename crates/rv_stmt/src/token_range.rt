@@ -5,10 +5,8 @@ ghost use Rattle.std.specs.List.{slice_get};
 ghost use Rattle.rv_expr.specs.Depth.{depth_of};
 ghost use Rattle.rv_expr.specs.Reading.{run_of, expression_of};
 ghost use Rattle.rv_expr.specs.Refusals.{Refuses};
-ghost use Rattle.rv_expr.specs.Tree.{tree_of};
 ghost use Rattle.rv_stmt.specs.Tokens.{is_sign, sign_at, word_at, one_word};
 ghost use Rattle.rv_stmt.specs.Values.{is_deep};
-ghost use Rattle.rv_stmt.specs.Views.{lexeme_view};
 
 use rv_expr::{Expr, MAX_DEPTH, ReadFault, parenthesis_depth, read};
 use rv_text::{Span, TokenKind, Tokens};
@@ -16,17 +14,25 @@ use std::alloc::Global;
 use std::marker::Model;
 
 /// A token with its text.
-#[derive(Clone, Copy)]
+#[derive(Drop)]
 pub struct Lexeme<'a> {
     pub kind: TokenKind,
     pub text: &'a [u8],
     pub span: Span,
 }
 
+impl<'a> Model for Lexeme<'a> {
+    ghost use Rattle.rv_text.specs.Lexing.{Piece};
+
+    ghost Value = { Piece };
+
+    ghost view = { λ l. record { kind = l.kind; text = l.text.now; span = l.span } };
+}
+
 impl Lexeme<'_> {
     /// Whether it is the sign.
     pub fn is_sign(&self, sign: &[u8]) -> bool
-        ensures { result ≡ is_sign sign.now (lexeme_view self.now) }
+        ensures { result ≡ is_sign sign.now self.now }
     {
         self.kind == TokenKind::Sign && self.text == sign
     }
@@ -71,7 +77,7 @@ impl<'a> TokenRange<'a> {
 
     /// The token at a place, if there is one.
     pub fn token_at(&self, place: usize) -> Option<Lexeme<'a>>
-        ensures { option_map lexeme_view result ≡ slice_get self.now place }
+        ensures { result ≡ slice_get self.now place }
     {
         if place >= self.len() {
             return None;
@@ -137,10 +143,10 @@ impl<'a> TokenRange<'a> {
         TokenRange::new(self.tokens, self.from + place, self.to)
     }
 
-    /// The first token, and those behind it, if there is one.
+    /// The first token, and those after it, if there is one.
     #[tactic(auto, using(crate::proofs::Ranges::first_and_rest, crate::proofs::Ranges::none_first))]
     pub fn split_first(&self) -> Option<(Lexeme<'a>, Self)>
-        ensures some { IfSome result (λ r. self.now ≡ lexeme_view r.0 ∷ r.1) }
+        ensures some { IfSome result (λ r. self.now ≡ r.0 ∷ r.1) }
         ensures none { IfNone result (self.now ≡ []) }
     {
         let token = self.token_at(0)?;
@@ -150,7 +156,7 @@ impl<'a> TokenRange<'a> {
     /// The expression that the tokens are.
     pub fn read(&self, alloc: Global) -> Result<Expr, ReadFault>
         ensures depth { IfOk result (λ e. depth_of self.now ≤ 64) }
-        ensures expression { IfOk result (λ e. expression_of self.now ≡ Some (tree_of e)) }
+        ensures expression { IfOk result (λ e. expression_of self.now ≡ Some e) }
         ensures refused { IfErr result (λ f. Refuses f self.now) }
     {
         read(alloc, self.tokens, self.from, self.to)

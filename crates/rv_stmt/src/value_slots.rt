@@ -5,7 +5,6 @@ ghost use Rattle.rv_ops.specs.Table.{shape_of};
 ghost use Rattle.rv_stmt.specs.declared.operand.Role.TheVariants.{Immediate};
 ghost use Rattle.rv_stmt.specs.Slots.{with_waiting, memory_slot, stack_memory_slot, memory_or_register_slot, memory_or_address_slot, address_through_rd_slot, csr_slot};
 ghost use Rattle.rv_stmt.specs.Values.{plain, immediate};
-ghost use Rattle.rv_stmt.specs.Views.{reading_view, draft_view, run_view};
 
 use crate::draft::Draft;
 use crate::memory::{base_of, memory};
@@ -20,15 +19,14 @@ use std::alloc::Global;
 impl Draft {
     /// An expression for a value in this role.
     pub fn expression_slot(self, alloc: Global, role: Role, run: &Run<'_>) -> Attempt<Draft>
-        ensures { IfOk result (λ r. reading_view draft_view r ≡ with_waiting role run.now.span (draft_view self) (plain run.now.tokens)) }
+        ensures { IfOk result (λ r. r ≡ with_waiting role run.now.span self (plain run.now.tokens)) }
     {
         self.with_waiting(role, run.span, plain(alloc, &run.tokens)?)
     }
 
     /// An immediate, with or without a modifier that the shape takes.
     pub fn immediate_slot(self, alloc: Global, op: Op, run: &Run<'_>) -> Attempt<Draft>
-        ensures { IfOk result (λ r. reading_view draft_view r
-            ≡ with_waiting Immediate run.now.span (draft_view self) (immediate (shape_of op) run.now.tokens)) }
+        ensures { IfOk result (λ r. r ≡ with_waiting Immediate run.now.span self (immediate (shape_of op) run.now.tokens)) }
     {
         let value = immediate(alloc, shape(op), &run.tokens)?;
         self.with_waiting(Role::Immediate, run.span, value)
@@ -36,9 +34,9 @@ impl Draft {
 
     /// `offset(register)`, whose register goes into `rs1`.
     pub fn memory_slot(self, alloc: Global, op: Op, run: &Run<'_>) -> Attempt<Draft>
-        ensures { IfOk result (λ r. reading_view draft_view r ≡ memory_slot op (run_view run.now) (draft_view self)) }
+        ensures { IfOk result (λ r. r ≡ memory_slot op run.now self) }
     {
-        let accepted = Accepted::Class(classes(op).1);
+        let accepted = Accepted::Class(classes(op).rs1);
         match memory(alloc, shape(op), accepted, &run.tokens)? {
             Ok(located) => self
                 .with_rs1(located.base)
@@ -49,7 +47,7 @@ impl Draft {
 
     /// `offset(sp)`.
     pub fn stack_memory_slot(self, alloc: Global, op: Op, run: &Run<'_>) -> Attempt<Draft>
-        ensures { IfOk result (λ r. reading_view draft_view r ≡ stack_memory_slot op (run_view run.now) (draft_view self)) }
+        ensures { IfOk result (λ r. r ≡ stack_memory_slot op run.now self) }
     {
         match memory(alloc, shape(op), Accepted::StackPointer, &run.tokens)? {
             Ok(located) => self.with_offset(run.span, located.offset),
@@ -59,8 +57,7 @@ impl Draft {
 
     /// `offset(register)`, or a register alone.
     pub fn memory_or_register_slot(self, alloc: Global, op: Op, run: &Run<'_>) -> Attempt<Draft>
-        ensures { IfOk result (λ r. reading_view draft_view r
-            ≡ memory_or_register_slot op (run_view run.now) (draft_view self)) }
+        ensures { IfOk result (λ r. r ≡ memory_or_register_slot op run.now self) }
     {
         match register_in(&run.tokens) {
             Some(register) => Ok(Ok(self.with_rs1(register))),
@@ -70,7 +67,7 @@ impl Draft {
 
     /// An address that two words reach through `rd`.
     pub fn address_through_rd_slot(self, alloc: Global, run: &Run<'_>) -> Attempt<Draft>
-        ensures { IfOk result (λ r. reading_view draft_view r ≡ address_through_rd_slot (run_view run.now) (draft_view self)) }
+        ensures { IfOk result (λ r. r ≡ address_through_rd_slot run.now self) }
     {
         self.with_rd_as_rs1()
             .expression_slot(alloc, Role::PairTarget, run)
@@ -78,7 +75,7 @@ impl Draft {
 
     /// `offset(register)`, or an address that two words reach through `rd`.
     pub fn memory_or_address_slot(self, alloc: Global, op: Op, run: &Run<'_>) -> Attempt<Draft>
-        ensures { IfOk result (λ r. reading_view draft_view r ≡ memory_or_address_slot op (run_view run.now) (draft_view self)) }
+        ensures { IfOk result (λ r. r ≡ memory_or_address_slot op run.now self) }
     {
         if run.tokens.sign_at(b"%", 0) || base_of(&run.tokens).is_some() {
             self.memory_slot(alloc, op, run)
@@ -89,8 +86,7 @@ impl Draft {
 
     /// The name of a control and status register, or an expression for its number.
     pub fn csr_slot(self, alloc: Global, run: &Run<'_>) -> Attempt<Draft>
-        ensures { IfOk result (λ r. reading_view draft_view r
-            ≡ csr_slot (run_view run.now) (draft_view self)) }
+        ensures { IfOk result (λ r. r ≡ csr_slot run.now self) }
     {
         match csr_in(&run.tokens) {
             Some(csr) => Ok(Ok(self.with_value(i32::from(csr.number())))),

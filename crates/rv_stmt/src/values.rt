@@ -1,10 +1,8 @@
 //! The values of operands: expressions, with or without a modifier.
 
 ghost use Rattle.std.specs.Prelude.{◌≡◌, IfOk, option_and_then};
-ghost use Rattle.rv_expr.specs.Tree.{tree_of};
 ghost use Rattle.rv_stmt.specs.Tokens.{word_at};
 ghost use Rattle.rv_stmt.specs.Values.{expression, plain, modifier_named, modifier_of_shape, label_reference, value_of_modifier, modified_value, immediate};
-ghost use Rattle.rv_stmt.specs.Views.{reading_view, value_view};
 
 use crate::modifiers::{Modifier, modifier_named, takes_modifier};
 use crate::operand::OperandValue;
@@ -17,7 +15,7 @@ use std::alloc::{AllocError, Global};
 
 // The expression that some tokens are.
 fn expression(alloc: Global, run: &TokenRange<'_>) -> Attempt<Expr>
-    ensures { IfOk result (λ r. reading_view tree_of r ≡ expression run.now) }
+    ensures { IfOk result (λ r. r ≡ expression run.now) }
 {
     match run.read(alloc) {
         Ok(expr) => Ok(Ok(expr)),
@@ -29,12 +27,12 @@ fn expression(alloc: Global, run: &TokenRange<'_>) -> Attempt<Expr>
 
 /// The value that some tokens are, without a modifier.
 pub fn plain(alloc: Global, run: &TokenRange<'_>) -> Attempt<OperandValue>
-    ensures { IfOk result (λ r. reading_view value_view r ≡ plain run.now) }
+    ensures { IfOk result (λ r. r ≡ plain run.now) }
 {
     Ok(expression(alloc, run)?.map(OperandValue::Plain))
 }
 
-// The modifier whose name stands behind a `%`, if the shape takes it.
+// The modifier whose name stands after a `%`, if the shape takes it.
 fn modifier_of(shape: Shape, run: &TokenRange<'_>) -> Option<Modifier>
     ensures { result ≡ modifier_of_shape shape (option_and_then modifier_named (word_at run.now 1)) }
 {
@@ -64,7 +62,7 @@ fn value_of_modifier(
     modifier: Modifier,
     run: &TokenRange<'_>,
 ) -> Attempt<OperandValue>
-    ensures { IfOk result (λ r. reading_view value_view r ≡ value_of_modifier modifier run.now) }
+    ensures { IfOk result (λ r. r ≡ value_of_modifier modifier run.now) }
 {
     Ok(match modifier {
         Modifier::High => expression(alloc, run)?.map(OperandValue::High),
@@ -76,7 +74,7 @@ fn value_of_modifier(
 
 /// The value `%name(..)`, with a modifier that the shape takes.
 pub fn modified_value(alloc: Global, shape: Shape, run: &TokenRange<'_>) -> Attempt<OperandValue>
-    ensures { IfOk result (λ r. reading_view value_view r ≡ modified_value shape run.now) }
+    ensures { IfOk result (λ r. r ≡ modified_value shape run.now) }
 {
     let length = run.len();
     if !(length >= 4 && run.sign_at(b"(", 2) && run.sign_at(b")", length - 1)) {
@@ -90,7 +88,7 @@ pub fn modified_value(alloc: Global, shape: Shape, run: &TokenRange<'_>) -> Atte
 
 /// The value of an immediate: an expression, or one with a modifier that the shape takes.
 pub fn immediate(alloc: Global, shape: Shape, run: &TokenRange<'_>) -> Attempt<OperandValue>
-    ensures { IfOk result (λ r. reading_view value_view r ≡ immediate shape run.now) }
+    ensures { IfOk result (λ r. r ≡ immediate shape run.now) }
 {
     if run.sign_at(b"%", 0) {
         modified_value(alloc, shape, run)

@@ -39,7 +39,7 @@ too_small : bytes_of_line (codes "addi a0, a0, -2049") ≡ 0 ∷ 0 ∷ 0 ∷ 0 �
 unfolding word_of_line operation_named operation_names register_named register_names row_of
 too_small = refl
 
--- lines without bytes: nothing, other names, wrong operands, a lexical fault behind the last operand
+-- lines without bytes: nothing, other names, wrong operands, a lexical fault after the last operand
 empty : bytes_of_line [] ≡ []
 unfolding word_of_line
 empty = refl

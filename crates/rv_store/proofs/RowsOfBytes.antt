@@ -3,8 +3,9 @@ use Rattle.std.proofs.Common.{◌≡◌, ℕ, zero, suc, ◌+◌, ◌-◌, ◌*�
 use Rattle.std.proofs.lemmas.List.{take_all, drop_all, append-nil, drop-drop}
 use Rattle.std.proofs.Math.Seq.{take-append_seam, drop-append_seam}
 use Rattle.std.specs.Prelude.{Option}
-use Rattle.rv_text.specs.Streams.{behind, WritesFront}
-use Rattle.rv_text.proofs.StreamLemmas.{behind_behind, front_within}
+use Rattle.rv_text.specs.Streams.{WritesFront}
+use Rattle.rv_text.specs.Blocks.{Waits}
+use Rattle.rv_text.specs.BlockLaws.{waits_then, waits_lost, lost_first}
 use Rattle.rv_store.specs.Image.{byte_row, first_rows, row_count, byte_rows}
 
 -- what is left was all that there was
@@ -26,7 +27,7 @@ taken_full row left all whole full =
 pub next_row_is : (start k : ℕ) (bytes row : List ℕ) → row ≡ take 16 (drop (16 * k) bytes) → first_rows start bytes (k + 1) ≡ first_rows start bytes k ++ byte_row (start + 16 * k) row
 next_row_is start k bytes row e = rw (e, add-one) refl
 
--- there are more rows behind the first ones
+-- there are more rows after the first ones
 pub record RowsThen (start : ℕ) (bytes : List ℕ) (k n : ℕ) : Type 0 where
   pub later : List ℕ
   pub whole : first_rows start bytes n ≡ first_rows start bytes k ++ later
@@ -41,15 +42,17 @@ rows_then start bytes k (suc more) =
       whole = rw e (rw before.whole (append_assoc (first_rows start bytes k) before.later _));
     }
 
--- a front of the row that comes next is one of all rows
-pub front_of_rows : (start : ℕ) (bytes row : List ℕ) (k : ℕ) (old taken new : Option (List ℕ)) → k < row_count (length bytes) → row ≡ take 16 (drop (16 * k) bytes) → taken ≡ behind old (first_rows start bytes k) → WritesFront taken (byte_row (start + 16 * k) row) new → WritesFront old (byte_rows start bytes) new
+-- a write fails within the row that comes next
+pub front_of_rows : (start : ℕ) (bytes row : List ℕ) (k : ℕ) (t0 t1 t2 : Option (List ℕ)) (p0 p1 : List ℕ) → k < row_count (length bytes) → row ≡ take 16 (drop (16 * k) bytes) → Waits t0 p0 (first_rows start bytes k) t1 p1 → WritesFront t1 (p1 ++ byte_row (start + 16 * k) row) t2 → WritesFront t0 (p0 ++ byte_rows start bytes) t2
 unfolding byte_rows
-front_of_rows start bytes row k old taken new within e t w =
+front_of_rows start bytes row k t0 t1 t2 p0 p1 within e a w =
     let more = row_count (length bytes) - (k + 1) in
     let then_ = rows_then start bytes (k + 1) more in
     let count : k + 1 + more ≡ row_count (length bytes) = omega arith in
-    let whole = rw count at then_.whole in
-    front_within old taken new (first_rows start bytes k) (byte_row (start + 16 * k) row) then_.later _ (whole ∙ ap (λ l. l ++ then_.later) (next_row_is start k bytes row e)) t w
+    let next = byte_row (start + 16 * k) row in
+    let whole : first_rows start bytes (row_count (length bytes)) ≡ first_rows start bytes k ++ (next ++ then_.later) =
+    (rw count at then_.whole) ∙ ap (λ l. l ++ then_.later) (next_row_is start k bytes row e) ∙ append_assoc (first_rows start bytes k) next then_.later in
+    rw whole (waits_lost t0 t1 t2 p0 p1 (first_rows start bytes k) (next ++ then_.later) a (lost_first t1 t2 p1 next then_.later w))
 
 -- sixteen bytes further on
 pub rest_of_rows : (k : ℕ) (bytes left rest : List ℕ) → left ≡ drop (16 * k) bytes → rest ≡ drop 16 left → rest ≡ drop (16 * (k + 1)) bytes
@@ -57,14 +60,12 @@ rest_of_rows k bytes left rest e r =
     let place : 16 * k + 16 ≡ 16 * (k + 1) = omega arith in
     r ∙ ap (drop 16) e ∙ drop-drop 16 (16 * k) bytes ∙ ap (λ n. drop n bytes) place
 
--- the next row was taken
-pub rows_taken : (start : ℕ) (bytes row : List ℕ) (k : ℕ) (old taken new : Option (List ℕ)) → row ≡ take 16 (drop (16 * k) bytes) → taken ≡ behind old (first_rows start bytes k) → new ≡ behind taken (byte_row (start + 16 * k) row) → new ≡ behind old (first_rows start bytes (k + 1))
-rows_taken start bytes row k old taken new e t w =
-    w ∙ ap (λ o. behind o (byte_row (start + 16 * k) row)) t
-    ∙ behind_behind old (first_rows start bytes k) (byte_row (start + 16 * k) row)
-    ∙ ap (behind old) (sym (next_row_is start k bytes row e))
+-- the next row is gathered
+pub rows_gathered : (start : ℕ) (bytes row : List ℕ) (k : ℕ) (t0 t1 t2 : Option (List ℕ)) (p0 p1 p2 : List ℕ) → row ≡ take 16 (drop (16 * k) bytes) → Waits t0 p0 (first_rows start bytes k) t1 p1 → Waits t1 p1 (byte_row (start + 16 * k) row) t2 p2 → Waits t0 p0 (first_rows start bytes (k + 1)) t2 p2
+rows_gathered start bytes row k t0 t1 t2 p0 p1 p2 e a b =
+    rw (next_row_is start k bytes row e) (waits_then t0 t1 t2 p0 p1 p2 (first_rows start bytes k) (byte_row (start + 16 * k) row) a b)
 
--- all rows were taken
-pub all_rows : (start : ℕ) (bytes : List ℕ) (k : ℕ) (old new : Option (List ℕ)) → k ≡ row_count (length bytes) → new ≡ behind old (first_rows start bytes k) → new ≡ behind old (byte_rows start bytes)
+-- all rows are gathered
+pub all_rows : (start : ℕ) (bytes : List ℕ) (k : ℕ) (t0 t1 : Option (List ℕ)) (p0 p1 : List ℕ) → k ≡ row_count (length bytes) → Waits t0 p0 (first_rows start bytes k) t1 p1 → Waits t0 p0 (byte_rows start bytes) t1 p1
 unfolding byte_rows
-all_rows start bytes k old new e t = t ∙ ap (λ n. behind old (first_rows start bytes n)) e
+all_rows start bytes k t0 t1 p0 p1 e a = rw e at a

@@ -1,4 +1,4 @@
--- The text of an image: for each section a row with its name, its base and its size, and behind it the rows of its
+-- The text of an image: for each section a row with its name, its base and its size, and after it the rows of its
 -- bytes, sixteen to a row.
 use Rattle.std.specs.Prelude.{ℕ, zero, suc, ◌+◌, ◌/◌, ◌*◌, List, [], ◌++◌, length, take, drop, codes, decimal}
 use Rattle.std.specs.List.{flat_map}
@@ -10,7 +10,7 @@ use Rattle.rv_store.specs.LineBytes.{bytes_of_line}
 abbrev pub byte_text : ℕ → List ℕ
 byte_text byte = codes " " ++ hex 2 byte
 
--- a row of bytes, behind the address of the first
+-- a row of bytes, after the address of the first
 unfoldable pub byte_row : ℕ → List ℕ → List ℕ
 byte_row address bytes = hex 8 address ++ (codes ":" ++ (flat_map byte_text bytes ++ codes "\n"))
 
@@ -41,7 +41,7 @@ next_base place = (place + 4095) / 4096 * 4096
 unfoldable pub text_section : ℕ → List ℕ → List ℕ
 text_section base bytes = section_row (codes ".text") base (length bytes) ++ byte_rows base bytes
 
--- the sections behind `.text`
+-- the sections after `.text`
 unfoldable pub empty_sections : ℕ → List ℕ
 empty_sections base =
     section_row (codes ".rodata") base 0 ++ (section_row (codes ".data") base 0 ++ section_row (codes ".bss") base 0)

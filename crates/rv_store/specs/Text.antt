@@ -1,5 +1,5 @@
 -- A text as a list of lines, what an edit makes of it, and when an edit is refused. The limits are the project's own.
-use Rattle.std.specs.Prelude.{◌≡◌, ℕ, ◌+◌, ◌-◌, ◌%◌, Bool, ◌&&◌, ◌||◌, ◌==◌, nat_lt, nat_le, List, length, insert, remove, Option, Some, None, Result, Ok, Err, unwrap_or, if◌then◌else◌}
+use Rattle.std.specs.Prelude.{◌≡◌, ℕ, ◌+◌, ◌-◌, ◌%◌, Bool, not, ◌&&◌, ◌||◌, ◌==◌, nat_lt, nat_le, List, length, insert, remove, Option, Some, None, Result, Ok, Err, unwrap_or, if◌then◌else◌}
 use Rattle.std.specs.List.{list_any}
 use Rattle.rv_store.specs.declared.edit_error.EditError.{EditError}
 use Rattle.rv_store.specs.declared.edit_error.EditError.TheVariants.{Base, Place, Line, TooMany, Memory}
@@ -18,15 +18,15 @@ pub data Edit : Type 0 where
   Insert : (place : ℕ) (line : List ℕ) → Edit
   Delete : (place : ℕ) → Edit
 
--- a line break stands in the line, or it is longer than 1,000 bytes
-abbrev pub is_no_line : List ℕ → Bool
-is_no_line line = list_any (λ b. b == 10) line || nat_lt 1000 (length line)
+-- a line has at most 1,000 bytes, and none of them is a line break
+abbrev pub is_line : List ℕ → Bool
+is_line bytes = not (list_any (λ b. b == 10) bytes) && nat_le (length bytes) 1000
 
 -- why an edit is refused, whatever the memory: its place, then its line, then that the text is full
 abbrev pub refusal_of : List (List ℕ) → Edit → Option EditError
 refusal_of lines (Insert place line) =
     if place == 0 || nat_lt (length lines + 1) place then Some Place
-    else (if is_no_line line then Some Line
+    else (if not (is_line line) then Some Line
     else (if nat_le 16384 (length lines) then Some TooMany else None))
 refusal_of lines (Delete place) = if place == 0 || nat_lt (length lines) place then Some Place else None
 

@@ -17,10 +17,10 @@ pub enum EditError {
     /// No line of this number can be put in, or is there to be taken out.
     #[error("there is no such line")]
     Place,
-    /// What has to be put in is not one line, or too long a one.
+    /// What has to be put in holds a line break, or is longer than `MAX_LINE_LENGTH`.
     #[error("the line holds a line break or is longer than 1000 bytes")]
     Line,
-    /// A line has to be put in, and the text is full.
+    /// A line has to be put in, and the text has `MAX_LINES` already.
     #[error("the text has 16384 lines already")]
     TooMany,
     /// There was no memory for what the store had to keep.

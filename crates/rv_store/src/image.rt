@@ -2,15 +2,17 @@
 
 ghost use Rattle.std.specs.Prelude.{◌≡◌, ◌-◌, ◌+◌, ◌^◌, ◌<◌, ◌≤◌, length};
 ghost use Rattle.std.specs.List.{flat_map};
+ghost use Rattle.rv_text.specs.Blocks.{Gathers};
 ghost use Rattle.rv_text.specs.Streams.{failures_after, Writes};
 ghost use Rattle.rv_store.specs.LineBytes.{bytes_of_code};
+ghost use Rattle.rv_store.specs.declared.limits.TheConstants.{MAX_LINES};
 ghost use Rattle.rv_store.specs.Image.{byte_row, byte_rows, section_row, text_section, empty_sections, image_of, image_text};
 
 use crate::store::Store;
 use crate::word_bytes::WordBytes;
 use crate::words::total_size;
 use rv_code::Word;
-use rv_text::{Failed, Row, Sink};
+use rv_text::{Failed, OutputBlock, Row, Sink};
 use thiserror::Error;
 
 /// Why a text was not written as a whole.
@@ -38,11 +40,16 @@ impl From<Failed> for ListError {
     }
 }
 
-// Writes a row of up to sixteen bytes.
-fn write_byte_row<W: Sink>(sink: &mut W, address: u32, bytes: &[u8]) -> Result<(), Failed>
+// Adds a row of up to sixteen bytes.
+fn push_byte_row<W: Sink>(
+    block: &mut OutputBlock,
+    sink: &mut W,
+    address: u32,
+    bytes: &[u8],
+) -> Result<(), Failed>
     requires bytes { length bytes.now ≤ 16 }
     requires failures { W.failures sink.old < 2 ^ 64 - 1 }
-    ensures text { Writes (W.taken sink.old) (byte_row address bytes.now) result (W.taken sink.new) }
+    ensures text { Gathers (W.taken sink.old) block.old (byte_row address bytes.now) result (W.taken sink.new) block.new }
     ensures count { W.failures sink.new ≡ failures_after (W.failures sink.old) result }
 {
     let mut row = Row::new();
@@ -53,11 +60,12 @@ fn write_byte_row<W: Sink>(sink: &mut W, address: u32, bytes: &[u8]) -> Result<(
         row.push_hex(2, u32::from(*byte));
     }
     row.push_text(b"\n");
-    row.write_to(sink)
+    block.push(sink, row.bytes())
 }
 
-// Writes the rows of the words' bytes, from the address `start` on.
-fn write_byte_rows<W: Sink>(
+// Adds the rows of the words' bytes, from the address `start` on.
+fn push_byte_rows<W: Sink>(
+    block: &mut OutputBlock,
     sink: &mut W,
     start: u32,
     size: u32,
@@ -66,23 +74,29 @@ fn write_byte_rows<W: Sink>(
     requires size { size ≡ length (flat_map bytes_of_code words.now) }
     requires place { start + size ≤ 2 ^ 31 + 2 ^ 30 }
     requires failures { W.failures sink.old < 2 ^ 64 - 1 }
-    ensures text { Writes (W.taken sink.old) (byte_rows start (flat_map bytes_of_code words.now)) result (W.taken sink.new) }
+    ensures text { Gathers (W.taken sink.old) block.old (byte_rows start (flat_map bytes_of_code words.now)) result (W.taken sink.new) block.new }
     ensures count { W.failures sink.new ≡ failures_after (W.failures sink.old) result }
 {
     let mut bytes = WordBytes::new(words);
     for k in 0..size.div_ceil(16) {
         let row = bytes.next_row();
-        write_byte_row(sink, start + 16 * k, row.as_slice())?;
+        push_byte_row(block, sink, start + 16 * k, row.as_slice())?;
     }
     Ok(())
 }
 
-// Writes the row of a section.
+// Adds the row of a section.
 #[tactic(auto, unfolding(crate::specs::Image::section_row))]
-fn write_section_row<W: Sink>(sink: &mut W, name: &[u8], base: u32, size: u32) -> Result<(), Failed>
+fn push_section_row<W: Sink>(
+    block: &mut OutputBlock,
+    sink: &mut W,
+    name: &[u8],
+    base: u32,
+    size: u32,
+) -> Result<(), Failed>
     requires name { length name.now ≤ 10 }
     requires failures { W.failures sink.old < 2 ^ 64 - 1 }
-    ensures text { Writes (W.taken sink.old) (section_row name.now base size) result (W.taken sink.new) }
+    ensures text { Gathers (W.taken sink.old) block.old (section_row name.now base size) result (W.taken sink.new) block.new }
     ensures count { W.failures sink.new ≡ failures_after (W.failures sink.old) result }
 {
     let mut row = Row::new();
@@ -92,11 +106,12 @@ fn write_section_row<W: Sink>(sink: &mut W, name: &[u8], base: u32, size: u32) -
     row.push_text(b" ");
     row.push_decimal(size);
     row.push_text(b"\n");
-    row.write_to(sink)
+    block.push(sink, row.bytes())
 }
 
-// Writes `.text`: its row and the rows of its bytes.
-fn write_text_section<W: Sink>(
+// Adds `.text`: its row and the rows of its bytes.
+fn push_text_section<W: Sink>(
+    block: &mut OutputBlock,
     sink: &mut W,
     base: u32,
     size: u32,
@@ -105,38 +120,44 @@ fn write_text_section<W: Sink>(
     requires size { size ≡ length (flat_map bytes_of_code words.now) }
     requires place { base + size ≤ 2 ^ 31 + 2 ^ 30 }
     requires failures { W.failures sink.old < 2 ^ 64 - 1 }
-    ensures text { Writes (W.taken sink.old) (text_section base (flat_map bytes_of_code words.now)) result (W.taken sink.new) }
+    ensures text { Gathers (W.taken sink.old) block.old (text_section base (flat_map bytes_of_code words.now)) result (W.taken sink.new) block.new }
     ensures count { W.failures sink.new ≡ failures_after (W.failures sink.old) result }
 {
-    write_section_row(sink, b".text", base, size)?;
-    write_byte_rows(sink, base, size, words)?;
-    Ok(())
+    push_section_row(block, sink, b".text", base, size)?;
+    push_byte_rows(block, sink, base, size, words)
 }
 
-// Writes the sections behind `.text`, which are empty.
-fn write_empty_sections<W: Sink>(sink: &mut W, base: u32) -> Result<(), Failed>
+// Adds the sections after `.text`, which are empty.
+fn push_empty_sections<W: Sink>(
+    block: &mut OutputBlock,
+    sink: &mut W,
+    base: u32,
+) -> Result<(), Failed>
     requires { W.failures sink.old < 2 ^ 64 - 1 }
-    ensures text { Writes (W.taken sink.old) (empty_sections base) result (W.taken sink.new) }
+    ensures text { Gathers (W.taken sink.old) block.old (empty_sections base) result (W.taken sink.new) block.new }
     ensures count { W.failures sink.new ≡ failures_after (W.failures sink.old) result }
 {
-    write_section_row(sink, b".rodata", base, 0)?;
-    write_section_row(sink, b".data", base, 0)?;
-    write_section_row(sink, b".bss", base, 0)?;
-    Ok(())
+    push_section_row(block, sink, b".rodata", base, 0)?;
+    push_section_row(block, sink, b".data", base, 0)?;
+    push_section_row(block, sink, b".bss", base, 0)
 }
 
-// Writes the image of the words' bytes.
-fn write_sections<W: Sink>(sink: &mut W, base: u32, words: &[Option<Word>]) -> Result<(), Failed>
+// Adds the image of the words' bytes.
+fn push_sections<W: Sink>(
+    block: &mut OutputBlock,
+    sink: &mut W,
+    base: u32,
+    words: &[Option<Word>],
+) -> Result<(), Failed>
     requires base { base ≤ 2 ^ 31 }
-    requires words { length words.now ≤ 16384 }
+    requires words { length words.now ≤ MAX_LINES }
     requires failures { W.failures sink.old < 2 ^ 64 - 1 }
-    ensures text { Writes (W.taken sink.old) (image_of base (flat_map bytes_of_code words.now)) result (W.taken sink.new) }
+    ensures text { Gathers (W.taken sink.old) block.old (image_of base (flat_map bytes_of_code words.now)) result (W.taken sink.new) block.new }
     ensures count { W.failures sink.new ≡ failures_after (W.failures sink.old) result }
 {
     let size = total_size(words);
-    write_text_section(sink, base, size, words)?;
-    write_empty_sections(sink, (base + size + 4095) / 4096 * 4096)?;
-    Ok(())
+    push_text_section(block, sink, base, size, words)?;
+    push_empty_sections(block, sink, (base + size + 4095) / 4096 * 4096)
 }
 
 /// Writes the image of the text, up to the first failure of the writer. Takes no memory.
@@ -145,6 +166,8 @@ pub fn write_image<W: Sink>(store: &Store, sink: &mut W) -> Result<(), ListError
     ensures text { Writes (W.taken sink.old) (image_text store.now) result (W.taken sink.new) }
     ensures count { W.failures sink.new ≡ failures_after (W.failures sink.old) result }
 {
-    write_sections(sink, store.base(), store.words())?;
+    let mut block = OutputBlock::new();
+    push_sections(&mut block, sink, store.base(), store.words())?;
+    block.flush(sink)?;
     Ok(())
 }

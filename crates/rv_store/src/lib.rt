@@ -5,10 +5,9 @@ mod base;
 mod changed;
 mod edit_error;
 mod image;
+mod limits;
 mod line_code;
 mod store;
-#[cfg(test)]
-mod tests;
 mod word_bytes;
 mod words;
 
@@ -16,4 +15,6 @@ pub use base::base_ok;
 pub use changed::{Changed, LineNumbers};
 pub use edit_error::EditError;
 pub use image::{ListError, write_image};
-pub use store::{MAX_LINE_LENGTH, MAX_LINES, Store};
+pub use limits::MAX_LINES;
+pub use rv_text::MAX_LINE_LENGTH;
+pub use store::Store;

@@ -2,6 +2,7 @@
 
 ghost use Rattle.std.specs.Prelude.{◌≡◌, ◌≤◌, ◌<◌, ◌+◌, ◌^◌, length, IfOk};
 ghost use Rattle.rv_ops.specs.Table.{shape_of};
+ghost use Rattle.rv_text.specs.declared.lexeme.TheConstants.{MAX_LINE_LENGTH};
 ghost use Rattle.rv_store.specs.LineBytes.{texts, token_text, literal_of, word_by_last, has_commas, multiplies, word_spelled, word_of_line};
 
 use rv_code::{Ins, Word, encode};
@@ -95,7 +96,7 @@ pub fn word_of_line<C: Count>(
     line: &[u8],
     counter: &mut C,
 ) -> Result<Option<Word>, TextError>
-    requires length { length line.now ≤ 1000 }
+    requires length { length line.now ≤ MAX_LINE_LENGTH }
     requires parsed { C.parsed_count counter.old ≤ 2 ^ 63 }
     requires encoded { C.encoded_count counter.old ≤ 2 ^ 63 }
     ensures word { IfOk result (λ word. word ≡ word_of_line line.now) }

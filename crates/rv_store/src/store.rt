@@ -1,25 +1,20 @@
 //! The store.
 
-ghost use Rattle.std.specs.Prelude.{◌≡◌, ◌+◌, ◌-◌, ◌^◌, ◌<◌, ◌≤◌, ◌==◌, [], length, map, None, if◌then◌else◌, IfOk, IfErr, slice_get, true, false};
+ghost use Rattle.std.specs.Prelude.{◌≡◌, ◌+◌, ◌-◌, ◌^◌, ◌<◌, ◌≤◌, ◌==◌, [], length, map, None, if◌then◌else◌, IfOk, IfErr, IfSome, slice_get, true, false};
 ghost use Rattle.std.specs.Option.{option_map};
 ghost use Rattle.rv_store.specs.LineBytes.{word_of_line};
-ghost use Rattle.rv_store.specs.Text.{is_base, Insert, Delete, refusal_of, Edits};
+ghost use Rattle.rv_store.specs.Text.{is_base, is_line, Insert, Delete, refusal_of, Edits};
 
 use crate::base::base_ok;
 use crate::changed::Changed;
 use crate::edit_error::EditError;
+use crate::limits::MAX_LINES;
 use crate::line_code::word_of_line;
 use crate::words::{words_with, words_without};
 use rv_code::Word;
-use rv_text::Count;
+use rv_text::{Count, MAX_LINE_LENGTH};
 use std::alloc::Global;
 use std::marker::Model;
-
-/// How many lines a text has at most.
-pub const MAX_LINES: usize = 16384;
-
-/// How many bytes a line has at most.
-pub const MAX_LINE_LENGTH: usize = 1000;
 
 /// A text, with the word of each line that has one.
 #[derive(Drop)]
@@ -42,6 +37,13 @@ impl Model for Store {
     ghost invariant = { λ s. IsStored s.base (map (λ v. v.items) s.lines.items) s.words.items };
 }
 
+// Whether these bytes can be a line.
+fn is_line(bytes: &[u8]) -> bool
+    ensures { result ≡ is_line bytes.now }
+{
+    !bytes.contains(&b'\n') && bytes.len() <= MAX_LINE_LENGTH
+}
+
 // Why a line is not put in, if it isn't.
 fn insert_refused(lines: &[Vec<u8>], k: u32, line: &[u8]) -> Option<EditError>
     ensures { result ≡ refusal_of (map (λ l. l.items) lines.now) (Insert k line.now) }
@@ -49,7 +51,7 @@ fn insert_refused(lines: &[Vec<u8>], k: u32, line: &[u8]) -> Option<EditError>
     if k == 0 || k as usize > lines.len() + 1 {
         return Some(EditError::Place);
     }
-    if line.contains(&b'\n') || line.len() > MAX_LINE_LENGTH {
+    if !is_line(line) {
         return Some(EditError::Line);
     }
     if lines.len() >= MAX_LINES {
@@ -97,7 +99,7 @@ impl Store {
     /// The word of each line that has one.
     pub(crate) fn words(&self) -> &[Option<Word>]
         ensures words { result.now ≡ map word_of_line self.now.lines }
-        ensures few { length result.now ≤ 16384 }
+        ensures few { length result.now ≤ MAX_LINES }
     {
         self.words.as_slice()
     }
@@ -105,14 +107,15 @@ impl Store {
     /// How many lines there are.
     pub fn len(&self) -> usize
         ensures value { result ≡ length self.now.lines }
-        ensures few { result ≤ 16384 }
+        ensures few { result ≤ MAX_LINES }
     {
         self.lines.len()
     }
 
-    /// Line number `k`, from 1 on, if there is one.
+    /// Line number `k`, from 1 on, if there is one: at most `MAX_LINE_LENGTH` bytes, none of them 0x0A.
     pub fn line(&self, k: u32) -> Option<&[u8]>
-        ensures { option_map (λ l. l.now) result ≡ (if k == 0 then None else slice_get self.now.lines (k - 1)) }
+        ensures value { option_map (λ l. l.now) result ≡ (if k == 0 then None else slice_get self.now.lines (k - 1)) }
+        ensures line { IfSome result (λ l. is_line l.now ≡ true) }
     {
         let at = (k as usize).checked_sub(1)?;
         let line = self.lines.get(at)?;
@@ -122,7 +125,7 @@ impl Store {
     /// Makes `line` the line number `k`, from 1 to one more than there are; the lines from `k` on move down by one.
     ///
     /// Refused, in this order, with `Place` where there can be no line `k`, `Line` where the line holds 0x0A or is longer
-    /// than `MAX_LINE_LENGTH`, `TooMany` where the text is full, and `Memory`. A refused edit changes nothing.
+    /// than `MAX_LINE_LENGTH`, `TooMany` where there are `MAX_LINES` lines, and `Memory`. A refused edit changes nothing.
     ///
     /// The counter's numbers have to be at most 2^63; none of them falls, and less than 2^32 is added to each.
     #[tactic(auto, using(crate::proofs::Lists::map_insert))]
@@ -153,7 +156,7 @@ impl Store {
         Ok(changed)
     }
 
-    /// Takes out the line number `k`, from 1 on; the lines behind it move up by one.
+    /// Takes out the line number `k`, from 1 on; the lines after it move up by one.
     ///
     /// Refused, in this order, with `Place` where there is no line `k`, and `Memory`. A refused edit changes nothing. The
     /// counter is as for `insert`.

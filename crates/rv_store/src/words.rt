@@ -1,8 +1,9 @@
 //! Lists of words.
 
-ghost use Rattle.std.specs.Prelude.{◌≡◌, ◌≤◌, ◌+◌, length, insert, remove, IfOk};
+ghost use Rattle.std.specs.Prelude.{◌≡◌, ◌≤◌, ◌+◌, ◌*◌, length, insert, remove, IfOk};
 ghost use Rattle.std.specs.List.{flat_map};
 ghost use Rattle.rv_store.specs.LineBytes.{bytes_of_code};
+ghost use Rattle.rv_store.specs.declared.limits.TheConstants.{MAX_LINES};
 
 use rv_code::Word;
 use std::alloc::{AllocError, Global};
@@ -15,7 +16,7 @@ pub fn words_with(
     word: Option<Word>,
 ) -> Result<Vec<Option<Word>>, AllocError>
     requires at { at ≤ length words.now }
-    requires few { length words.now ≤ 16384 }
+    requires few { length words.now ≤ MAX_LINES }
     ensures { IfOk result (λ v. v.items ≡ insert words.now at word) }
 {
     let mut all = Vec::with_capacity(alloc, words.len() + 1)?;
@@ -52,9 +53,9 @@ fn word_size(word: Option<Word>) -> u32
 
 /// How many bytes the words have together.
 pub fn total_size(words: &[Option<Word>]) -> u32
-    requires { length words.now ≤ 16384 }
+    requires { length words.now ≤ MAX_LINES }
     ensures size { result ≡ length (flat_map bytes_of_code words.now) }
-    ensures few { result ≤ 65536 }
+    ensures few { result ≤ 4 * MAX_LINES }
 {
     let mut size = 0;
     for word in words {

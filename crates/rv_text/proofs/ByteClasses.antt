@@ -12,7 +12,7 @@ use Rattle.rv_text.specs.Bytes.{is_word_start, is_sign_byte}
 use Rattle.rv_text.specs.Lexical.{IsOfKind, goes_on}
 use Rattle.rv_text.specs.Numbers.{number_of, after_zero, digits_number, is_local, is_local_number}
 
--- the longest run at the front
+-- the longest prefix of a class
 pub run_longest : (p : ℕ → Bool) (bs : List ℕ) (k : ℕ) → prefix_len p bs < k → k ≤ length bs → list_all p (take k bs) ≡ true → ⊥
 run_longest p bs zero more fits all = absurd (omega arith)
 run_longest p [] (suc k) more fits all = absurd (omega arith)

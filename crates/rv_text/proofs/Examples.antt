@@ -49,7 +49,7 @@ line_slash = refl
 line_shift : tokens_of (codes "<<< >>>=") ≡ right (token Sign 0 2 ∷ token Sign 2 3 ∷ token Sign 4 6 ∷ token Sign 6 7 ∷ token Sign 7 8 ∷ [])
 line_shift = refl
 
--- a tab, a form feed, a carriage return and a space are blanks; a vertical tab is not
+-- a tab, a form feed, a carriage return and a space are whitespace; a vertical tab is not
 line_blanks : tokens_of (9 ∷ 12 ∷ 13 ∷ 32 ∷ codes "a" ++ 11 ∷ 98 ∷ []) ≡ wrong (token Word 4 5 ∷ []) BadByte 5 6
 line_blanks = refl
 

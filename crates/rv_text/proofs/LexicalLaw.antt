@@ -1,11 +1,13 @@
 -- The tokens of a line are lexical.
 use Rattle.std.proofs.Common.{◌≡◌, ℕ, zero, suc, ◌+◌, ◌-◌, ◌≤◌, List, [], ◌∷◌, length, take, drop, Option, ap, ◌∙◌, arith, length-drop}
+use Rattle.std.specs.List.{AllByRecursion}
+use Rattle.std.proofs.lemmas.List.Elements.{All-from_recursion}
 use Rattle.rv_text.specs.declared.faults.Fault.{Fault}
 use Rattle.rv_text.specs.declared.lexeme.Token.{Token}
 use Rattle.rv_text.specs.declared.lexeme.TokenKind.{TokenKind}
 use Rattle.rv_text.specs.declared.lexeme.Front.{Front}
 use Rattle.rv_text.specs.declared.lexeme.Front.TheVariants.{Blank, Comment, Lexeme, Wrong}
-use Rattle.rv_text.specs.Lexing.{Lexed, front, placed, tokens_from, tokens_of}
+use Rattle.rv_text.specs.Lexing.{Lexed, SpansFit, front, placed, tokens_from, tokens_of}
 use Rattle.rv_text.specs.Lexical.{IsOfKind, Reads, ended, comment, blank, token, wrong, Rise}
 use Rattle.rv_text.proofs.Steps.{tokens_from-taken}
 use Rattle.rv_text.proofs.LexicalLemmas.{Stands, front_stands}
@@ -62,3 +64,15 @@ rises_from (wrong at n number b bs plain h) = omega arith
 
 pub rises : (line : List ℕ) → Rise 0 (length line) (tokens_of line).tokens
 rises line = let e : 0 + length line ≡ length line = omega arith in rw e at (rises_from (reads line))
+
+-- rising spans end where the line does
+rise_end : (at end : ℕ) (ts : List Token) → Rise at end ts → at ≤ end
+rise_end at end [] rise = rise
+rise_end at end (t ∷ ts) rise = let h = rise_end t.span.to end ts rise.2 in omega (arith, rise.0, rise.1, h)
+
+fit_from : (line : List ℕ) (at : ℕ) (ts : List Token) → Rise at (length line) ts → AllByRecursion (λ (t : Token). (t.span.from ≤ t.span.to) × (t.span.to ≤ length line)) ts
+fit_from line at [] rise = tt
+fit_from line at (t ∷ ts) rise = ((omega (arith, rise.1), rise_end t.span.to (length line) ts rise.2), fit_from line t.span.to ts rise.2)
+
+pub fit : (line : List ℕ) → SpansFit line (tokens_of line).tokens
+fit line = All-from_recursion _ (tokens_of line).tokens (fit_from line 0 (tokens_of line).tokens (rises line))

@@ -1,4 +1,4 @@
--- What stands at the front of some bytes is a token of its kind and the longest, or wrong.
+-- What some bytes begin with is a token of its kind and the longest, or wrong.
 use Rattle.std.proofs.Common.{◌≡◌, ℕ, zero, suc, ◌+◌, ◌≤◌, Bool, true, false, not, cond, ◌&&◌, List, [], ◌∷◌, length, take, drop, Option, Some, None, ⊎_elim, sym, refl, subst, ap, ◌∙◌, arith}
 use Rattle.std.specs.Prelude.{◌==◌, is_some}
 use Rattle.std.specs.Char.{is_ascii_digit, is_ascii_alphanumeric}
@@ -180,14 +180,14 @@ no_token b bs own (suc k) Char more fits text =
 no_token b bs own (suc k) Sign more fits text =
     absurd (let e : 5 ≡ 0 = kind_of 0 Sign b (take k bs) own text in omega arith)
 
--- a token at the front, by its kind and length
+-- a token with which some bytes begin, by its kind and length
 pub record IsLexeme (kind : TokenKind) (n b : ℕ) (bs : List ℕ) : Type 0 where
   pub fits : n ≤ length (b ∷ bs)
   pub is : IsOfKind kind (take n (b ∷ bs))
   pub ends : EndsRun kind (drop n (b ∷ bs))
   pub longest : IsLongest n (b ∷ bs)
 
--- what it means that this stands at the front
+-- what it means that some bytes begin with this
 abbrev pub Stands : ℕ → List ℕ → Front → Type 0
 Stands b bs Blank = is_blank b ≡ true
 Stands b bs Comment = begins_comment (b ∷ bs) ≡ true
@@ -306,7 +306,7 @@ module _ (b : ℕ) (bs : List ℕ) (plain : begins_comment (b ∷ bs) ≡ false)
     },
   )
 
--- what stands at the front, as it is found
+-- what some bytes begin with, as it is found
 pub front_stands : (b : ℕ) (bs : List ℕ) → Stands b bs (front (b ∷ bs))
 front_stands b bs =
     cond_both (is_blank b) _ _ (Stands b bs) (λ blank. blank)

@@ -130,7 +130,7 @@ token_in_run Char b n m bs fits is ends bad =
 token_in_run Sign b n m bs fits is ends bad =
     absurd (let e : 5 ≡ 2 = kind_of 2 Sign b (take n bs) (digit_class b bad.digit) is in omega arith)
 
--- the class of a blank, and of what begins a comment
+-- the class of whitespace, and of what begins a comment
 blank_class : (b : ℕ) → is_blank b ≡ true → class_of b ≡ 0
 blank_class b h =
     ⊎_elim
@@ -170,7 +170,7 @@ some_class Str = omega arith
 some_class Char = omega arith
 some_class Sign = omega arith
 
--- a token stands at no blank
+-- no token begins with whitespace
 no_blank_token : (kind : TokenKind) (b n : ℕ) (bs : List ℕ) → is_blank b ≡ true → IsOfKind kind (take n (b ∷ bs)) → ⊥
 no_blank_token kind b zero bs h is = is
 no_blank_token kind b (suc n) bs h is =
@@ -222,7 +222,7 @@ lexeme_is (Lexeme other m) kind n b bs plain p h =
     rw (length, kinds) refl
 lexeme_is (Wrong number m) kind n b bs plain p h = absurd (no_wrong number kind b n m bs p.fits p.is p.ends h.1)
 
--- nothing is wrong at a blank
+-- whitespace is not wrong
 no_blank_wrong : (number : FaultNumber) (b n : ℕ) (bs : List ℕ) → is_blank b ≡ true → IsWrong number n b bs → ⊥
 no_blank_wrong BadByte b n bs h bad = both_ways (is_blank b) bad.no_blank h
 no_blank_wrong BadNumber b n bs h bad = absurd (omega (arith, blank_class b h, digit_class b bad.digit))

@@ -75,7 +75,7 @@ string_sound (suc fuel) n (b ∷ bs) enough h =
     }))
     (cases_Bool (b == 0x22))
 
--- and the bytes of a string end where it ends, whatever stands behind it
+-- and the bytes of a string end where it ends, whatever stands after it
 ends_some : (bs : List ℕ) → EndsString bs → 1 ≤ length bs
 ends_some [] e = elim e [ ]
 ends_some (b ∷ bs) e = omega arith

@@ -4,7 +4,7 @@ use Rattle.std.specs.Prelude.{decimal}
 use Rattle.std.proofs.lemmas.Fmt.{decimal_step, length-decimal-le}
 use Rattle.rv_text.specs.Rows.{hex, hex_digit}
 
--- the last digit behind the others
+-- the last digit after the others
 pub hex_step : (k n : ℕ) → 0 < k → hex k n ≡ hex (k - 1) (n / 16) ++ hex_digit (n % 16) ∷ []
 unfolding hex
 hex_step zero n h = absurd (omega arith)

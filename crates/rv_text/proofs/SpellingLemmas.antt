@@ -1,4 +1,4 @@
--- Which bytes spell a byte, a string and a character, whatever stands behind them.
+-- Which bytes spell a byte, a string and a character, whatever stands after them.
 use Rattle.std.proofs.Common.{◌≡◌, ℕ, zero, suc, ◌+◌, ◌<◌, ◌≤◌, min, Bool, true, false, cond, List, [], ◌∷◌, ◌++◌, length, take, Option, Some, None, option_map, ⊎_elim, sym, refl, ap, ◌∙◌, arith}
 use Rattle.std.specs.Prelude.{◌==◌, nat_lt, option_and_then}
 use Rattle.std.specs.List.{prefix_len}
@@ -9,7 +9,7 @@ use Rattle.rv_text.specs.declared.strings.Spelling.{Spelling}
 use Rattle.rv_text.specs.Numbers.{digits_number}
 use Rattle.rv_text.specs.Strings.{is_octal, octal_escape, letter_escape, escape, spelled}
 
--- a run at the front of a front, and of a longer list
+-- how long a run is in a prefix of a list, and in a longer list
 run_take : (p : ℕ → Bool) (n : ℕ) (bs : List ℕ) → prefix_len p (take n bs) ≡ min n (prefix_len p bs)
 run_take p zero bs = omega arith
 run_take p (suc n) [] = omega arith
@@ -55,7 +55,7 @@ octal_append bs rest s h within =
     let same = run_append is_octal 3 bs rest (omega arith) in
     rw (same, take-append-le (min 3 (prefix_len is_octal bs)) bs rest (omega arith)) h
 
--- a spelling behind a backslash
+-- a spelling after a backslash
 letter_len : (o : Option ℕ) (s : Spelling) → option_map (λ b. record { byte = b; len = 1 }) o ≡ Some s → s.len ≡ 1
 letter_len None s h = absurd cc
 letter_len (Some b) s h = let e : record { byte = b; len = 1 } ≡ s = cc in sym (ap (λ (s : Spelling). s.len) e)

@@ -6,7 +6,7 @@ use Rattle.rv_text.specs.declared.lexeme.TokenKind.{TokenKind}
 use Rattle.rv_text.specs.declared.lexeme.Front.TheVariants.{Blank, Comment, Lexeme, Wrong}
 use Rattle.rv_text.specs.Lexing.{tokens_from, placed, front}
 
--- to take k bytes is to go on behind them
+-- to take k bytes is to go on after them
 pub tokens_from-taken : (at k : ℕ) (bs : List ℕ) → k ≤ length bs → tokens_from at k bs ≡ tokens_from (at + k) 0 (drop k bs)
 tokens_from-taken at zero [] h = refl
 tokens_from-taken at zero (b ∷ bs) h = ap (λ x. tokens_from x 0 (b ∷ bs)) (sym (add-zero at))
@@ -15,7 +15,7 @@ tokens_from-taken at (suc k) (b ∷ bs) h =
     let place : at + 1 + k ≡ at + suc k = omega arith in
     tokens_from-taken (at + 1) k bs (omega arith) ∙ ap (λ x. tokens_from x 0 (drop k bs)) place
 
--- what stands at the front of a list that is not empty
+-- what a list begins with that is not empty
 tokens_from-cons : (at b : ℕ) (bs xs : List ℕ) → xs ≡ b ∷ bs → tokens_from at 0 xs ≡ placed (front xs) at (λ k. tokens_from (at + 1) k bs)
 tokens_from-cons at b bs xs e = rw e refl
 

@@ -1,4 +1,4 @@
--- The numbers by which faults are told.
+-- The numbers by which faults are reported.
 use Rattle.std.specs.Prelude.{ℕ}
 use Rattle.rv_text.specs.declared.faults.FaultNumber.{FaultNumber}
 use Rattle.rv_text.specs.declared.faults.FaultNumber.TheVariants.{BadByte, BadNumber, BadString, NoStatement, UnknownName, OperandCount, BadRegister, RegisterRange, BadOperand, TooDeep, NotConstant, Undefined, LaterEqu, FaultyEqu, Arithmetic, Range, Multiple, NoPartner, Duplicate, OddAddress, InBss}

@@ -58,7 +58,7 @@ abbrev pub goes_on : List ℕ → Bool
 goes_on [] = false
 goes_on (b ∷ bs) = is_ascii_alphanumeric b
 
--- behind a number and a local label stands no digit and no letter
+-- after a number and a local label stands no digit and no letter
 abbrev pub EndsRun : TokenKind → List ℕ → Type 0
 EndsRun Number rest = goes_on rest ≡ false
 EndsRun Local rest = goes_on rest ≡ false
@@ -67,7 +67,7 @@ EndsRun Str rest = ⊤
 EndsRun Char rest = ⊤
 EndsRun Sign rest = ⊤
 
--- a byte that is no blank and no quote, and begins no token
+-- a byte that is no whitespace and no quote, and begins no token
 pub record IsBadByte (n : ℕ) (b : ℕ) (bs : List ℕ) : Type 0 where
   pub one : n ≡ 1
   pub no_blank : is_blank b ≡ false
@@ -94,7 +94,7 @@ IsWrong BadNumber n b bs = IsBadNumber n b bs
 IsWrong BadString n b bs = IsBadString n b bs
 IsWrong _ n b bs = ⊥
 
--- the bytes from a place on are these tokens, with nothing but blanks before each, up to the end, a comment or a fault
+-- the bytes from a place on are these tokens, with nothing but whitespace before each, up to the end, a comment or a fault
 pub data Reads : ℕ → List ℕ → List Token → Option Fault → Type 0 where
   ended : (at : ℕ) → Reads at [] [] None
   comment : (at : ℕ) (bs : List ℕ) → begins_comment bs ≡ true → Reads at bs [] None

@@ -37,12 +37,12 @@ numeral bs =
     else (if is_local (take n bs) then Lexeme Local n
     else Wrong BadNumber n)
 
--- a quote and what stands behind it, up to the closing quote: `len` is how many bytes that is, where it is right
+-- a quote and what stands after it, up to the closing quote: `len` is how many bytes that is, where it is right
 abbrev pub quoted : TokenKind → Option ℕ → ℕ → Front
 quoted kind (Some n) left = Lexeme kind (n + 1)
 quoted kind None left = Wrong BadString left
 
--- what stands at the front of some bytes: each token is the longest that begins there
+-- what some bytes begin with: each token is the longest that begins there
 abbrev pub front : List ℕ → Front
 front [] = Comment
 front (b ∷ bs) =
@@ -100,7 +100,7 @@ SpansFit line tokens = All (λ t. (t.span.from ≤ t.span.to) × (t.span.to ≤ 
 abbrev pub lexed_line : List ℕ → LexedLine
 lexed_line line = record { line = line; tokens = (tokens_of line).tokens; fault = (tokens_of line).fault }
 
--- what stands at the front has at least one byte, and no more than there are
+-- what some bytes begin with has at least one byte, and no more than there are
 abbrev pub FitsIn : ℕ → Front → Type 0
 FitsIn len Blank = 1 ≤ len
 FitsIn len Comment = Unit {0}

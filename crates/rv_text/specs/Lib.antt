@@ -7,3 +7,7 @@ pub mod Lexing
 pub mod Lexical
 pub mod Rows
 pub mod Streams
+pub mod StreamLaws
+pub mod TokenLaws
+pub mod Blocks
+pub mod BlockLaws

@@ -1,16 +1,16 @@
--- What a call of a reader or a writer does to its bytes, where its type tells them, and to its count of failed calls.
+-- What a call of a reader or a writer does to its bytes, where its type knows them, and to its count of failed calls.
 use Rattle.std.specs.Prelude.{◌≡◌, ℕ, zero, suc, ◌+◌, List, [], ◌++◌, ⊤, Option, Some, None, Result, Ok, Err, is_ok, if◌then◌else◌}
 use Rattle.std.specs.Option.{option_map}
 
--- these bytes, and then the others, where those are told
+-- these bytes, and then the others, where those are known
 abbrev pub before : List ℕ → Option (List ℕ) → Option (List ℕ)
 before bytes others = option_map (λ rest. bytes ++ rest) others
 
--- these bytes behind the others, where those are told
+-- these bytes after the others, where those are known
 abbrev pub behind : Option (List ℕ) → List ℕ → Option (List ℕ)
 behind others bytes = option_map (λ front. front ++ bytes) others
 
--- where the bytes are told, none is left
+-- where the bytes are known, none is left
 abbrev pub IsAtEnd : Option (List ℕ) → Type 0
 IsAtEnd None = ⊤
 IsAtEnd (Some bytes) = bytes ≡ []
@@ -19,14 +19,14 @@ IsAtEnd (Some bytes) = bytes ≡ []
 abbrev pub failures_after : {A E : Type 0} → ℕ → Result A E → ℕ
 failures_after count result = if is_ok result then count else count + 1
 
--- some front of the text was taken
+-- some prefix of the text was taken
 pub record WritesFront (old : Option (List ℕ)) (text : List ℕ) (new : Option (List ℕ)) : Type 0 where
   pub front : List ℕ
   pub rest : List ℕ
   pub whole : text ≡ front ++ rest
   pub taken : new ≡ behind old front
 
--- the text was taken, or where a write failed some front of it
+-- the text was taken, or where a write failed some prefix of it
 abbrev pub Writes : {A E : Type 0} → Option (List ℕ) → List ℕ → Result A E → Option (List ℕ) → Type 0
 Writes old text (Ok _) new = new ≡ behind old text
 Writes old text (Err _) new = WritesFront old text new

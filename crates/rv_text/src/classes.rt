@@ -17,7 +17,7 @@ pub(crate) fn is_word_start(b: u8) -> bool
     b.is_ascii_alphabetic() || b == b'_' || b == b'.' || b == b'$'
 }
 
-// What may stand in a word behind its first byte.
+// What may stand in a word after its first byte.
 pub(crate) fn is_word_byte(b: u8) -> bool
     ensures { result ≡ is_word_byte b }
 {

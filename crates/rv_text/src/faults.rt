@@ -5,8 +5,8 @@ ghost use Rattle.rv_text.specs.Faults.{fault_number};
 
 use crate::lexeme::Span;
 
-/// What is wrong, from the lexical faults to those of values and places. Each has a number, by which it is told and
-/// by which the least of several is chosen.
+/// What is wrong, from the lexical faults to those of values and places. Each has a number, by which it is reported
+/// and by which the least of several is chosen.
 #[derive(Clone, Copy, Debug, PartialEq, Eq)]
 pub enum FaultNumber {
     /// A byte that begins no token.
@@ -62,7 +62,7 @@ impl FaultNumber {
     }
 }
 
-/// What is wrong with a line, and the bytes of it at which that is told.
+/// What is wrong with a line, and the bytes of it at which that is reported.
 #[derive(Clone, Copy, Debug, PartialEq, Eq)]
 pub struct Fault {
     /// Which fault it is.

@@ -2,6 +2,9 @@
 
 use crate::faults::FaultNumber;
 
+/// The most bytes that a line of a program may have.
+pub const MAX_LINE_LENGTH: usize = 1000;
+
 /// The bytes of a line from the place `from` up to, and without, the place `to`, counted from 0.
 #[derive(Clone, Copy, Debug, PartialEq, Eq)]
 pub struct Span {
@@ -33,10 +36,10 @@ pub struct Token {
     pub span: Span,
 }
 
-/// What stands at the front of some bytes.
+/// What some bytes begin with.
 #[derive(Clone, Copy, Debug, PartialEq, Eq)]
 pub enum Front {
-    /// One blank.
+    /// One byte of whitespace.
     Blank,
     /// A comment, which runs to the end of the line.
     Comment,

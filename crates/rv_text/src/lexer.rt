@@ -4,11 +4,11 @@ ghost use Rattle.std.specs.Prelude.{◌≡◌, ◌≤◌, ◌<◌, ◌+◌, IfOk
 ghost use Rattle.std.specs.Char.{is_ascii_alphanumeric};
 ghost use Rattle.std.specs.List.{prefix_len};
 ghost use Rattle.rv_text.specs.Bytes.{is_word_byte};
-ghost use Rattle.rv_text.specs.Lexing.{front, quoted, FitsIn, lexed_line, numeral, begins_comment, begins_shift};
+ghost use Rattle.rv_text.specs.Lexing.{front, quoted, FitsIn, SpansFit, lexed_line, numeral, begins_comment, begins_shift};
 
 use crate::classes::{is_blank, is_sign_byte, is_word_byte, is_word_start};
 use crate::faults::{Fault, FaultNumber};
-use crate::lexeme::{Front, Span, Token, TokenKind};
+use crate::lexeme::{Front, MAX_LINE_LENGTH, Span, Token, TokenKind};
 use crate::numerals::{is_local, number};
 use crate::strings::{char_len, string_len};
 use crate::token_list::{TextError, Tokens};
@@ -28,7 +28,7 @@ fn begins_shift(bytes: &[u8]) -> bool
     matches!(bytes, [b'<', b'<', ..] | [b'>', b'>', ..])
 }
 
-// How many bytes at the front may stand in a word.
+// How long the prefix of bytes is that may stand in a word.
 #[tactic(auto, using(crate::proofs::Runs::run_steps))]
 fn word_len(bytes: &[u8]) -> usize
     ensures { result ≡ prefix_len is_word_byte bytes.now }
@@ -40,7 +40,7 @@ fn word_len(bytes: &[u8]) -> usize
     n
 }
 
-// How many bytes at the front are digits and letters.
+// How long the prefix of digits and letters is.
 #[tactic(auto, using(crate::proofs::Runs::run_steps))]
 fn alphanumeric_len(bytes: &[u8]) -> usize
     ensures { result ≡ prefix_len is_ascii_alphanumeric bytes.now }
@@ -53,7 +53,7 @@ fn alphanumeric_len(bytes: &[u8]) -> usize
     bytes.len()
 }
 
-// The run of digits and letters at the front: a number, a local label, or wrong.
+// The prefix of digits and letters: a number, a local label, or wrong.
 #[tactic(auto, using(crate::proofs::Runs::run_steps))]
 fn numeral(bytes: &[u8]) -> Front
     requires { 0 < prefix_len is_ascii_alphanumeric bytes.now }
@@ -71,7 +71,7 @@ fn numeral(bytes: &[u8]) -> Front
     }
 }
 
-// A string or a character of which `len` bytes stand behind its first quote; wrong up to the end of the line where it
+// A string or a character of which `len` bytes stand after its first quote; wrong up to the end of the line where it
 // has no such end. `left` is how many bytes there are with that quote.
 fn quoted(kind: TokenKind, len: Option<usize>, left: usize) -> Front
     requires some { IfSome len (λ n. n < left) }
@@ -85,7 +85,7 @@ fn quoted(kind: TokenKind, len: Option<usize>, left: usize) -> Front
     }
 }
 
-// What stands at the front of the bytes.
+// What the bytes begin with.
 #[tactic(auto, using(crate::proofs::Runs::run_steps))]
 fn front(bytes: &[u8]) -> Front
     ensures exact { result ≡ front bytes.now }
@@ -117,7 +117,7 @@ fn front(bytes: &[u8]) -> Front
 
 // The `len` bytes from a place on.
 fn span_at(at: usize, len: usize) -> Span
-    requires { at + len ≤ 1000 }
+    requires { at + len ≤ MAX_LINE_LENGTH }
     ensures { result ≡ record { from = at; to = at + len } }
 {
     Span {
@@ -126,11 +126,14 @@ fn span_at(at: usize, len: usize) -> Span
     }
 }
 
-/// The tokens of a line of at most 1,000 bytes, each the longest that begins at its place, up to the end, to a comment,
-/// or to the leftmost lexical fault. The one error is want of memory for the list of tokens.
+/// The tokens of a line of at most [`MAX_LINE_LENGTH`] bytes, each the longest that begins at its place, up to the end,
+/// to a comment, or to the leftmost lexical fault. They are no more than the line's bytes, and their spans are ranges of
+/// it. The one error is want of memory for the list of tokens.
 pub fn tokens(alloc: Global, line: &[u8]) -> Result<Tokens<'_>, TextError>
-    requires { length line.now ≤ 1000 }
-    ensures { IfOk result (λ t. t ≡ lexed_line line.now) }
+    requires { length line.now ≤ MAX_LINE_LENGTH }
+    ensures exact { IfOk result (λ t. t ≡ lexed_line line.now) }
+    ensures few { IfOk result (λ t. length t.tokens ≤ length line.now) }
+    ensures fit { IfOk result (λ t. SpansFit line.now t.tokens) }
 {
     let mut found = Vec::new(alloc);
     let mut at = 0;

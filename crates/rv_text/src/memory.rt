@@ -1,7 +1,7 @@
 //! A reader and a writer in memory.
 
-ghost use Rattle.std.specs.Prelude.{◌≡◌, ◌-◌, ◌^◌, ◌<◌, ◌≤◌, ℕ, List, Some, [], ◌++◌, length, min, take, IfOk, OnErr};
-ghost use Rattle.rv_text.specs.Streams.{failures_after};
+ghost use Rattle.std.specs.Prelude.{◌≡◌, ◌-◌, ◌^◌, ◌<◌, ◌≤◌, ℕ, List, Some, [], ◌++◌, length, min, take, IfOk, IsOk, OnErr};
+ghost use Rattle.rv_text.specs.Streams.{before, failures_after};
 
 use crate::streams::{Failed, Sink, Source};
 use crate::token_list::TextError;
@@ -36,7 +36,16 @@ impl<'a> Source for MemSource<'a> {
 
     ghost failures = { λ _. 0 };
 
-    fn read(&mut self, buffer: &mut [u8]) -> Result<usize, Failed> {
+    /// Gives as many of the bytes that are left as there is room for, and never fails.
+    fn read(&mut self, buffer: &mut [u8]) -> Result<usize, Failed>
+        ensures within { IfOk result (λ n. n ≤ length buffer.old) }
+        ensures given { IfOk result (λ n. Some self.old ≡ before (take n buffer.new) (Some self.new)) }
+        ensures end { IfOk result (λ n. n ≡ 0 → 0 < length buffer.old → self.new ≡ []) }
+        ensures failed { OnErr result (Some self.new ≡ Some self.old) }
+        ensures count { 0 ≡ failures_after 0 result }
+        ensures room { IfOk result (λ n. n ≡ min (length buffer.old) (length self.old)) }
+        ensures succeeds { IsOk result }
+    {
         let n = buffer.len().min(self.rest.len());
         let (front, rest) = self.rest.split_at(n);
         buffer[..n].copy_from_slice(front);

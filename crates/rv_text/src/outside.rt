@@ -7,7 +7,7 @@ ghost use Rattle.rv_text.specs.Streams.{failures_after};
 use crate::streams::{Failed, Sink, Source};
 use std::io::{Read, Write};
 
-/// A reader over one of std's. It tells no bytes, but a call does what that reader does. Each error of that reader is a
+/// A reader over one of std's. Its bytes are not known, but a call does what that reader does. Each error of that reader is a
 /// failed call, an interruption too.
 #[derive(Drop)]
 pub struct StdSource<R> {
@@ -51,7 +51,7 @@ impl<R: Read> Source for StdSource<R> {
     }
 }
 
-/// A writer over one of std's. It tells no bytes, but what a call took is in that writer, and flushed before the call
+/// A writer over one of std's. Its bytes are not known, but what a call took is in that writer, and flushed before the call
 /// ends, so that nothing of it waits in a buffer. Each error of that writer or of its flush is a failed call, an
 /// interruption too, and so is a call that takes nothing of a slice with bytes.
 #[derive(Drop)]

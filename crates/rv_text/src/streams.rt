@@ -7,15 +7,15 @@ ghost use Rattle.rv_text.specs.Streams.{before, behind, IsAtEnd, failures_after,
 #[derive(Clone, Copy, Debug, PartialEq, Eq)]
 pub struct Failed;
 
-/// What bytes come from. Contracts see the bytes that are left, where the type tells them, and how many calls failed.
+/// What bytes come from. Contracts see the bytes that are left, where the type knows them, and how many calls failed.
 pub trait Source {
-    /// The bytes that are left, where the type tells them.
+    /// The bytes that are left, where the type knows them.
     ghost left: { Self → Option (List ℕ) };
 
     /// How many calls have failed.
     ghost failures: { Self → ℕ };
 
-    /// Fills a front of the buffer with the next bytes, and says how many these are: with room in the buffer none only
+    /// Fills a prefix of the buffer with the next bytes, and says how many these are: with room in the buffer none only
     /// at the end. After a failed call the same bytes are left. The count of failed calls has to be below `u64::MAX`.
     fn read(&mut self, buffer: &mut [u8]) -> Result<usize, Failed>
         requires { failures self.old < 2 ^ 64 - 1 }
@@ -26,15 +26,15 @@ pub trait Source {
         ensures count { failures self.new ≡ failures_after (failures self.old) result };
 }
 
-/// What bytes go to. Contracts see the bytes that were taken, where the type tells them, and how many calls failed.
+/// What bytes go to. Contracts see the bytes that were taken, where the type knows them, and how many calls failed.
 pub trait Sink {
-    /// The bytes that were taken, where the type tells them.
+    /// The bytes that were taken, where the type knows them.
     ghost taken: { Self → Option (List ℕ) };
 
     /// How many calls have failed.
     ghost failures: { Self → ℕ };
 
-    /// Takes a front of the bytes, and says how many these are: none only where there are none. A failed call takes no
+    /// Takes a prefix of the bytes, and says how many these are: none only where there are none. A failed call takes no
     /// byte. The count of failed calls has to be below `u64::MAX`.
     fn write(&mut self, bytes: &[u8]) -> Result<usize, Failed>
         requires { failures self.old < 2 ^ 64 - 1 }
@@ -45,7 +45,7 @@ pub trait Sink {
         ensures count { failures self.new ≡ failures_after (failures self.old) result };
 }
 
-/// Writes all the bytes. At the first call that fails it stops, and some front of the bytes was taken.
+/// Writes all the bytes. At the first call that fails it stops, and some prefix of the bytes was taken.
 #[tactic(auto, using(crate::proofs::StreamLemmas::behind_take_more, crate::proofs::StreamLemmas::front_taken))]
 pub fn write_all<W: Sink>(sink: &mut W, bytes: &[u8]) -> Result<(), Failed>
     requires { W.failures sink.old < 2 ^ 64 - 1 }

@@ -13,7 +13,7 @@ pub struct Spelling {
     pub len: usize,
 }
 
-// What a letter, a backslash or a quote stands for behind a backslash.
+// What a letter, a backslash or a quote stands for after a backslash.
 fn letter_escape(c: u8) -> Option<u8>
     ensures { result ≡ letter_escape c }
 {
@@ -42,7 +42,7 @@ fn may_stand(b: u8) -> bool
     0x20 <= b && b <= 0x7E && b != b'\''
 }
 
-// How many octal digits stand at the front, up to three.
+// How long the prefix of octal digits is, up to three.
 #[tactic(auto, using(crate::proofs::Runs::run_steps))]
 fn octal_len(bytes: &[u8]) -> usize
     ensures { result ≡ min 3 (prefix_len is_octal bytes.now) }
@@ -67,7 +67,7 @@ fn octal_escape(bytes: &[u8]) -> Option<Spelling>
     Some(Spelling { byte, len })
 }
 
-// What stands behind a backslash.
+// What stands after a backslash.
 fn escape(bytes: &[u8]) -> Option<Spelling>
     ensures exact { result ≡ escape bytes.now }
     ensures fits { IfSome result (λ s. (1 ≤ s.len) × (s.len ≤ length bytes.now)) }
@@ -81,7 +81,7 @@ fn escape(bytes: &[u8]) -> Option<Spelling>
     }
 }
 
-// The byte that is spelled at the front of some bytes: an escape, or a byte that stands for itself.
+// The byte whose spelling some bytes begin with: an escape, or a byte that stands for itself.
 pub(crate) fn spelled(bytes: &[u8]) -> Option<Spelling>
     ensures exact { result ≡ spelled bytes.now }
     ensures fits { IfSome result (λ s. (1 ≤ s.len) × (s.len ≤ length bytes.now)) }
@@ -97,7 +97,7 @@ pub(crate) fn spelled(bytes: &[u8]) -> Option<Spelling>
     })
 }
 
-// How many bytes there are behind an opening `"`, up to and with the closing one.
+// How many bytes there are after an opening `"`, up to and with the closing one.
 pub(crate) fn string_len(bytes: &[u8]) -> Option<usize>
     ensures exact { result ≡ string_len 0 bytes.now }
     ensures fits { IfSome result (λ n. n ≤ length bytes.now) }
@@ -113,7 +113,7 @@ pub(crate) fn string_len(bytes: &[u8]) -> Option<usize>
     None
 }
 
-// How many bytes there are behind an opening `'`, up to and with the closing one.
+// How many bytes there are after an opening `'`, up to and with the closing one.
 pub(crate) fn char_len(bytes: &[u8]) -> Option<usize>
     ensures exact { result ≡ char_len bytes.now }
     ensures fits { IfSome result (λ n. n ≤ length bytes.now) }

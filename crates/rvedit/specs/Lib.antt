@@ -1,6 +1,1 @@
-pub mod Commands
-pub mod Transcript
-pub mod Outcomes
-pub mod Steps
-pub mod Faults
 pub mod Arguments

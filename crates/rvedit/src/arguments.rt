@@ -12,10 +12,13 @@ use rv_text::number;
 use std::alloc::{AllocError, Global};
 use std::convert::AsStr;
 
+/// The version of the program.
+pub const VERSION: &str = "0.1.0";
+
 /// Why the arguments give no base.
 #[derive(Debug, Drop)]
 pub enum ArgFault {
-    /// Help was asked for: its text.
+    /// Help or the version was asked for: its text.
     Help(String),
     /// The arguments are wrong: what is wrong with them.
     Usage(String),
@@ -60,7 +63,9 @@ pub fn base_of(text: &str) -> Option<u32>
 // What clap says against the arguments.
 fn fault_of(alloc: Global, error: &clap::Error) -> Result<ArgFault, AllocError> {
     match error.kind() {
-        ErrorKind::DisplayHelp => Ok(ArgFault::Help(format!(in alloc; "{error}")?)),
+        ErrorKind::DisplayHelp | ErrorKind::DisplayVersion => {
+            Ok(ArgFault::Help(format!(in alloc; "{error}")?))
+        }
         ErrorKind::OutOfMemory => Ok(ArgFault::Memory),
         _ => Ok(ArgFault::Usage(format!(in alloc; "{error}")?)),
     }
@@ -73,10 +78,14 @@ pub fn arguments<S: AsStr>(alloc: Global, words: &[S]) -> Result<u32, ArgFault>
     let option = Arg::new(alloc, "base")
         .long("base")
         .value_name("ADDRESS")
-        .help("Where .text begins: a multiple of 4096, at most 0x80000000 [default: 0]")
+        .help(
+            "Where .text begins [default: 0]: a multiple of 4096, at most 0x80000000, as a number of the language: decimal, 0x and hexadecimal, 0b and binary, or 0 and octal digits",
+        )
         .action(ArgAction::Set);
     let command = Command::new(alloc, "rvedit")
+        .version(VERSION)
         .about("Assembles RISC-V text that commands on standard input edit")
+        .after_help("The commands and their answers are described in docs/EDITOR.md.")
         .arg(option)?;
     match command.try_get_matches_from(words) {
         Ok(matches) => match matches.get_str("base") {

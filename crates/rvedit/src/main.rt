@@ -3,23 +3,16 @@
 
 ghost use Rattle.std.specs.Prelude.{◌≡◌, true};
 ghost use Rattle.rv_store.specs.Text.{is_base};
-ghost use Rattle.rvedit.specs.Faults.{run_status};
+ghost use Rattle.rv_commands.specs.Faults.{run_status};
 
-pub mod answer;
 pub mod arguments;
-pub mod chunk;
-pub mod command;
-pub mod numbered;
-pub mod run;
-pub mod run_error;
 #[cfg(test)]
 mod tests;
 
 use arguments::{ArgFault, arguments};
-use run::run;
-use run_error::{RunError, message, status};
+use rv_commands::{RunError, message, run, status};
 use rv_text::{StdSink, StdSource};
-use std::io;
+use std::io::{self, ErrorKind};
 use std::process::ExitCode;
 
 // Says something on standard error, if it can be said.
@@ -69,10 +62,19 @@ fn refuse(rt: &HostRuntime, fault: ArgFault) -> u8 {
     }
 }
 
+// Says why the arguments cannot be read, and gives the status.
+fn unread(rt: &HostRuntime, error: &io::Error) -> u8 {
+    if error.kind() == ErrorKind::OutOfMemory {
+        return report(rt, RunError::Memory);
+    }
+    say(rt, "rvedit: bad arguments");
+    2
+}
+
 fn main(rt: HostRuntime) -> ExitCode {
-    let Ok(words) = std::env::args(&rt) else {
-        say(&rt, "rvedit: bad arguments");
-        return ExitCode::from(2);
+    let words = match std::env::args(&rt) {
+        Ok(words) => words,
+        Err(error) => return ExitCode::from(unread(&rt, &error)),
     };
     let Ok(words) = words.collect::<Vec<String>>(rt.alloc()) else {
         return ExitCode::from(report(&rt, RunError::Memory));

@@ -2,13 +2,13 @@ use Rattle.std.proofs.Common.{◌≡◌, ◌+◌, ◌≤◌, true, nat_eq, arith
 use Rattle.std.proofs.lemmas.Bool.{cond-true}
 use denote.Enum.Declared.{tag_of}
 use Rattle.rv_ops.specs.contracts.layouts.Field.{the_type as field_type}
-use Rattle.rv_code.proofs.Pieces.{is_placed, shifted}
+use Rattle.rv_code.proofs.Slices.{is_placed, shifted}
 use Rattle.rv_code.proofs.decoding.take.Goals as goal
 
 pub returns-then-eq-clause-value : goal.returns-then-eq-clause-value
 returns-then-eq-clause-value c =
-    let p = c.args.piece.now in
-    let placed = is_placed p c.requires in
-    let h : p.2 + p.1 ≤ 32 = omega (arith, placed.field) in
-    let same : nat_eq (tag_of field_type c.args.field) (tag_of field_type p.0) ≡ true = search rules in
-    shifted c.cut.result c.args.word p.3 p.2 p.1 h c.cut.ensures ∙ sym (cond-true _ _ _ same)
+    let s = c.args.slice.now in
+    let placed = is_placed s c.requires in
+    let h : s.width + s.field_bit ≤ 32 = omega (arith, placed.field) in
+    let same : nat_eq (tag_of field_type c.args.field) (tag_of field_type s.field) ≡ true = search rules in
+    shifted c.cut.result c.args.word s.word_bit s.width s.field_bit h c.cut.ensures ∙ sym (cond-true _ _ _ same)

@@ -1,15 +1,15 @@
 use Rattle.std.proofs.Common.{◌≡◌, ◌+◌, ◌≤◌, length, IsTrue}
 use Rattle.std.specs.List.{list_all}
-use Rattle.rv_ops.specs.Room.{is_piece, room}
+use Rattle.rv_ops.specs.Room.{is_slice, room}
 use Rattle.rv_code.specs.Encoding.{placed}
 use Rattle.rv_code.proofs.encoding.assembled.Given as goal
 
-abbrev pub invariant-loop-pieces : goal.invariant-loop-pieces
-invariant-loop-pieces l = record {
-  pieces : IsTrue (list_all is_piece l.pieces);
-  most : l.word + room l.pieces ≤ l.fixed + room l.initial.pieces;
-  rest : l.word + placed l.fields l.pieces ≡ l.fixed + placed l.fields l.initial.pieces;
+abbrev pub invariant-loop-slices : goal.invariant-loop-slices
+invariant-loop-slices l = record {
+  slices : IsTrue (list_all is_slice l.slices);
+  most : l.word + room l.slices ≤ l.fixed + room l.initial.slices;
+  rest : l.word + placed l.fields l.slices ≡ l.fixed + placed l.fields l.initial.slices;
 }
 
-abbrev pub decreases-loop-pieces : goal.decreases-loop-pieces
-decreases-loop-pieces l = length l.pieces
+abbrev pub decreases-loop-slices : goal.decreases-loop-slices
+decreases-loop-slices l = length l.slices

@@ -7,5 +7,5 @@ pub returns-clause-value : goal.returns-clause-value
 unfolding encoding_of
 returns-clause-value c =
     c.assembled.ensures.value
-    ∙ ap (λ n. n + placed c.args.fields.now c.pieces-its_pieces.result.now) c.fixed-its_fixed.ensures
-    ∙ ap (λ ps. fixed_of c.args.op + placed c.args.fields.now ps) c.pieces-its_pieces.ensures.value
+    ∙ ap (λ n. n + placed c.args.fields.now c.slices-its_slices.result.now) c.fixed-its_fixed.ensures
+    ∙ ap (λ ps. fixed_of c.args.op + placed c.args.fields.now ps) c.slices-its_slices.ensures.value

@@ -1,8 +1,8 @@
 use Rattle.std.proofs.Common.{◌/◌, ◌%◌, ◌^◌, ◌∙◌, ap}
-use Rattle.rv_code.proofs.Pieces.{is_placed, shifted}
+use Rattle.rv_code.proofs.Slices.{is_placed, shifted}
 use Rattle.rv_code.proofs.encoding.put.Goals as goal
 
 pub returns-clause-value : goal.returns-clause-value
 returns-clause-value c =
-    let p = c.args.piece.now in
-    shifted c.cut.result _ p.1 p.2 p.3 (is_placed p c.requires).word (c.cut.ensures ∙ ap (λ n. n / 2 ^ p.1 % 2 ^ p.2) c.field_number.ensures)
+    let s = c.args.slice.now in
+    shifted c.cut.result _ s.field_bit s.width s.word_bit (is_placed s c.requires).word (c.cut.ensures ∙ ap (λ n. n / 2 ^ s.field_bit % 2 ^ s.width) c.field_number-number.ensures)

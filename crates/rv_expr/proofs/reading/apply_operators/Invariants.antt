@@ -1,12 +1,13 @@
 use Rattle.std.proofs.Common.{◌≡◌, List, Option, vec_len}
-use Rattle.rv_expr.specs.Tree.{Tree, tree_of}
-use Rattle.rv_expr.specs.Reading.{Waiting, joined}
+use Rattle.rv_expr.specs.Tree.{Tree}
+use Rattle.rv_expr.specs.declared.reading.Pending.{Pending}
+use Rattle.rv_expr.specs.Reading.{joined}
 use Rattle.rv_expr.specs.ReaderState.{waits}
 use Rattle.rv_expr.proofs.reading.apply_operators.Given as goal
 
 abbrev pub invariant-loop-last : goal.invariant-loop-last
 invariant-loop-last l =
-    (next : List Waiting → Tree → Option Tree) → joined l.bound next (waits l.pending.items) (tree_of l.whole) ≡ joined l.bound next (waits l.fn.pending.items) (tree_of l.fn.operand)
+    (next : List Pending → Tree → Option Tree) → joined l.bound next (waits l.pending.items) l.whole ≡ joined l.bound next (waits l.fn.pending.items) l.fn.operand
 
 abbrev pub decreases-loop-last : goal.decreases-loop-last
 decreases-loop-last l = vec_len l.pending

@@ -8,12 +8,12 @@ loop-labels-preserved c =
     let line = c.args.line.now in
     let place = c.loop-labels.place in
     let found = sym c.in_ok-label.ensures ∙ c.in-Some.is in
-    let pushed = c.in_ok-push.ensures.items in
+    let pushed = c.in_ok-push.ensures in
     record {
       within = two_more line place _ found c.loop-labels.invariant.within;
       labels =
           ap (λ ls. ls ++ (labels_and_body (drop (place + 2) line)).labels) pushed
-          ∙ one_label line place _ found c.loop-labels.labels.items
+          ∙ one_label line place _ found c.loop-labels.labels
           ∙ c.loop-labels.invariant.labels;
       body = same_body line place _ found ∙ c.loop-labels.invariant.body;
     }
@@ -21,8 +21,8 @@ loop-labels-preserved c =
 pub returns-clause-labels : goal.returns-clause-labels
 returns-clause-labels c =
     let none = no_labels c.args.line.now c.loop-labels.place (sym c.in_ok-label.ensures ∙ c.in_default.is) in
-    sym (append-nil c.loop-labels.labels.items)
-    ∙ ap (λ ls. c.loop-labels.labels.items ++ ls) (sym none)
+    sym (append-nil c.loop-labels.labels)
+    ∙ ap (λ ls. c.loop-labels.labels ++ ls) (sym none)
     ∙ c.loop-labels.invariant.labels
 
 pub returns-clause-body : goal.returns-clause-body

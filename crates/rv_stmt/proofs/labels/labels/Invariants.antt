@@ -6,7 +6,7 @@ use Rattle.rv_stmt.proofs.labels.labels.Given as goal
 abbrev pub invariant-loop-labels : goal.invariant-loop-labels
 invariant-loop-labels l = record {
   within : l.place ≤ length l.line;
-  labels : l.labels.items ++ (labels_and_body (drop l.place l.line)).labels ≡ (labels_and_body l.line).labels;
+  labels : l.labels ++ (labels_and_body (drop l.place l.line)).labels ≡ (labels_and_body l.line).labels;
   body : (labels_and_body (drop l.place l.line)).body ≡ (labels_and_body l.line).body;
 }
 

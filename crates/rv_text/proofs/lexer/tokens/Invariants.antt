@@ -6,6 +6,7 @@ use Rattle.rv_text.proofs.lexer.tokens.Given as goal
 abbrev pub invariant-loop-at : goal.invariant-loop-at
 invariant-loop-at l = record {
   in_range : l.at ≤ length l.line;
+  few : length l.found.items ≤ l.at;
   fit : SpansFit l.line l.found.items;
   tokens : l.found.items ++ (tokens_from l.at 0 (drop l.at l.line)).tokens ≡ (tokens_of l.line).tokens;
   fault : (tokens_from l.at 0 (drop l.at l.line)).fault ≡ (tokens_of l.line).fault;

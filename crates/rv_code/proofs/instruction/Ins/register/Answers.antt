@@ -8,3 +8,6 @@ new-requires c =
     (subst (λ n. n < 32) c.number.ensures.value c.number.ensures.below)
     (subst (λ n. n < 32) c.number-2.ensures.value c.number-2.ensures.below)
     (subst (λ n. n < 32) c.number-3.ensures.value c.number-3.ensures.below)
+
+pub returns : goal.returns
+returns c = c.new.ensures

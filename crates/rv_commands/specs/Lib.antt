@@ -1,0 +1,5 @@
+pub mod Commands
+pub mod Transcript
+pub mod Outcomes
+pub mod Steps
+pub mod Faults

@@ -1,0 +1,122 @@
+-- What the parts of a run do.
+use Rattle.std.specs.Prelude.{◌≡◌, ℕ, ◌≤◌, List, [], ◌∷◌, ◌++◌, length, take, false, Option, Result, Ok, Err}
+use Rattle.std.specs.List.{flat_map, list_any}
+use Rattle.rv_text.specs.Streams.{before, behind, IsAtEnd, Writes, WritesFront}
+use Rattle.rv_store.specs.declared.edit_error.EditError.{EditError}
+use Rattle.rv_store.specs.Text.{Text}
+use Rattle.rv_commands.specs.declared.run_error.RunError.{RunError}
+use Rattle.rv_commands.specs.declared.run_error.RunError.TheVariants.{Read, Write, Memory}
+use Rattle.rv_text.specs.Blocks.{Waits, Gathers}
+use Rattle.rv_commands.specs.Transcript.{accepted, refused, IsAnswer, AreAnswers, is_line_break, unless_empty, empty_text}
+
+-- the answer to an edit that was tried, after which there are n lines
+abbrev pub edit_answer : {A : Type 0} → ℕ → Result A EditError → List ℕ
+edit_answer n (Ok _) = accepted n
+edit_answer n (Err reason) = refused reason
+
+-- There is an answer to the command, and it was taken, or a front of it where a write failed.
+abbrev pub AnswersCommand : {A E : Type 0} → Text → List ℕ → Option (List ℕ) → Result A E → Option (List ℕ) → Text → Type 0
+AnswersCommand old command taken_before result taken_after new =
+    (answer : List ℕ) × IsAnswer old command answer new × Writes taken_before answer result taken_after
+
+-- There is an answer to the command, and it was gathered, or a front of what was waiting and of it was taken where a
+-- write failed.
+abbrev pub GathersAnswer : {A E : Type 0} → Text → List ℕ → Option (List ℕ) → List ℕ → Result A E → Option (List ℕ) → List ℕ → Text → Type 0
+GathersAnswer old command taken_before waiting_before result taken_after waiting_after new =
+    (answer : List ℕ) × IsAnswer old command answer new × Gathers taken_before waiting_before answer result taken_after waiting_after
+
+-- no line break stands in these bytes
+abbrev pub IsUnbroken : List ℕ → Type 0
+IsUnbroken bytes = list_any is_line_break bytes ≡ false
+
+-- nor in any of these commands
+abbrev pub AreUnbroken : List (List ℕ) → Type 0
+AreUnbroken [] = Unit {0}
+AreUnbroken (command ∷ commands) = IsUnbroken command × AreUnbroken commands
+
+-- a command with its line break
+abbrev pub ended : List ℕ → List ℕ
+ended command = command ++ 10 ∷ []
+
+-- All commands of these bytes up to a rest are answered, and the answers were gathered.
+pub record Gathered (old : Text) (bytes rest : List ℕ) (taken_before : Option (List ℕ)) (waiting_before : List ℕ) (taken_after : Option (List ℕ)) (waiting_after : List ℕ) (new : Text) : Type 0 where
+  pub commands : List (List ℕ)
+  pub output : List ℕ
+  pub cut : bytes ≡ flat_map ended commands ++ rest
+  pub unbroken : AreUnbroken commands
+  pub answers : AreAnswers old commands output new
+  pub waits : Waits taken_before waiting_before output taken_after waiting_after
+
+-- A front of what was waiting and of the answers to the first commands of these bytes was taken.
+pub record LosesAnswers (old : Text) (bytes : List ℕ) (taken_before : Option (List ℕ)) (waiting : List ℕ) (taken_after : Option (List ℕ)) : Type 0 where
+  pub commands : List (List ℕ)
+  pub rest : List ℕ
+  pub output : List ℕ
+  pub new : Text
+  pub cut : bytes ≡ flat_map ended commands ++ rest
+  pub unbroken : AreUnbroken commands
+  pub answers : AreAnswers old commands output new
+  pub taken : WritesFront taken_before (waiting ++ output) taken_after
+
+-- All commands of these bytes up to a rest are answered, and the answers were taken.
+pub record Answered (old : Text) (bytes rest : List ℕ) (taken_before taken_after : Option (List ℕ)) (new : Text) : Type 0 where
+  pub commands : List (List ℕ)
+  pub output : List ℕ
+  pub cut : bytes ≡ flat_map ended commands ++ rest
+  pub unbroken : AreUnbroken commands
+  pub answers : AreAnswers old commands output new
+  pub taken : taken_after ≡ behind taken_before output
+
+-- A front of the answers to the first commands of these bytes was taken.
+pub record StopsAtWrite (old : Text) (bytes : List ℕ) (taken_before taken_after : Option (List ℕ)) : Type 0 where
+  pub commands : List (List ℕ)
+  pub rest : List ℕ
+  pub output : List ℕ
+  pub lost : List ℕ
+  pub new : Text
+  pub cut : bytes ≡ flat_map ended commands ++ rest
+  pub unbroken : AreUnbroken commands
+  pub answers : AreAnswers old commands (output ++ lost) new
+  pub taken : taken_after ≡ behind taken_before output
+
+-- Where answering stops early: after a whole answer for want of memory, and within one where a write failed.
+abbrev pub StopsBy : RunError → Text → List ℕ → Option (List ℕ) → Option (List ℕ) → Type 0
+StopsBy Read old bytes taken_before taken_after = ⊥
+StopsBy Write old bytes taken_before taken_after = StopsAtWrite old bytes taken_before taken_after
+StopsBy Memory old bytes taken_before taken_after =
+    (rest : List ℕ) × (new : Text) × Answered old bytes rest taken_before taken_after new
+
+-- A front of n bytes of the buffer was read, and none only at the end.
+pub record ReadsChunk (left_before left_after : Option (List ℕ)) (buffer : List ℕ) (most n : ℕ) : Type 0 where
+  pub read : left_before ≡ before (take n buffer) left_after
+  pub within : n ≤ length buffer
+  pub few : n ≤ most
+  pub end : n ≡ 0 → IsAtEnd left_after
+
+-- the answer to the last piece, if it is a command, was taken
+pub record TakesAll (old : Text) (piece : List ℕ) (taken_before taken_after : Option (List ℕ)) : Type 0 where
+  pub output : List ℕ
+  pub new : Text
+  pub answers : AreAnswers old (unless_empty piece) output new
+  pub taken : taken_after ≡ behind taken_before output
+
+-- a front of it was taken
+pub record TakesFront (old : Text) (piece : List ℕ) (taken_before taken_after : Option (List ℕ)) : Type 0 where
+  pub output : List ℕ
+  pub lost : List ℕ
+  pub new : Text
+  pub answers : AreAnswers old (unless_empty piece) (output ++ lost) new
+  pub taken : taken_after ≡ behind taken_before output
+
+-- the last piece of an input is answered
+abbrev pub Finishes : {A : Type 0} → Text → List ℕ → Option (List ℕ) → Result A RunError → Option (List ℕ) → Type 0
+Finishes old piece taken_before (Ok _) taken_after = TakesAll old piece taken_before taken_after
+Finishes old piece taken_before (Err e) taken_after = (e ≡ Write) × TakesFront old piece taken_before taken_after
+
+-- Where a run stands between two reads: what was read is answered up to a pending piece.
+pub record Progress (base : ℕ) (left_before left_now taken_before taken_now : Option (List ℕ)) (pending : List ℕ) (text : Text) (total : ℕ) : Type 0 where
+  pub input : List ℕ
+  pub read : left_before ≡ before input left_now
+  pub size : length input ≡ total
+  pub answered : Answered (empty_text base) input pending taken_before taken_now text
+  pub unbroken : IsUnbroken pending

@@ -1,0 +1,12 @@
+//! The commands of the editor: bytes come in, commands are cut from them and answered, and the answers go out.
+#![tactic(auto)]
+
+mod answer;
+mod chunk;
+mod command;
+mod numbered;
+mod run_error;
+mod running;
+
+pub use run_error::{RunError, message, status};
+pub use running::{MAX_INPUT, run};

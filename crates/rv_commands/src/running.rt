@@ -1,0 +1,77 @@
+//! The loop over the input.
+
+ghost use Rattle.std.specs.Prelude.{◌≡◌, ◌-◌, ◌^◌, ◌<◌, true, OnOk, IfErr};
+ghost use Rattle.rv_store.specs.Text.{is_base};
+ghost use Rattle.rv_commands.specs.Outcomes.{EndsWell, EndsEarly, IsReadCount, failures_by_write};
+ghost use Rattle.rv_commands.specs.Steps.{Finishes};
+
+use crate::answer::answer_alone;
+use crate::chunk::{answer_chunk, read_chunk};
+use crate::run_error::RunError;
+use rv_store::Store;
+use rv_text::{Sink, Source};
+use std::alloc::Global;
+
+/// How many bytes of input are read at most.
+pub const MAX_INPUT: usize = 67108864;
+
+// How many bytes are read at once at most.
+const CHUNK: usize = 8192;
+
+// Answers the last piece of the input, which is a command unless it is empty.
+fn finish<W: Sink>(store: &mut Store, sink: &mut W, piece: &[u8]) -> Result<(), RunError>
+    requires { W.failures sink.old < 2 ^ 64 - 1 }
+    ensures text { Finishes store.old piece.now (W.taken sink.old) result (W.taken sink.new) }
+    ensures count { W.failures sink.new ≡ failures_by_write (W.failures sink.old) result }
+{
+    if piece.is_empty() {
+        return Ok(());
+    }
+    match answer_alone(store, sink, piece) {
+        Ok(()) => Ok(()),
+        Err(_) => Err(RunError::Write),
+    }
+}
+
+/// Answers the commands of the input over a text that is empty at first and begins at the base. A command is answered
+/// before any further read once its line break was read.
+pub fn run<R: Source, W: Sink>(
+    alloc: Global,
+    source: &mut R,
+    sink: &mut W,
+    base: u32,
+) -> Result<(), RunError>
+    requires base { is_base base ≡ true }
+    requires reads { R.failures source.old < 2 ^ 64 - 1 }
+    requires writes { W.failures sink.old < 2 ^ 64 - 1 }
+    ensures ok { OnOk result (EndsWell base (R.left source.old) (R.left source.new) (W.taken sink.old) (W.taken sink.new)) }
+    ensures err { IfErr result (λ e. EndsEarly e base (R.failures source.old) (R.failures source.new)
+        (R.left source.old) (R.left source.new) (W.taken sink.old) (W.taken sink.new)) }
+    ensures reads { IsReadCount (R.failures source.old) result (R.failures source.new) }
+    ensures writes { W.failures sink.new ≡ failures_by_write (W.failures sink.old) result }
+{
+    let Ok(mut store) = Store::new(alloc, base) else {
+        unreachable!()
+    };
+    let mut pending: Vec<u8> = Vec::new(alloc);
+    let mut buffer = [0u8; CHUNK];
+    let mut total: usize = 0;
+    'reading: while total < MAX_INPUT {
+        let Ok(n) = read_chunk(source, &mut buffer, MAX_INPUT - total) else {
+            return Err(RunError::Read);
+        };
+        if n == 0 {
+            return finish(&mut store, sink, pending.as_slice());
+        }
+        let (chunk, _) = buffer.split_at(n);
+        answer_chunk(&mut store, sink, &mut pending, chunk)?;
+        total += n;
+    }
+    let Ok(beyond) = read_chunk(source, &mut buffer, 1) else {
+        return Err(RunError::Read);
+    };
+    if beyond > 0 {
+        return Err(RunError::Read);
+    }
+    finish(&mut store, sink, pending.as_slice())
+}

@@ -1,0 +1,85 @@
+//! A reader and a writer that need many calls.
+
+ghost use Rattle.std.specs.Prelude.{None};
+
+use rv_text::{Failed, Sink, Source};
+
+/// Gives three bytes at once at most.
+#[derive(Drop)]
+pub struct SlowSource<S> {
+    /// What is read from.
+    pub inner: S,
+}
+
+impl<S: Source> Source for SlowSource<S> {
+    ghost left = { λ s. S.left s.inner };
+
+    ghost failures = { λ s. S.failures s.inner };
+
+    fn read(&mut self, buffer: &mut [u8]) -> Result<usize, Failed> {
+        let (front, _) = buffer.split_at_mut(buffer.len().min(3));
+        self.inner.read(front)
+    }
+}
+
+/// Takes three bytes at once at most.
+#[derive(Drop)]
+pub struct SlowSink<S> {
+    /// What is written to.
+    pub inner: S,
+}
+
+impl<S: Sink> Sink for SlowSink<S> {
+    ghost taken = { λ s. S.taken s.inner };
+
+    ghost failures = { λ s. S.failures s.inner };
+
+    fn write(&mut self, bytes: &[u8]) -> Result<usize, Failed> {
+        let (front, _) = bytes.split_at(bytes.len().min(3));
+        self.inner.write(front)
+    }
+}
+
+/// Gives this many bytes, at the end of each call a line break.
+#[derive(Drop)]
+pub struct LongSource {
+    /// How many bytes are left.
+    pub left: usize,
+}
+
+impl Source for LongSource {
+    ghost left = { λ _. None };
+
+    ghost failures = { λ _. 0 };
+
+    fn read(&mut self, buffer: &mut [u8]) -> Result<usize, Failed> {
+        let n = buffer.len().min(self.left);
+        let (front, _) = buffer.split_at_mut(n);
+        front.fill(b'x');
+        if n > 0 {
+            front[n - 1] = b'\n';
+        }
+        self.left -= n;
+        Ok(n)
+    }
+}
+
+/// Counts the calls that it passes on.
+#[derive(Drop)]
+pub struct CountedSink<S> {
+    /// What is written to.
+    pub inner: S,
+    /// How many calls there were.
+    pub calls: u64,
+}
+
+impl<S: Sink> Sink for CountedSink<S> {
+    ghost taken = { λ s. S.taken s.inner };
+
+    ghost failures = { λ s. S.failures s.inner };
+
+    fn write(&mut self, bytes: &[u8]) -> Result<usize, Failed> {
+        self.calls = self.calls.saturating_add(1);
+        self.inner.write(bytes)
+    }
+}

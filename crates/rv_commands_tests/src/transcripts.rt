@@ -1,0 +1,144 @@
+//! Inputs and their whole output.
+
+ghost use Rattle.std.specs.Prelude.{◌<◌, ◌-◌, ◌^◌};
+
+use crate::slow::{CountedSink, SlowSource};
+use rv_commands::run;
+use rv_text::{MemSink, MemSource, Sink, Source};
+use std::alloc::Global;
+use std::process::Abort;
+use std::test::Fail;
+
+const EMPTY: &str =
+    ".text 0x00000000 0\n.rodata 0x00000000 0\n.data 0x00000000 0\n.bss 0x00000000 0\n";
+
+const NEXT_PAGE: &str = ".rodata 0x00001000 0\n.data 0x00001000 0\n.bss 0x00001000 0\n";
+
+// An input, and its output in two parts.
+const TRANSCRIPTS: [(&str, &str, &str); 18] = [
+    ("", "", ""),
+    ("\n", "bad\n", ""),
+    ("x\nd\nd 1\na\n", "bad\nbad\nrefused 2\nok 1\n", ""),
+    ("d 1\nd 0\n", "refused 2\nrefused 2\n", ""),
+    ("a nop\nd 1", "ok 1\nok 0\n", ""),
+    (
+        "a\na \na x\nd 000000002\nd 3\n",
+        "ok 1\nok 2\nok 3\nok 2\nrefused 2\n",
+        "",
+    ),
+    (
+        "image \nIMAGE\nax\nd1\nd 1 \n",
+        "bad\nbad\nbad\nbad\nbad\n",
+        "",
+    ),
+    (
+        "d 1234567890\nd 123456789\nd -1\nd \nd 0x1\nd 1a\n",
+        "bad\nrefused 2\nbad\nbad\nbad\nbad\n",
+        "",
+    ),
+    ("list\r\ni\ni 1x\nimage\r\n", "bad\nbad\nbad\nbad\n", ""),
+    ("image", "", EMPTY),
+    ("image\n", "", EMPTY),
+    ("a addi a0, a0, 1\nd 1\nimage\n", "ok 1\nok 0\n", EMPTY),
+    (
+        "a addi a0, a0, 1\nimage\n",
+        "ok 1\n.text 0x00000000 4\n00000000: 13 05 15 00\n",
+        NEXT_PAGE,
+    ),
+    (
+        "a addi a0, a0, 1\r\nimage\n",
+        "ok 1\n.text 0x00000000 4\n00000000: 13 05 15 00\n",
+        NEXT_PAGE,
+    ),
+    (
+        "a sub a0, a1, a2\nimage\n",
+        "ok 1\n.text 0x00000000 4\n00000000: 33 85 c5 40\n",
+        NEXT_PAGE,
+    ),
+    (
+        "a addi a0, a0, -1\nimage\n",
+        "ok 1\n.text 0x00000000 4\n00000000: 13 05 f5 ff\n",
+        NEXT_PAGE,
+    ),
+    (
+        "a addi a0, a0, 2048\nimage\n",
+        "ok 1\n.text 0x00000000 4\n00000000: 00 00 00 00\n",
+        NEXT_PAGE,
+    ),
+    (
+        "x\nd\nd 1\na\nimage\n",
+        "bad\nbad\nrefused 2\nok 1\n",
+        EMPTY,
+    ),
+];
+
+fn check_output<T: Abort, R: Source + Drop>(
+    rt: &T,
+    alloc: Global,
+    input: &str,
+    source: R,
+    output: &[u8],
+) -> Result<(), Fail>
+    requires { R.failures source < 2 ^ 64 - 1 }
+{
+    let mut source = source;
+    let mut sink = MemSink::new(alloc, output.len() + 1000)?;
+    let done = run(alloc, &mut source, &mut sink, 0);
+    assert_eq!(rt; done, Ok(()), "at {input:?}");
+    assert_eq!(rt; sink.bytes(), output, "at {input:?}");
+    Ok(())
+}
+
+#[test]
+fn commands_are_answered(rt: HostRuntime) -> Result<(), Fail> {
+    for (input, front, back) in TRANSCRIPTS {
+        let mut output = Vec::from_slice(rt.alloc(), front.as_bytes())?;
+        output.extend_from_slice(back.as_bytes())?;
+        let bytes = MemSource::new(input.as_bytes());
+        check_output(&rt, rt.alloc(), input, bytes, output.as_slice())?;
+        let slow = SlowSource {
+            inner: MemSource::new(input.as_bytes()),
+        };
+        check_output(&rt, rt.alloc(), input, slow, output.as_slice())?;
+    }
+    Ok(())
+}
+
+#[test]
+fn long_lines_are_answered(rt: HostRuntime) -> Result<(), Fail> {
+    for (length, output) in [
+        (1000usize, "ok 1\nok 0\n"),
+        (1001, "refused 3\nrefused 2\n"),
+        (2000000, "refused 3\nrefused 2\n"),
+    ] {
+        let mut input = Vec::from_slice(rt.alloc(), b"a ".as_slice())?;
+        let line = vec![in rt.alloc(); b'x'; length]?;
+        input.extend_from_slice(line.as_slice())?;
+        input.extend_from_slice(b"\nd 1\n")?;
+        let mut source = MemSource::new(input.as_slice());
+        let mut sink = MemSink::new(rt.alloc(), 1000)?;
+        let done = run(rt.alloc(), &mut source, &mut sink, 0);
+        assert_eq!(rt; done, Ok(()), "at {length}");
+        assert_eq!(rt; sink.bytes(), output.as_bytes(), "at {length}");
+    }
+    Ok(())
+}
+
+#[test]
+fn answers_are_written_in_blocks(rt: HostRuntime) -> Result<(), Fail> {
+    let mut input: Vec<u8> = Vec::new(rt.alloc());
+    for _ in 0..1000 {
+        input.extend_from_slice(b"a\n")?;
+    }
+    let mut source = MemSource::new(input.as_slice());
+    let mut sink = CountedSink {
+        inner: MemSink::new(rt.alloc(), 10000)?,
+        calls: 0,
+    };
+    let done = run(rt.alloc(), &mut source, &mut sink, 0);
+    assert_eq!(rt; done, Ok(()));
+    // `ok 1` to `ok 1000`: nine answers of five bytes, ninety of six, nine hundred of seven, and one of eight.
+    assert_eq!(rt; sink.inner.bytes().len(), 6893);
+    assert_eq!(rt; sink.calls, 2);
+    Ok(())
+}

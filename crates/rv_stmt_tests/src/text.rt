@@ -1,0 +1,155 @@
+//! Statements as text: each label with its span, and then the body.
+
+use rv_expr::{Direction, Expr, LabelReference, Name, Node};
+use rv_ops::name_of;
+use rv_stmt::{Body, Instruction, Label, LabelName, Operand, OperandValue, Stmt};
+use std::alloc::Global;
+use std::test::Fail;
+
+fn push_name(text: &mut String, name: &Name) -> Result<(), Fail> {
+    for byte in name.bytes() {
+        text.push(char::from(*byte))?;
+    }
+    Ok(())
+}
+
+fn push_local(
+    alloc: Global,
+    text: &mut String,
+    number: u16,
+    direction: Direction,
+) -> Result<(), Fail> {
+    let letter = match direction {
+        Direction::Back => 'b',
+        Direction::Forward => 'f',
+    };
+    text.push_str(format!(in alloc; "{number}{letter}")?.as_str())?;
+    Ok(())
+}
+
+// The expression with its operators after their operands, each part after a blank.
+fn push_expression(alloc: Global, text: &mut String, expr: &Expr) -> Result<(), Fail> {
+    match &expr.node {
+        Node::Number(number) => text.push_str(format!(in alloc; " {number}")?.as_str())?,
+        Node::Word(name) => {
+            text.push(' ')?;
+            push_name(text, name)?;
+        }
+        Node::Local(number, direction) => {
+            text.push(' ')?;
+            push_local(alloc, text, *number, *direction)?;
+        }
+        Node::Here => text.push_str(" .")?,
+        Node::Unary(op, operand) => {
+            push_expression(alloc, text, operand)?;
+            text.push_str(format!(in alloc; " {op:?}")?.as_str())?;
+        }
+        Node::Binary(op, left, right) => {
+            push_expression(alloc, text, left)?;
+            push_expression(alloc, text, right)?;
+            text.push_str(format!(in alloc; " {op:?}")?.as_str())?;
+        }
+    }
+    Ok(())
+}
+
+fn push_label_reference(
+    alloc: Global,
+    text: &mut String,
+    label: &LabelReference,
+) -> Result<(), Fail> {
+    text.push(' ')?;
+    match label {
+        LabelReference::Symbol(name) => push_name(text, name),
+        LabelReference::Local(number, direction) => push_local(alloc, text, *number, *direction),
+        LabelReference::Here => {
+            text.push('.')?;
+            Ok(())
+        }
+    }
+}
+
+fn push_value(alloc: Global, text: &mut String, value: &OperandValue) -> Result<(), Fail> {
+    match value {
+        OperandValue::Plain(expr) => push_expression(alloc, text, expr),
+        OperandValue::High(expr) => {
+            text.push_str(" %hi")?;
+            push_expression(alloc, text, expr)
+        }
+        OperandValue::Low(expr) => {
+            text.push_str(" %lo")?;
+            push_expression(alloc, text, expr)
+        }
+        OperandValue::PcrelHigh(expr) => {
+            text.push_str(" %pcrel_hi")?;
+            push_expression(alloc, text, expr)
+        }
+        OperandValue::PcrelLow(label) => {
+            text.push_str(" %pcrel_lo")?;
+            push_label_reference(alloc, text, label)
+        }
+    }
+}
+
+// The role, the span and the value.
+fn push_operand(alloc: Global, text: &mut String, operand: &Operand) -> Result<(), Fail> {
+    let (role, from, to) = (operand.role, operand.span.from, operand.span.to);
+    text.push_str(format!(in alloc; " [{role:?} {from}-{to}")?.as_str())?;
+    push_value(alloc, text, &operand.value)?;
+    text.push(']')?;
+    Ok(())
+}
+
+// The span of the mnemonic, the operation, rd, rs1, rs2, the value, and the operands.
+fn push_instruction(
+    alloc: Global,
+    text: &mut String,
+    instruction: &Instruction,
+) -> Result<(), Fail> {
+    let (from, to) = (instruction.name.from, instruction.name.to);
+    let op = name_of(instruction.op);
+    let rd = instruction.fields.rd.number();
+    let rs1 = instruction.fields.rs1.number();
+    let rs2 = instruction.fields.rs2.number();
+    let value = instruction.fields.value;
+    text.push_str(format!(in alloc; "{from}-{to} {op} {rd} {rs1} {rs2} {value}")?.as_str())?;
+    for operand in instruction.operands.as_slice() {
+        push_operand(alloc, text, operand)?;
+    }
+    Ok(())
+}
+
+fn push_label(alloc: Global, text: &mut String, label: &Label) -> Result<(), Fail> {
+    match &label.name {
+        LabelName::Symbol(name) => push_name(text, name)?,
+        LabelName::Local(number) => text.push_str(format!(in alloc; "{number}")?.as_str())?,
+    }
+    let (from, to) = (label.span.from, label.span.to);
+    text.push_str(format!(in alloc; "@{from}-{to} ")?.as_str())?;
+    Ok(())
+}
+
+/// The statement as text.
+pub fn text_of(alloc: Global, stmt: &Stmt) -> Result<String, Fail> {
+    let mut text = String::new(alloc);
+    for label in stmt.labels.as_slice() {
+        push_label(alloc, &mut text, label)?;
+    }
+    match &stmt.body {
+        Body::Empty => text.push_str("empty")?,
+        Body::Instr(instruction) => {
+            text.push_str("one ")?;
+            push_instruction(alloc, &mut text, instruction)?;
+        }
+        Body::Pseudo(instruction) => {
+            text.push_str("pseudo ")?;
+            push_instruction(alloc, &mut text, instruction)?;
+        }
+        Body::Faulty(fault) => {
+            let number = fault.number.number();
+            let (from, to) = (fault.span.from, fault.span.to);
+            text.push_str(format!(in alloc; "fault {number} {from}-{to}")?.as_str())?;
+        }
+    }
+    Ok(text)
+}
