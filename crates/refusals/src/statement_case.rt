@@ -12,7 +12,7 @@ use std::alloc::Global;
 
 // Whether this is the symbol.
 fn is_symbol(found: &Expr, symbol: &[u8]) -> bool {
-    matches!(&found.node, Node::Word(name) if name.bytes() == symbol)
+    matches!(&found.node, Node::Symbol(name) if name.bytes() == symbol)
 }
 
 // Whether this is the number.

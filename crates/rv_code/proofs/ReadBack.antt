@@ -5,7 +5,7 @@ use Rattle.rv_ops.specs.declared.op.Shape.TheVariants.{Upper, Jump, JumpRegister
 use Rattle.rv_ops.specs.declared.layouts.Field.TheVariants.{Rd, Rs1, Rs2, Value}
 use Rattle.rv_ops.specs.Table.{classes_of, layout_of, limits_of, slices_of, sign_of}
 use Rattle.rv_code.specs.declared.instruction.Fields.{Fields}
-use Rattle.rv_code.specs.Encoding.{bits_of_field, placed}
+use Rattle.rv_code.specs.Encoding.{bits_of_field, bits_of_slices}
 use Rattle.rv_code.specs.Decoding.{fields_at, first_of, gathered, value_of}
 use Rattle.rv_code.proofs.Runs.{Runs, and_runs, bits_of_runs, mask_of_runs}
 use Rattle.rv_code.proofs.Shapes.{FitsShape, IsRead, mask_of_shape, same_fields, width_of_value}
@@ -54,22 +54,22 @@ runs-mask _ = refl
 abbrev IsFixed : Shape → ℕ → Type 0
 IsFixed s n = bits_of_runs (runs_of s) 0 n ≡ n
 
-rd_back : (s : Shape) (f : Fields) (n : ℕ) → IsFixed s n → FitsShape s f → first_of (classes_of s).rd + gathered Rd (n + placed f (slices_of s)) (slices_of s) ≡ f.rd
+rd_back : (s : Shape) (f : Fields) (n : ℕ) → IsFixed s n → FitsShape s f → first_of (classes_of s).rd + gathered Rd (n + bits_of_slices f (slices_of s)) (slices_of s) ≡ f.rd
 unfolding mask_of_shape layout_of
 rd_back Upper f n e h = omega (arith, e)
 rd_back _ f n e h = omega (arith, e)
 
-rs1_back : (s : Shape) (f : Fields) (n : ℕ) → IsFixed s n → FitsShape s f → first_of (classes_of s).rs1 + gathered Rs1 (n + placed f (slices_of s)) (slices_of s) ≡ f.rs1
+rs1_back : (s : Shape) (f : Fields) (n : ℕ) → IsFixed s n → FitsShape s f → first_of (classes_of s).rs1 + gathered Rs1 (n + bits_of_slices f (slices_of s)) (slices_of s) ≡ f.rs1
 unfolding mask_of_shape layout_of
 rs1_back Upper f n e h = omega (arith, e)
 rs1_back _ f n e h = omega (arith, e)
 
-rs2_back : (s : Shape) (f : Fields) (n : ℕ) → IsFixed s n → FitsShape s f → first_of (classes_of s).rs2 + gathered Rs2 (n + placed f (slices_of s)) (slices_of s) ≡ f.rs2
+rs2_back : (s : Shape) (f : Fields) (n : ℕ) → IsFixed s n → FitsShape s f → first_of (classes_of s).rs2 + gathered Rs2 (n + bits_of_slices f (slices_of s)) (slices_of s) ≡ f.rs2
 unfolding mask_of_shape layout_of
 rs2_back Upper f n e h = omega (arith, e)
 rs2_back _ f n e h = omega (arith, e)
 
-fixed_back : (s : Shape) (f : Fields) (n : ℕ) → IsFixed s n → FitsShape s f → bits_of_runs (runs_of s) 0 (n + placed f (slices_of s)) ≡ n
+fixed_back : (s : Shape) (f : Fields) (n : ℕ) → IsFixed s n → FitsShape s f → bits_of_runs (runs_of s) 0 (n + bits_of_slices f (slices_of s)) ≡ n
 unfolding mask_of_shape layout_of
 fixed_back Upper f n e h = omega (arith, e)
 fixed_back _ f n e h = omega (arith, e)
@@ -83,12 +83,12 @@ jump_digits a b u v w x y z s t ha hb hu hv hw hx hy hz hs ht = omega arith
 jump_slices : (n : ℕ) → n % 2 ≡ 0 → (n / 2 ^ 5 % 2 ^ 1) * 2 ^ 5 + ((n / 2 ^ 1 % 2 ^ 3) * 2 ^ 1 + ((n / 2 ^ 7 % 2 ^ 1) * 2 ^ 7 + ((n / 2 ^ 6 % 2 ^ 1) * 2 ^ 6 + ((n / 2 ^ 10 % 2 ^ 1) * 2 ^ 10 + ((n / 2 ^ 8 % 2 ^ 2) * 2 ^ 8 + ((n / 2 ^ 4 % 2 ^ 1) * 2 ^ 4 + ((n / 2 ^ 11 % 2 ^ 1) * 2 ^ 11 + 0))))))) ≡ n % 2 ^ 12
 jump_slices n h = omega arith
 
-number_back : (s : Shape) (f : Fields) (n : ℕ) → IsFixed s n → bits_of_field Value f % (limits_of s).multiple ≡ 0 → gathered Value (n + placed f (slices_of s)) (slices_of s) ≡ bits_of_field Value f % 2 ^ width_of_value (slices_of s)
+number_back : (s : Shape) (f : Fields) (n : ℕ) → IsFixed s n → bits_of_field Value f % (limits_of s).multiple ≡ 0 → gathered Value (n + bits_of_slices f (slices_of s)) (slices_of s) ≡ bits_of_field Value f % 2 ^ width_of_value (slices_of s)
 unfolding mask_of_shape layout_of
 number_back CJump f n e m =
     let v = bits_of_field Value f in
     let two : n ≡ n % 2 ^ 2 + (n / 2 ^ 13 % 2 ^ 3) * 2 ^ 13 = omega (arith, e) in
-    ap (λ k. gathered Value (k + placed f (slices_of CJump)) (slices_of CJump)) two
+    ap (λ k. gathered Value (k + bits_of_slices f (slices_of CJump)) (slices_of CJump)) two
     ∙ jump_digits (n % 2 ^ 2) (n / 2 ^ 13 % 2 ^ 3) (v / 2 ^ 5 % 2 ^ 1) (v / 2 ^ 1 % 2 ^ 3) (v / 2 ^ 7 % 2 ^ 1) (v / 2 ^ 6 % 2 ^ 1) (v / 2 ^ 10 % 2 ^ 1) (v / 2 ^ 8 % 2 ^ 2) (v / 2 ^ 4 % 2 ^ 1) (v / 2 ^ 11 % 2 ^ 1) (omega arith) (omega arith) (omega arith) (omega arith) (omega arith) (omega arith) (omega arith) (omega arith) (omega arith) (omega arith)
     ∙ jump_slices v m
 number_back Upper f n e m = omega (arith, e, m)
@@ -98,7 +98,7 @@ number_back _ f n e m = omega (arith, e, m)
 pub read_back : (s : Shape) (n : ℕ) (f : Fields) → bit_and n (mask_of_shape s) ≡ n → FitsShape s f → IsRead s n f
 unfolding fields_at
 read_back s n f e h =
-    let word = n + placed f (slices_of s) in
+    let word = n + bits_of_slices f (slices_of s) in
     let fixed : IsFixed s n = sym (and_runs (runs_of s) n) ∙ ap (λ m. bit_and n m) (runs-mask s) ∙ e in
     let number = number_back s f n fixed (multiple_back s f.value h.value.multiple) in
     let value = ap (λ k. value_of (sign_of s) k) number ∙ value_back s f.value h.value in

@@ -12,7 +12,7 @@ use Rattle.rv_ops.specs.Room.{room}
 use Rattle.rv_ops.specs.declared.layouts.FieldSlice.{FieldSlice}
 use Rattle.rv_ops.specs.Table.{shape_of, classes_of, limits_of, slices_of}
 use Rattle.rv_code.specs.declared.instruction.Fields.{Fields}
-use Rattle.rv_code.specs.Encoding.{placed, Fits}
+use Rattle.rv_code.specs.Encoding.{bits_of_slices, Fits}
 use Rattle.rv_code.specs.Decoding.{fields_at}
 use Rattle.rv_code.proofs.Classes.{InClass, in_class}
 
@@ -37,8 +37,8 @@ mask_of_shape s = cond (ltb (tag_of shape_type s) 13) (2 ^ 32 - 1) (2 ^ 16 - 1) 
 
 -- a word of these fixed bits and fields gives them back
 pub record IsRead (s : Shape) (n : ℕ) (f : Fields) : Type 0 where
-  pub fields : fields_at s (n + placed f (slices_of s)) ≡ f
-  pub fixed : bit_and (n + placed f (slices_of s)) (mask_of_shape s) ≡ n
+  pub fields : fields_at s (n + bits_of_slices f (slices_of s)) ≡ f
+  pub fixed : bit_and (n + bits_of_slices f (slices_of s)) (mask_of_shape s) ≡ n
 
 pub fields_same : {rd rd' rs1 rs1' rs2 rs2' : ℕ} {v v' : ℤ} → rd ≡ rd' → rs1 ≡ rs1' → rs2 ≡ rs2' → v ≡ v' →
     ◌≡◌ {A = Fields} (record { rd = rd; rs1 = rs1; rs2 = rs2; value = v }) (record { rd = rd'; rs1 = rs1'; rs2 = rs2'; value = v' })

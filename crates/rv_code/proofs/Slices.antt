@@ -9,8 +9,8 @@ pub record IsPlaced (s : FieldSlice) : Type 0 where
   pub field : s.field_bit + s.width ≤ 32
   pub word : s.width + s.word_bit ≤ 32
 
-pub is_placed : (s : FieldSlice) → IsTrue (is_slice s) → IsPlaced s
-is_placed s h =
+pub has_bits_of_slices : (s : FieldSlice) → IsTrue (is_slice s) → IsPlaced s
+has_bits_of_slices s h =
     let width = leb 1 s.width && leb s.width 31 in
     let a = and_parts (leb (s.field_bit + s.width) 32) (leb (s.width + s.word_bit) 32 && width) h in
     let b = and_parts (leb (s.width + s.word_bit) 32) width a.1 in

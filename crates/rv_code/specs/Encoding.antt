@@ -25,13 +25,13 @@ abbrev pub bits_of_slice : Fields → FieldSlice → ℕ
 bits_of_slice f s = (bits_of_field s.field f / 2 ^ s.field_bit % 2 ^ s.width) * 2 ^ s.word_bit
 
 -- all of them together
-abbrev pub placed : Fields → List FieldSlice → ℕ
-placed f [] = 0
-placed f (s ∷ ss) = bits_of_slice f s + placed f ss
+abbrev pub bits_of_slices : Fields → List FieldSlice → ℕ
+bits_of_slices f [] = 0
+bits_of_slices f (s ∷ ss) = bits_of_slice f s + bits_of_slices f ss
 
 -- the fixed bits of the row, and each slice of a field at its place
 unfoldable pub encoding_of : Op → Fields → ℕ
-encoding_of o f = fixed_of o + placed f (slices_of (shape_of o))
+encoding_of o f = fixed_of o + bits_of_slices f (slices_of (shape_of o))
 
 -- as a word of thirty-two bits or of sixteen
 unfoldable pub word_of : Op → Fields → Word

@@ -3,7 +3,7 @@ ghost use Rattle.std.specs.Prelude.{◌≡◌, ◌+◌, ◌/◌, ◌%◌, ◌^�
 ghost use Rattle.std.specs.List.{list_all};
 ghost use Rattle.rv_ops.specs.Room.{is_slice, most, room};
 ghost use Rattle.rv_ops.specs.Table.{fixed_of, shape_of, slices_of};
-ghost use Rattle.rv_code.specs.Encoding.{bits_of_field, bits_of_slice, placed, encoding_of, word_of};
+ghost use Rattle.rv_code.specs.Encoding.{bits_of_field, bits_of_slice, bits_of_slices, encoding_of, word_of};
 
 use crate::instruction::{Fields, Ins};
 use crate::word::Word;
@@ -44,7 +44,7 @@ fn put(slice: &FieldSlice, fields: &Fields) -> u32
 fn assembled(fixed: u32, mut slices: &[FieldSlice], fields: &Fields) -> u32
     requires slices { IsTrue (list_all is_slice slices.now) }
     requires room { fixed + room slices.now < 2 ^ 32 }
-    ensures value { result ≡ fixed + placed fields.now slices.entry.now }
+    ensures value { result ≡ fixed + bits_of_slices fields.now slices.entry.now }
     ensures most { result ≤ fixed + room slices.entry.now }
 {
     let mut word = fixed;

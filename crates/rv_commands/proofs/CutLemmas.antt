@@ -64,13 +64,13 @@ pieces_unbroken (b ∷ bytes) e =
     let parts = both_false (nat_eq b 10) (list_any is_line_break bytes) e in
     rw (parts.0, pieces_unbroken bytes parts.1) refl
 
-pieces_front : (commands : List (List ℕ)) (more : List ℕ) → AreUnbroken commands → pieces_of (flat_map ended commands ++ more) ≡ commands ++ pieces_of more
-pieces_front [] more u = refl
-pieces_front (command ∷ commands) more u =
+pieces_prefix : (commands : List (List ℕ)) (more : List ℕ) → AreUnbroken commands → pieces_of (flat_map ended commands ++ more) ≡ commands ++ pieces_of more
+pieces_prefix [] more u = refl
+pieces_prefix (command ∷ commands) more u =
     let regrouped : flat_map ended (command ∷ commands) ++ more ≡ command ++ (10 ∷ (flat_map ended commands ++ more)) = simp append_assoc in
     ap pieces_of regrouped
     ∙ pieces_ended command (flat_map ended commands ++ more) u.0
-    ∙ ap (λ l. command ∷ l) (pieces_front commands more u.1)
+    ∙ ap (λ l. command ∷ l) (pieces_prefix commands more u.1)
 
 -- all but the last of two lists joined
 take_but_last : (xs ys : List (List ℕ)) → 0 < length ys → take (length (xs ++ ys) - 1) (xs ++ ys) ≡ xs ++ take (length ys - 1) ys
@@ -80,10 +80,10 @@ take_but_last (x ∷ xs) ys some =
     rw count (ap (λ l. x ∷ l) (take_but_last xs ys some))
 
 -- commands that were cut off are the first complete ones
-pub complete_front : (commands : List (List ℕ)) (more : List ℕ) → AreUnbroken commands → complete_commands (flat_map ended commands ++ more) ≡ commands ++ complete_commands more
-complete_front commands more u =
+pub complete_prefix : (commands : List (List ℕ)) (more : List ℕ) → AreUnbroken commands → complete_commands (flat_map ended commands ++ more) ≡ commands ++ complete_commands more
+complete_prefix commands more u =
     let some : 0 < length (pieces_of more) = omega (arith, length-slice_split is_line_break more) in
-    rw (pieces_front commands more u) (take_but_last commands (pieces_of more) some)
+    rw (pieces_prefix commands more u) (take_but_last commands (pieces_of more) some)
 
 -- no command is complete without a line break
 pub complete_unbroken : (rest : List ℕ) → IsUnbroken rest → complete_commands rest ≡ []
@@ -98,11 +98,11 @@ last_of (x ∷ xs) y =
 -- the commands of an input that was cut into commands and a last piece
 pub commands_whole : (commands : List (List ℕ)) (rest : List ℕ) → AreUnbroken commands → IsUnbroken rest → commands_of (flat_map ended commands ++ rest) ≡ commands ++ unless_empty rest
 commands_whole commands rest u last =
-    let complete : complete_commands (flat_map ended commands ++ rest) ≡ commands = rw (complete_front commands rest u, complete_unbroken rest last) (append-nil commands) in
-    let behind_it : last_piece (flat_map ended commands ++ rest) ≡ rest = rw (pieces_front commands rest u, pieces_unbroken rest last) (last_of commands rest) in
-    rw (complete, behind_it) refl
+    let complete : complete_commands (flat_map ended commands ++ rest) ≡ commands = rw (complete_prefix commands rest u, complete_unbroken rest last) (append-nil commands) in
+    let after_it : last_piece (flat_map ended commands ++ rest) ≡ rest = rw (pieces_prefix commands rest u, pieces_unbroken rest last) (last_of commands rest) in
+    rw (complete, after_it) refl
 
--- pending bytes are the front of the first command that a chunk ends
+-- pending bytes are the start of the first command that a chunk ends
 pub cut_joined : (pending chunk command next : List ℕ) (at : ℕ) → IsFirstByte (is_byte 10) chunk (Some at) → command ≡ pending ++ take at chunk → next ≡ drop 1 (drop at chunk) → pending ++ chunk ≡ command ++ (10 ∷ next)
 cut_joined pending chunk command next at f e n =
     rw (e, n) (ap (λ l. pending ++ l) (cut_first chunk at f) ∙ sym (append_assoc pending (take at chunk) (10 ∷ drop 1 (drop at chunk))))

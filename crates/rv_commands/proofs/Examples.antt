@@ -46,8 +46,8 @@ delete_nine_digits = refl
 delete_ten_digits : request_of (codes "d 1234567890") ≡ None
 delete_ten_digits = refl
 
-delete_blank_behind : request_of (codes "d 1 ") ≡ None
-delete_blank_behind = refl
+delete_blank_after : request_of (codes "d 1 ") ≡ None
+delete_blank_after = refl
 
 delete_joined : request_of (codes "d1") ≡ None
 delete_joined = refl
@@ -96,5 +96,5 @@ complete_with_last = refl
 none_complete : complete_commands (codes "d 1") ≡ []
 none_complete = refl
 
-behind_the_last_break : last_piece (codes "a\nd 1") ≡ codes "d 1"
-behind_the_last_break = refl
+after_the_last_break : last_piece (codes "a\nd 1") ≡ codes "d 1"
+after_the_last_break = refl

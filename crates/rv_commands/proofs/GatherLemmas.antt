@@ -2,7 +2,7 @@
 use Rattle.std.proofs.Common.{◌≡◌, ℕ, List, [], ◌∷◌, ◌++◌, Option, refl, ◌∙◌, append_assoc}
 use Rattle.std.proofs.lemmas.Grind.{flat_map-append}
 use Rattle.std.specs.List.{flat_map}
-use Rattle.rv_text.specs.Streams.{behind, WritesFront}
+use Rattle.rv_text.specs.Streams.{after, WritesPrefix}
 use Rattle.rv_store.specs.Text.{Text}
 use Rattle.rv_text.specs.Blocks.{Waits}
 use Rattle.rv_commands.specs.Transcript.{IsAnswer}
@@ -24,7 +24,7 @@ gathered_one old new bytes command next answer t0 t1 p0 p1 e u a w = record {
   waits = w;
 }
 
-pub loses_one : (old new : Text) (bytes command next answer : List ℕ) (t0 t1 : Option (List ℕ)) (p : List ℕ) → bytes ≡ command ++ (10 ∷ next) → IsUnbroken command → IsAnswer old command answer new → WritesFront t0 (p ++ answer) t1 → LosesAnswers old bytes t0 p t1
+pub loses_one : (old new : Text) (bytes command next answer : List ℕ) (t0 t1 : Option (List ℕ)) (p : List ℕ) → bytes ≡ command ++ (10 ∷ next) → IsUnbroken command → IsAnswer old command answer new → WritesPrefix t0 (p ++ answer) t1 → LosesAnswers old bytes t0 p t1
 loses_one old new bytes command next answer t0 t1 p e u a w = record {
   commands = command ∷ [];
   rest = next;
@@ -61,7 +61,7 @@ gathered_loses old between bytes middle t0 t1 t2 p0 p1 a b = record {
 }
 
 -- what was gathered is written
-pub gathered_end : (old new : Text) (bytes rest : List ℕ) (t0 t1 t2 : Option (List ℕ)) (p : List ℕ) → Gathered old bytes rest t0 [] t1 p new → t2 ≡ behind t1 p → Answered old bytes rest t0 t2 new
+pub gathered_end : (old new : Text) (bytes rest : List ℕ) (t0 t1 t2 : Option (List ℕ)) (p : List ℕ) → Gathered old bytes rest t0 [] t1 p new → t2 ≡ after t1 p → Answered old bytes rest t0 t2 new
 gathered_end old new bytes rest t0 t1 t2 p a e = record {
   commands = a.commands;
   output = a.output;
@@ -72,12 +72,12 @@ gathered_end old new bytes rest t0 t1 t2 p a e = record {
 }
 
 -- a write fails then
-pub gathered_end_lost : (old new : Text) (bytes rest : List ℕ) (t0 t1 t2 : Option (List ℕ)) (p : List ℕ) → Gathered old bytes rest t0 [] t1 p new → WritesFront t1 p t2 → StopsAtWrite old bytes t0 t2
+pub gathered_end_lost : (old new : Text) (bytes rest : List ℕ) (t0 t1 t2 : Option (List ℕ)) (p : List ℕ) → Gathered old bytes rest t0 [] t1 p new → WritesPrefix t1 p t2 → StopsAtWrite old bytes t0 t2
 gathered_end_lost old new bytes rest t0 t1 t2 p a w =
     let lost = waits_end_lost t0 t1 t2 p a.output a.waits w in record {
       commands = a.commands;
       rest = rest;
-      output = lost.front;
+      output = lost.prefix;
       lost = lost.rest;
       new = new;
       cut = a.cut;
@@ -91,7 +91,7 @@ pub loses_stops : (old : Text) (bytes : List ℕ) (t0 t1 : Option (List ℕ)) �
 loses_stops old bytes t0 t1 a = record {
   commands = a.commands;
   rest = a.rest;
-  output = a.taken.front;
+  output = a.taken.prefix;
   lost = a.taken.rest;
   new = a.new;
   cut = a.cut;

@@ -1,8 +1,8 @@
 -- From one read to the next, and how a run ends.
 use Rattle.std.proofs.Common.{◌≡◌, ℕ, ◌+◌, ◌-◌, ◌<◌, ◌≤◌, List, [], ◌∷◌, ◌++◌, length, take, Option, Some, None, refl, ap, sym, ◌∙◌, append_assoc, arith, inl, inr, length-append, Result, Ok, Err, IfErr, OnOk}
 use Rattle.std.proofs.lemmas.List.{append-nil, length-take-le}
-use Rattle.rv_text.specs.Streams.{before, behind, WritesFront}
-use Rattle.rv_text.specs.StreamLaws.{behind_behind, behind_none, before_before, before_none}
+use Rattle.rv_text.specs.Streams.{before, after, WritesPrefix}
+use Rattle.rv_text.specs.StreamLaws.{after_after, after_none, before_before, before_none}
 use Rattle.rv_store.specs.Text.{Text}
 use Rattle.rv_commands.specs.declared.run_error.RunError.{RunError}
 use Rattle.rv_commands.specs.declared.run_error.RunError.TheVariants.{Read, Write, Memory}
@@ -10,7 +10,7 @@ use Rattle.rv_commands.specs.Transcript.{IsAnswer, AreAnswers, complete_commands
 use Rattle.rv_commands.specs.Outcomes.{EndsWell, EndsByRead, EndsEarly}
 use Rattle.rv_commands.specs.Steps.{Answered, StopsAtWrite, StopsBy, ReadsChunk, TakesAll, TakesFront, Finishes, Progress, IsUnbroken}
 use Rattle.rv_commands.proofs.TranscriptLemmas.{answers_append, answers_one}
-use Rattle.rv_commands.proofs.CutLemmas.{complete_front, complete_unbroken, commands_whole}
+use Rattle.rv_commands.proofs.CutLemmas.{complete_prefix, complete_unbroken, commands_whole}
 use Rattle.rv_commands.proofs.StepLemmas.{answered_none, answered_then, answered_stops, answered_onto}
 
 no_bytes : (bytes : List ℕ) → length bytes ≡ 0 → bytes ≡ []
@@ -23,10 +23,10 @@ read_then l0 l1 l2 input chunk a b = a ∙ rw b (before_before l2 input chunk)
 
 -- what was answered are the first complete commands
 first_answered : (old new : Text) (bytes rest : List ℕ) (t0 t1 : Option (List ℕ)) → (a : Answered old bytes rest t0 t1 new) → complete_commands bytes ≡ a.commands ++ complete_commands rest
-first_answered old new bytes rest t0 t1 a = ap complete_commands a.cut ∙ complete_front a.commands rest a.unbroken
+first_answered old new bytes rest t0 t1 a = ap complete_commands a.cut ∙ complete_prefix a.commands rest a.unbroken
 
 first_tried : (old : Text) (bytes : List ℕ) (t0 t1 : Option (List ℕ)) → (a : StopsAtWrite old bytes t0 t1) → complete_commands bytes ≡ a.commands ++ complete_commands a.rest
-first_tried old bytes t0 t1 a = ap complete_commands a.cut ∙ complete_front a.commands a.rest a.unbroken
+first_tried old bytes t0 t1 a = ap complete_commands a.cut ∙ complete_prefix a.commands a.rest a.unbroken
 
 -- all of them, where the rest has no line break
 all_answered : (old new : Text) (bytes rest : List ℕ) (t0 t1 : Option (List ℕ)) → (a : Answered old bytes rest t0 t1 new) → IsUnbroken rest → AreAnswers old (complete_commands bytes) a.output new
@@ -130,36 +130,36 @@ ends_well (Ok x) base l0 l1 l2 t0 t1 t2 p last buffer text total most n same non
         all.new,
         rw (whole_answered (empty_text base) text g.input p t0 t1 g.answered g.unbroken) (answers_append (empty_text base) text all.new g.answered.commands (unless_empty p) g.answered.output all.output g.answered.answers all.answers),
       );
-      taken = rw (all.taken, g.answered.taken) (behind_behind t0 g.answered.output all.output);
+      taken = rw (all.taken, g.answered.taken) (after_after t0 g.answered.output all.output);
     }
 
 -- the input is at its end, and a write failed within the answer to its last piece
 pub ends_in_last : {A : Type 0} (result : Result A RunError) (base fb fa : ℕ) (l0 l1 l2 t0 t1 t2 : Option (List ℕ)) (p last buffer : List ℕ) (text : Text) (total most n : ℕ) → last ≡ p → n ≡ 0 → total ≤ 67108864 → Progress base l0 l1 t0 t1 p text total → ReadsChunk l1 l2 buffer most n → Finishes text last t1 result t2 → IfErr result (λ e. EndsEarly e base fb fa l0 l2 t0 t2)
 ends_in_last (Ok x) base fb fa l0 l1 l2 t0 t1 t2 p last buffer text total most n same none few g r f = tt
 ends_in_last (Err e) base fb fa l0 l1 l2 t0 t1 t2 p last buffer text total most n same none few g r f =
-    let front = rw same at f.1 in
+    let prefix = rw same at f.1 in
     rw f.0 (record {
       input = g.input;
       commands = g.answered.commands ++ unless_empty p;
-      output = g.answered.output ++ front.output;
-      lost = front.lost;
-      text = front.new;
+      output = g.answered.output ++ prefix.output;
+      lost = prefix.lost;
+      text = prefix.new;
       read = g.read ∙ ap (before g.input) (nothing_read l1 l2 buffer most n none r);
       few = rw g.size few;
       first = inr (r.end none, sym (whole_answered (empty_text base) text g.input p t0 t1 g.answered g.unbroken));
-      answers = rw append_assoc (answers_append (empty_text base) text front.new g.answered.commands (unless_empty p) g.answered.output (front.output ++ front.lost) g.answered.answers front.answers);
-      taken = rw (front.taken, g.answered.taken) (behind_behind t0 g.answered.output front.output);
+      answers = rw append_assoc (answers_append (empty_text base) text prefix.new g.answered.commands (unless_empty p) g.answered.output (prefix.output ++ prefix.lost) g.answered.answers prefix.answers);
+      taken = rw (prefix.taken, g.answered.taken) (after_after t0 g.answered.output prefix.output);
     })
 
 -- an empty last piece is no command
 pub takes_none : (old : Text) (piece : List ℕ) (taken : Option (List ℕ)) → length piece ≡ 0 → TakesAll old piece taken taken
-takes_none old [] taken e = record { output = []; new = old; answers = (refl, refl); taken = sym (behind_none taken) }
+takes_none old [] taken e = record { output = []; new = old; answers = (refl, refl); taken = sym (after_none taken) }
 takes_none old (b ∷ piece) taken e = absurd (omega arith)
 
-pub takes_all : (old new : Text) (piece answer : List ℕ) (t0 t1 : Option (List ℕ)) → (length piece ≡ 0 → ⊥) → IsAnswer old piece answer new → t1 ≡ behind t0 answer → TakesAll old piece t0 t1
+pub takes_all : (old new : Text) (piece answer : List ℕ) (t0 t1 : Option (List ℕ)) → (length piece ≡ 0 → ⊥) → IsAnswer old piece answer new → t1 ≡ after t0 answer → TakesAll old piece t0 t1
 takes_all old new [] answer t0 t1 some a t = absurd (some refl)
 takes_all old new (b ∷ piece) answer t0 t1 some a t = record { output = answer; new = new; answers = answers_one old new (b ∷ piece) answer a; taken = t }
 
-pub takes_front : (old new : Text) (piece answer : List ℕ) (t0 t1 : Option (List ℕ)) → (length piece ≡ 0 → ⊥) → IsAnswer old piece answer new → WritesFront t0 answer t1 → TakesFront old piece t0 t1
-takes_front old new [] answer t0 t1 some a w = absurd (some refl)
-takes_front old new (b ∷ piece) answer t0 t1 some a w = record { output = w.front; lost = w.rest; new = new; answers = rw (← w.whole) (answers_one old new (b ∷ piece) answer a); taken = w.taken }
+pub takes_prefix : (old new : Text) (piece answer : List ℕ) (t0 t1 : Option (List ℕ)) → (length piece ≡ 0 → ⊥) → IsAnswer old piece answer new → WritesPrefix t0 answer t1 → TakesFront old piece t0 t1
+takes_prefix old new [] answer t0 t1 some a w = absurd (some refl)
+takes_prefix old new (b ∷ piece) answer t0 t1 some a w = record { output = w.prefix; lost = w.rest; new = new; answers = rw (← w.whole) (answers_one old new (b ∷ piece) answer a); taken = w.taken }

@@ -1,6 +1,6 @@
 -- What a run has done when it ends.
 use Rattle.std.specs.Prelude.{◌≡◌, ℕ, ◌+◌, ◌≤◌, List, [], ◌++◌, length, Option, Result, Ok, Err, ◌⊎◌}
-use Rattle.rv_text.specs.Streams.{before, behind, IsAtEnd}
+use Rattle.rv_text.specs.Streams.{before, after, IsAtEnd}
 use Rattle.rv_store.specs.Text.{Text}
 use Rattle.rv_commands.specs.declared.run_error.RunError.{RunError}
 use Rattle.rv_commands.specs.declared.run_error.RunError.TheVariants.{Read, Write, Memory}
@@ -14,7 +14,7 @@ pub record EndsWell (base : ℕ) (left_before left_after taken_before taken_afte
   pub end : IsAtEnd left_after
   pub few : length input ≤ 67108864
   pub transcript : IsTranscript base input output
-  pub taken : taken_after ≡ behind taken_before output
+  pub taken : taken_after ≡ after taken_before output
 
 -- Why reading stopped: a call of the reader failed, or a byte came beyond the first 64 MiB.
 abbrev pub IsReadCause : ℕ → ℕ → List ℕ → List ℕ → Type 0
@@ -32,7 +32,7 @@ pub record EndsByRead (base failures_before failures_after : ℕ) (left_before l
   pub few : length input ≤ 67108864
   pub cause : IsReadCause failures_before failures_after input beyond
   pub answers : AreAnswers (empty_text base) (complete_commands input) output text
-  pub taken : taken_after ≡ behind taken_before output
+  pub taken : taken_after ≡ after taken_before output
 
 -- These are the first commands of what was read. Its last piece is one of them only where the reader is at its end.
 abbrev pub AreFirstCommands : List ℕ → Option (List ℕ) → List (List ℕ) → Type 0
@@ -40,7 +40,7 @@ AreFirstCommands input left commands =
     ((others : List (List ℕ)) × (complete_commands input ≡ commands ++ others))
     ⊎ (IsAtEnd left × (commands ≡ commands_of input))
 
--- A write failed: a front of the answers to the first commands was taken.
+-- A write failed: a prefix of the answers to the first commands was taken.
 pub record EndsByWrite (base : ℕ) (left_before left_after taken_before taken_after : Option (List ℕ)) : Type 0 where
   pub input : List ℕ
   pub commands : List (List ℕ)
@@ -51,7 +51,7 @@ pub record EndsByWrite (base : ℕ) (left_before left_after taken_before taken_a
   pub few : length input ≤ 67108864
   pub first : AreFirstCommands input left_after commands
   pub answers : AreAnswers (empty_text base) commands (output ++ lost) text
-  pub taken : taken_after ≡ behind taken_before output
+  pub taken : taken_after ≡ after taken_before output
 
 -- Memory ran out: the first of the complete commands were answered, each answer whole.
 pub record EndsByMemory (base : ℕ) (left_before left_after taken_before taken_after : Option (List ℕ)) : Type 0 where
@@ -64,7 +64,7 @@ pub record EndsByMemory (base : ℕ) (left_before left_after taken_before taken_
   pub few : length input ≤ 67108864
   pub first : complete_commands input ≡ commands ++ others
   pub answers : AreAnswers (empty_text base) commands output text
-  pub taken : taken_after ≡ behind taken_before output
+  pub taken : taken_after ≡ after taken_before output
 
 -- how a run ends early
 abbrev pub EndsEarly : RunError → ℕ → ℕ → ℕ → Option (List ℕ) → Option (List ℕ) → Option (List ℕ) → Option (List ℕ) → Type 0

@@ -1,7 +1,7 @@
 -- What the parts of a run do.
 use Rattle.std.specs.Prelude.{◌≡◌, ℕ, ◌≤◌, List, [], ◌∷◌, ◌++◌, length, take, false, Option, Result, Ok, Err}
 use Rattle.std.specs.List.{flat_map, list_any}
-use Rattle.rv_text.specs.Streams.{before, behind, IsAtEnd, Writes, WritesFront}
+use Rattle.rv_text.specs.Streams.{before, after, IsAtEnd, Writes, WritesPrefix}
 use Rattle.rv_store.specs.declared.edit_error.EditError.{EditError}
 use Rattle.rv_store.specs.Text.{Text}
 use Rattle.rv_commands.specs.declared.run_error.RunError.{RunError}
@@ -14,12 +14,12 @@ abbrev pub edit_answer : {A : Type 0} → ℕ → Result A EditError → List �
 edit_answer n (Ok _) = accepted n
 edit_answer n (Err reason) = refused reason
 
--- There is an answer to the command, and it was taken, or a front of it where a write failed.
+-- There is an answer to the command, and it was taken, or a prefix of it where a write failed.
 abbrev pub AnswersCommand : {A E : Type 0} → Text → List ℕ → Option (List ℕ) → Result A E → Option (List ℕ) → Text → Type 0
 AnswersCommand old command taken_before result taken_after new =
     (answer : List ℕ) × IsAnswer old command answer new × Writes taken_before answer result taken_after
 
--- There is an answer to the command, and it was gathered, or a front of what was waiting and of it was taken where a
+-- There is an answer to the command, and it was gathered, or a prefix of what was waiting and of it was taken where a
 -- write failed.
 abbrev pub GathersAnswer : {A E : Type 0} → Text → List ℕ → Option (List ℕ) → List ℕ → Result A E → Option (List ℕ) → List ℕ → Text → Type 0
 GathersAnswer old command taken_before waiting_before result taken_after waiting_after new =
@@ -47,7 +47,7 @@ pub record Gathered (old : Text) (bytes rest : List ℕ) (taken_before : Option 
   pub answers : AreAnswers old commands output new
   pub waits : Waits taken_before waiting_before output taken_after waiting_after
 
--- A front of what was waiting and of the answers to the first commands of these bytes was taken.
+-- A prefix of what was waiting and of the answers to the first commands of these bytes was taken.
 pub record LosesAnswers (old : Text) (bytes : List ℕ) (taken_before : Option (List ℕ)) (waiting : List ℕ) (taken_after : Option (List ℕ)) : Type 0 where
   pub commands : List (List ℕ)
   pub rest : List ℕ
@@ -56,7 +56,7 @@ pub record LosesAnswers (old : Text) (bytes : List ℕ) (taken_before : Option (
   pub cut : bytes ≡ flat_map ended commands ++ rest
   pub unbroken : AreUnbroken commands
   pub answers : AreAnswers old commands output new
-  pub taken : WritesFront taken_before (waiting ++ output) taken_after
+  pub taken : WritesPrefix taken_before (waiting ++ output) taken_after
 
 -- All commands of these bytes up to a rest are answered, and the answers were taken.
 pub record Answered (old : Text) (bytes rest : List ℕ) (taken_before taken_after : Option (List ℕ)) (new : Text) : Type 0 where
@@ -65,9 +65,9 @@ pub record Answered (old : Text) (bytes rest : List ℕ) (taken_before taken_aft
   pub cut : bytes ≡ flat_map ended commands ++ rest
   pub unbroken : AreUnbroken commands
   pub answers : AreAnswers old commands output new
-  pub taken : taken_after ≡ behind taken_before output
+  pub taken : taken_after ≡ after taken_before output
 
--- A front of the answers to the first commands of these bytes was taken.
+-- A prefix of the answers to the first commands of these bytes was taken.
 pub record StopsAtWrite (old : Text) (bytes : List ℕ) (taken_before taken_after : Option (List ℕ)) : Type 0 where
   pub commands : List (List ℕ)
   pub rest : List ℕ
@@ -77,7 +77,7 @@ pub record StopsAtWrite (old : Text) (bytes : List ℕ) (taken_before taken_afte
   pub cut : bytes ≡ flat_map ended commands ++ rest
   pub unbroken : AreUnbroken commands
   pub answers : AreAnswers old commands (output ++ lost) new
-  pub taken : taken_after ≡ behind taken_before output
+  pub taken : taken_after ≡ after taken_before output
 
 -- Where answering stops early: after a whole answer for want of memory, and within one where a write failed.
 abbrev pub StopsBy : RunError → Text → List ℕ → Option (List ℕ) → Option (List ℕ) → Type 0
@@ -86,7 +86,7 @@ StopsBy Write old bytes taken_before taken_after = StopsAtWrite old bytes taken_
 StopsBy Memory old bytes taken_before taken_after =
     (rest : List ℕ) × (new : Text) × Answered old bytes rest taken_before taken_after new
 
--- A front of n bytes of the buffer was read, and none only at the end.
+-- A prefix of n bytes of the buffer was read, and none only at the end.
 pub record ReadsChunk (left_before left_after : Option (List ℕ)) (buffer : List ℕ) (most n : ℕ) : Type 0 where
   pub read : left_before ≡ before (take n buffer) left_after
   pub within : n ≤ length buffer
@@ -98,15 +98,15 @@ pub record TakesAll (old : Text) (piece : List ℕ) (taken_before taken_after : 
   pub output : List ℕ
   pub new : Text
   pub answers : AreAnswers old (unless_empty piece) output new
-  pub taken : taken_after ≡ behind taken_before output
+  pub taken : taken_after ≡ after taken_before output
 
--- a front of it was taken
+-- a prefix of it was taken
 pub record TakesFront (old : Text) (piece : List ℕ) (taken_before taken_after : Option (List ℕ)) : Type 0 where
   pub output : List ℕ
   pub lost : List ℕ
   pub new : Text
   pub answers : AreAnswers old (unless_empty piece) (output ++ lost) new
-  pub taken : taken_after ≡ behind taken_before output
+  pub taken : taken_after ≡ after taken_before output
 
 -- the last piece of an input is answered
 abbrev pub Finishes : {A : Type 0} → Text → List ℕ → Option (List ℕ) → Result A RunError → Option (List ℕ) → Type 0

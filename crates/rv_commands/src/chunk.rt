@@ -11,7 +11,7 @@ use memchr::memchr;
 use rv_store::Store;
 use rv_text::{Failed, OutputBlock, Sink, Source};
 
-/// Reads some bytes, at most that many, to the front of the buffer, and says how many.
+/// Reads some bytes, at most that many, to the start of the buffer, and says how many.
 pub fn read_chunk<R: Source>(
     source: &mut R,
     buffer: &mut [u8],
@@ -24,8 +24,8 @@ pub fn read_chunk<R: Source>(
     ensures failed { OnErr result (R.left source.new ≡ R.left source.old) }
     ensures count { R.failures source.new ≡ failures_after (R.failures source.old) result }
 {
-    let (front, _) = buffer.split_at_mut(most.min(buffer.len()));
-    source.read(front)
+    let (prefix, _) = buffer.split_at_mut(most.min(buffer.len()));
+    source.read(prefix)
 }
 
 /// Gathers the answer to each command of these bytes that a line break ends, and returns what is left of them.

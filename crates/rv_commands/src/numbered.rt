@@ -5,7 +5,7 @@ ghost use Rattle.rv_text.specs.Streams.{failures_after};
 ghost use Rattle.rv_text.specs.Blocks.{Gathers};
 ghost use Rattle.rv_commands.specs.Transcript.{numbered};
 
-use rv_text::{Failed, OutputBlock, Row, Sink};
+use rv_text::{Failed, OutputBlock, OutputRow, Sink};
 
 /// Adds a word, a number in decimal and a line break.
 #[tactic(auto, unfolding(crate::specs::Transcript::numbered))]
@@ -20,7 +20,7 @@ pub fn push_numbered<W: Sink>(
     ensures text { Gathers (W.taken sink.old) block.old (numbered word.now n) result (W.taken sink.new) block.new }
     ensures count { W.failures sink.new ≡ failures_after (W.failures sink.old) result }
 {
-    let mut row = Row::new();
+    let mut row = OutputRow::new();
     row.push_text(word);
     row.push_decimal(n);
     row.push_text(b"\n");

@@ -1,13 +1,13 @@
 -- Examples of the definitions, computed.
 use Rattle.std.specs.Prelude.{◌≡◌, ℕ, ℤ, pos, negsuc, List, [], ◌∷◌, Option, Some, None, Result, Ok, Err, codes, refl, option_map}
-use Rattle.rv_text.specs.Lexing.{lexed_line, pieces}
+use Rattle.rv_text.specs.Lexing.{lexed_line, spelled_tokens}
 use Rattle.rv_text.specs.declared.lexeme.TokenKind.TheVariants as kinds
 use Rattle.rv_expr.specs.declared.faults.ValueFault.{ValueFault}
 use Rattle.rv_expr.specs.declared.faults.ValueFault.TheVariants.{Undefined, Arithmetic, NoPartner}
 use Rattle.rv_expr.specs.declared.tree.Direction.TheVariants.{Back, Forward}
 use Rattle.rv_expr.specs.Depth.{depth_of}
 use Rattle.rv_expr.specs.Reading.{expression_of, run_of}
-use Rattle.rv_expr.specs.Tree.{Tree, Number, Word, Local, Here}
+use Rattle.rv_expr.specs.Tree.{Tree, Number, Symbol, Local, Here}
 use Rattle.rv_expr.specs.Value.{Environment, value_of}
 
 -- no name is defined, and the line's address is 100
@@ -20,7 +20,7 @@ nothing = record {
 }
 
 abbrev read_as : List ℕ → Option Tree
-read_as text = expression_of (pieces (lexed_line text))
+read_as text = expression_of (spelled_tokens (lexed_line text))
 
 abbrev value_at : List ℕ → Option (Result ℤ ValueFault)
 value_at text = option_map (value_of nothing) (read_as text)
@@ -108,13 +108,13 @@ left_arithmetic_first : value_at (codes "1/0 + zz") ≡ Some (Err Arithmetic)
 left_arithmetic_first = refl
 
 -- operands
-register_is_symbol : read_as (codes "a0") ≡ Some (Word (codes "a0"))
+register_is_symbol : read_as (codes "a0") ≡ Some (Symbol (codes "a0"))
 register_is_symbol = refl
 
 place : read_as (codes ".") ≡ Some Here
 place = refl
 
-two_dots : read_as (codes "..") ≡ Some (Word (codes ".."))
+two_dots : read_as (codes "..") ≡ Some (Symbol (codes ".."))
 two_dots = refl
 
 back : read_as (codes "12b") ≡ Some (Local 12 Back)
@@ -167,18 +167,18 @@ comma : read_as (codes "1, 2") ≡ None
 comma = refl
 
 -- a run of a line's tokens
-last_operand : run_of (lexed_line (codes "li a0, -1")) 3 5 ≡ pieces (record { line = codes "li a0, -1"; tokens = record { kind = kinds.Sign; span = record { from = 7; to = 8 } } ∷ record { kind = kinds.Number; span = record { from = 8; to = 9 } } ∷ []; fault = None })
+last_operand : run_of (lexed_line (codes "li a0, -1")) 3 5 ≡ spelled_tokens (record { line = codes "li a0, -1"; tokens = record { kind = kinds.Punctuation; span = record { from = 7; to = 8 } } ∷ record { kind = kinds.Number; span = record { from = 8; to = 9 } } ∷ []; fault = None })
 last_operand = refl
 
 -- parentheses that are open at one place
-depth_of_pairs : depth_of (pieces (lexed_line (codes "(1)(2)"))) ≡ 1
+depth_of_pairs : depth_of (spelled_tokens (lexed_line (codes "(1)(2)"))) ≡ 1
 depth_of_pairs = refl
 
-depth_inside : depth_of (pieces (lexed_line (codes "((1) + ((2)))"))) ≡ 3
+depth_inside : depth_of (spelled_tokens (lexed_line (codes "((1) + ((2)))"))) ≡ 3
 depth_inside = refl
 
-depth_of_unopened : depth_of (pieces (lexed_line (codes ") + (("))) ≡ 2
+depth_of_unopened : depth_of (spelled_tokens (lexed_line (codes ") + (("))) ≡ 2
 depth_of_unopened = refl
 
-depth_of_signs : depth_of (pieces (lexed_line (codes "- - ~1"))) ≡ 0
+depth_of_signs : depth_of (spelled_tokens (lexed_line (codes "- - ~1"))) ≡ 0
 depth_of_signs = refl

@@ -3,47 +3,47 @@ use Rattle.std.proofs.Common.{◌≡◌, ℕ, zero, suc, ◌+◌, ◌-◌, ◌<�
 use Rattle.std.proofs.Math.Nat.{le-max_right, max-le}
 use Rattle.std.proofs.lemmas.Bool.{cases_lt}
 use Rattle.std.proofs.lemmas.List.{append-nil}
-use Rattle.rv_text.specs.Lexing.{Piece}
+use Rattle.rv_text.specs.Lexing.{SpelledToken}
 use Rattle.rv_expr.specs.Depth.{depth_after, depth_from, depth_of}
 use Rattle.rv_expr.specs.OpenAtOnce.{openings, closings, AreOpenAtOnce}
 use Rattle.rv_expr.specs.TokenRoles.{TokenRole, Operand, Operator, Open, Close, token_role}
 use Rattle.rv_expr.proofs.Depths.{depth-least}
 
 -- what is open after a stretch, and was not before it, the stretch has opened
-stretch-open : (depth : ℕ) (stretch behind : List TokenRole) → openings stretch + depth ≤ closings stretch + depth_from depth (stretch ++ behind)
-stretch-open depth [] behind =
-    let least = depth-least depth behind in
+stretch-open : (depth : ℕ) (stretch after : List TokenRole) → openings stretch + depth ≤ closings stretch + depth_from depth (stretch ++ after)
+stretch-open depth [] after =
+    let least = depth-least depth after in
     omega (arith, least)
-stretch-open depth (Open ∷ rs) behind =
-    let inner = stretch-open (suc depth) rs behind in
-    let most = le-max_right depth (depth_from (suc depth) (rs ++ behind)) in
+stretch-open depth (Open ∷ rs) after =
+    let inner = stretch-open (suc depth) rs after in
+    let most = le-max_right depth (depth_from (suc depth) (rs ++ after)) in
     omega (arith, inner, most)
-stretch-open depth (Close ∷ rs) behind =
-    let inner = stretch-open (depth - 1) rs behind in
-    let most = le-max_right depth (depth_from (depth - 1) (rs ++ behind)) in
+stretch-open depth (Close ∷ rs) after =
+    let inner = stretch-open (depth - 1) rs after in
+    let most = le-max_right depth (depth_from (depth - 1) (rs ++ after)) in
     omega (arith, inner, most)
-stretch-open depth (Operand e ∷ rs) behind =
-    let inner = stretch-open depth rs behind in
-    let most = le-max_right depth (depth_from depth (rs ++ behind)) in
+stretch-open depth (Operand e ∷ rs) after =
+    let inner = stretch-open depth rs after in
+    let most = le-max_right depth (depth_from depth (rs ++ after)) in
     omega (arith, inner, most)
-stretch-open depth (Operator u b ∷ rs) behind =
-    let inner = stretch-open depth rs behind in
-    let most = le-max_right depth (depth_from depth (rs ++ behind)) in
+stretch-open depth (Operator u b ∷ rs) after =
+    let inner = stretch-open depth rs after in
+    let most = le-max_right depth (depth_from depth (rs ++ after)) in
     omega (arith, inner, most)
 
 -- and so deep it is from any place before
-open-deep : (count depth : ℕ) (before stretch behind : List TokenRole) → closings stretch + count ≤ openings stretch → count ≤ depth_from depth (before ++ (stretch ++ behind))
-open-deep count depth [] stretch behind h =
-    let all = stretch-open depth stretch behind in
+open-deep : (count depth : ℕ) (before stretch after : List TokenRole) → closings stretch + count ≤ openings stretch → count ≤ depth_from depth (before ++ (stretch ++ after))
+open-deep count depth [] stretch after h =
+    let all = stretch-open depth stretch after in
     omega (arith, all, h)
-open-deep count depth (r ∷ rs) stretch behind h =
-    let inner = open-deep count (depth_after depth r) rs stretch behind h in
-    let most = le-max_right depth (depth_from (depth_after depth r) (rs ++ (stretch ++ behind))) in
+open-deep count depth (r ∷ rs) stretch after h =
+    let inner = open-deep count (depth_after depth r) rs stretch after h in
+    let most = le-max_right depth (depth_from (depth_after depth r) (rs ++ (stretch ++ after))) in
     omega (arith, inner, most)
 
-pub depth_from_open : (count : ℕ) (run : List Piece) → AreOpenAtOnce count run → count ≤ depth_of run
+pub depth_from_open : (count : ℕ) (run : List SpelledToken) → AreOpenAtOnce count run → count ≤ depth_of run
 depth_from_open count run o =
-    rw o.whole (open-deep count 0 o.before o.stretch o.behind o.opened)
+    rw o.whole (open-deep count 0 o.before o.stretch o.after o.opened)
 
 -- the parentheses that are open at a place, where so many are, stand in a stretch that ends there
 record Open-here (depth : ℕ) (taken : List TokenRole) : Type 0 where
@@ -78,25 +78,25 @@ longer depth next taken r o same = record {
 none-open : (taken : List TokenRole) → Open-here 0 taken
 none-open taken = record { before = taken; stretch = []; whole = sym (append-nil taken); opened = refl }
 
-open_behind : (depth : ℕ) (taken : List TokenRole) (r : TokenRole) → Open-here depth taken → Open-here (depth_after depth r) (taken ++ r ∷ [])
-open_behind depth taken Open o = longer depth (suc depth) taken Open o (omega arith)
-open_behind zero taken Close o = none-open (taken ++ Close ∷ [])
-open_behind (suc depth) taken Close o = longer (suc depth) (suc depth - 1) taken Close o (omega arith)
-open_behind depth taken (Operand e) o = longer depth depth taken (Operand e) o refl
-open_behind depth taken (Operator u b) o = longer depth depth taken (Operator u b) o refl
+open_after : (depth : ℕ) (taken : List TokenRole) (r : TokenRole) → Open-here depth taken → Open-here (depth_after depth r) (taken ++ r ∷ [])
+open_after depth taken Open o = longer depth (suc depth) taken Open o (omega arith)
+open_after zero taken Close o = none-open (taken ++ Close ∷ [])
+open_after (suc depth) taken Close o = longer (suc depth) (suc depth - 1) taken Close o (omega arith)
+open_after depth taken (Operand e) o = longer depth depth taken (Operand e) o refl
+open_after depth taken (Operator u b) o = longer depth depth taken (Operator u b) o refl
 
 record Stretch (count : ℕ) (roles : List TokenRole) : Type 0 where
   before : List TokenRole
   stretch : List TokenRole
-  behind : List TokenRole
-  whole : roles ≡ before ++ (stretch ++ behind)
+  after : List TokenRole
+  whole : roles ≡ before ++ (stretch ++ after)
   opened : closings stretch + count ≤ openings stretch
 
 here-open : (count depth : ℕ) (taken rs : List TokenRole) → Open-here depth taken → count ≤ depth → Stretch count (taken ++ rs)
 here-open count depth taken rs o h = record {
   before = o.before;
   stretch = o.stretch;
-  behind = rs;
+  after = rs;
   whole = ap (λ xs. xs ++ rs) o.whole ∙ append_assoc o.before o.stretch rs;
   opened = omega (arith, o.opened, h);
 }
@@ -120,11 +120,11 @@ found count depth taken (r ∷ rs) o h =
     (λ enough. enough)
     (cases_lt (depth_from (depth_after depth r) rs) count)
     in
-    rw (sym (append_assoc taken (r ∷ []) rs)) (found count (depth_after depth r) (taken ++ r ∷ []) rs (open_behind depth taken r o) inner))
+    rw (sym (append_assoc taken (r ∷ []) rs)) (found count (depth_after depth r) (taken ++ r ∷ []) rs (open_after depth taken r o) inner))
     (λ here. here-open count depth taken (r ∷ rs) o here)
     (cases_lt depth count)
 
-pub open_from_depth : (count : ℕ) (run : List Piece) → count ≤ depth_of run → AreOpenAtOnce count run
+pub open_from_depth : (count : ℕ) (run : List SpelledToken) → count ≤ depth_of run → AreOpenAtOnce count run
 open_from_depth count run h =
     let s = found count 0 [] (map token_role run) (none-open []) h in
-    record { before = s.before; stretch = s.stretch; behind = s.behind; whole = s.whole; opened = s.opened }
+    record { before = s.before; stretch = s.stretch; after = s.after; whole = s.whole; opened = s.opened }

@@ -11,7 +11,7 @@ use Rattle.rv_expr.specs.Tree.{Tree, Unary, Binary, level}
 use Rattle.rv_expr.specs.TokenRoles.{TokenRole, Operand, Operator, Open, Close}
 use Rattle.rv_expr.specs.declared.reading.Pending.{Pending}
 use Rattle.rv_expr.specs.declared.reading.Pending.TheVariants.{Before, After, Parenthesis}
-use Rattle.rv_expr.specs.Reading.{signed, joined, closed, alone, wanted, reached}
+use Rattle.rv_expr.specs.Reading.{signed, joined, closed, alone, expecting_operand, after_operand}
 use Rattle.rv_expr.proofs.RoleGrammar.{RolesSpell, atom, parens, unary, binary, looser}
 use Rattle.rv_expr.proofs.SpelledIsRead.{Above}
 
@@ -154,36 +154,36 @@ closed-found next (Parenthesis ∷ ws) ds rs e t st s h =
     }
 
 mutual
-  from_wanted : (ps : List TokenRole) (ws : List Pending) (cs : List TokenRole) (e : Tree) → Stands ws cs → wanted ws ps ≡ Some e → RolesSpell 3 (cs ++ ps) e
-  from_wanted [] ws cs e st h = absurd (none-some e h)
-  from_wanted (Operand a ∷ ps) ws cs e st h =
-      let found = signed-found (λ vs f. reached vs f ps) ws cs (Operand a ∷ []) a e st atom h in
-      let there = from_reached ps found.ws found.e found.ds found.rs e found.stands found.above found.spells found.goes in
+  from_expecting_operand : (ps : List TokenRole) (ws : List Pending) (cs : List TokenRole) (e : Tree) → Stands ws cs → expecting_operand ws ps ≡ Some e → RolesSpell 3 (cs ++ ps) e
+  from_expecting_operand [] ws cs e st h = absurd (none-some e h)
+  from_expecting_operand (Operand a ∷ ps) ws cs e st h =
+      let found = signed-found (λ vs f. after_operand vs f ps) ws cs (Operand a ∷ []) a e st atom h in
+      let there = from_after_operand ps found.ws found.e found.ds found.rs e found.stands found.above found.spells found.goes in
       subst (λ xs. RolesSpell 3 xs e) (regrouped found.ds found.rs ps cs (Operand a ∷ []) found.same) there
-  from_wanted (Operator None b ∷ ps) ws cs e st h = absurd (none-some e h)
-  from_wanted (Operator (Some op) b ∷ ps) ws cs e st h =
-      subst (λ xs. RolesSpell 3 xs e) (append_assoc cs (Operator (Some op) b ∷ []) ps) (from_wanted ps (Before op ∷ ws) (cs ++ Operator (Some op) b ∷ []) e (b, cs, st, refl) h)
-  from_wanted (Open ∷ ps) ws cs e st h =
-      subst (λ xs. RolesSpell 3 xs e) (append_assoc cs (Open ∷ []) ps) (from_wanted ps (Parenthesis ∷ ws) (cs ++ Open ∷ []) e (cs, st, refl) h)
-  from_wanted (Close ∷ ps) ws cs e st h = absurd (none-some e h)
+  from_expecting_operand (Operator None b ∷ ps) ws cs e st h = absurd (none-some e h)
+  from_expecting_operand (Operator (Some op) b ∷ ps) ws cs e st h =
+      subst (λ xs. RolesSpell 3 xs e) (append_assoc cs (Operator (Some op) b ∷ []) ps) (from_expecting_operand ps (Before op ∷ ws) (cs ++ Operator (Some op) b ∷ []) e (b, cs, st, refl) h)
+  from_expecting_operand (Open ∷ ps) ws cs e st h =
+      subst (λ xs. RolesSpell 3 xs e) (append_assoc cs (Open ∷ []) ps) (from_expecting_operand ps (Parenthesis ∷ ws) (cs ++ Open ∷ []) e (cs, st, refl) h)
+  from_expecting_operand (Close ∷ ps) ws cs e st h = absurd (none-some e h)
 
-  from_reached : (ps : List TokenRole) (ws : List Pending) (f : Tree) (cs qs : List TokenRole) (e : Tree) → Stands ws cs → Above 0 ws → RolesSpell 0 qs f → reached ws f ps ≡ Some e → RolesSpell 3 (cs ++ (qs ++ ps)) e
-  from_reached [] ws f cs qs e st ab s h =
+  from_after_operand : (ps : List TokenRole) (ws : List Pending) (f : Tree) (cs qs : List TokenRole) (e : Tree) → Stands ws cs → Above 0 ws → RolesSpell 0 qs f → after_operand ws f ps ≡ Some e → RolesSpell 3 (cs ++ (qs ++ ps)) e
+  from_after_operand [] ws f cs qs e st ab s h =
       let found = joined-found 3 alone ws 0 cs qs f e (omega arith) st ab s h in
       subst (λ xs. RolesSpell 3 xs e) (found.same ∙ ap (λ xs. cs ++ xs) (sym (append-nil qs))) (finish found.ws found.ds found.rs found.e e found.stands found.spells found.goes)
-  from_reached (Operand a ∷ ps) ws f cs qs e st ab s h = absurd (none-some e h)
-  from_reached (Operator u None ∷ ps) ws f cs qs e st ab s h = absurd (none-some e h)
-  from_reached (Operator u (Some op) ∷ ps) ws f cs qs e st ab s h =
-      let found = joined-found (level op) (λ vs g. wanted (After op g ∷ vs) ps) ws 0 cs qs f e (omega arith) st ab s h in
-      let there = from_wanted ps (After op found.e ∷ found.ws) (found.ds ++ (found.rs ++ Operator u (Some op) ∷ [])) e (u, found.ds, found.rs, found.stands, found.above, found.spells, refl) found.goes in
+  from_after_operand (Operand a ∷ ps) ws f cs qs e st ab s h = absurd (none-some e h)
+  from_after_operand (Operator u None ∷ ps) ws f cs qs e st ab s h = absurd (none-some e h)
+  from_after_operand (Operator u (Some op) ∷ ps) ws f cs qs e st ab s h =
+      let found = joined-found (level op) (λ vs g. expecting_operand (After op g ∷ vs) ps) ws 0 cs qs f e (omega arith) st ab s h in
+      let there = from_expecting_operand ps (After op found.e ∷ found.ws) (found.ds ++ (found.rs ++ Operator u (Some op) ∷ [])) e (u, found.ds, found.rs, found.stands, found.above, found.spells, refl) found.goes in
       subst (λ xs. RolesSpell 3 xs e) (operator_regrouped found.ds found.rs (Operator u (Some op)) ps cs qs found.same) there
-  from_reached (Open ∷ ps) ws f cs qs e st ab s h = absurd (none-some e h)
-  from_reached (Close ∷ ps) ws f cs qs e st ab s h =
-      let inner = joined-found 3 (closed (signed (λ vs g. reached vs g ps))) ws 0 cs qs f e (omega arith) st ab s h in
-      let found = closed-found (λ vs g. reached vs g ps) inner.ws inner.ds inner.rs inner.e e inner.stands inner.spells inner.goes in
-      let there = from_reached ps found.ws found.e found.ds found.rs e found.stands found.above found.spells found.goes in
+  from_after_operand (Open ∷ ps) ws f cs qs e st ab s h = absurd (none-some e h)
+  from_after_operand (Close ∷ ps) ws f cs qs e st ab s h =
+      let inner = joined-found 3 (closed (signed (λ vs g. after_operand vs g ps))) ws 0 cs qs f e (omega arith) st ab s h in
+      let found = closed-found (λ vs g. after_operand vs g ps) inner.ws inner.ds inner.rs inner.e e inner.stands inner.spells inner.goes in
+      let there = from_after_operand ps found.ws found.e found.ds found.rs e found.stands found.above found.spells found.goes in
       subst (λ xs. RolesSpell 3 xs e) (close_regrouped found.ds found.rs ps inner.ds inner.rs cs qs found.same inner.same) there
 
 -- what is read, the roles spell
-pub spelled_from_wanted : (ps : List TokenRole) (e : Tree) → wanted [] ps ≡ Some e → RolesSpell 3 ps e
-spelled_from_wanted ps e h = from_wanted ps [] [] e refl h
+pub spelled_from_expecting_operand : (ps : List TokenRole) (e : Tree) → expecting_operand [] ps ≡ Some e → RolesSpell 3 ps e
+spelled_from_expecting_operand ps e h = from_expecting_operand ps [] [] e refl h

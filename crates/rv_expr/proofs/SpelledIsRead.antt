@@ -8,7 +8,7 @@ use Rattle.rv_expr.specs.Tree.{Tree, Binary, level}
 use Rattle.rv_expr.specs.TokenRoles.{TokenRole, Operator, Open, Close}
 use Rattle.rv_expr.specs.declared.reading.Pending.{Pending}
 use Rattle.rv_expr.specs.declared.reading.Pending.TheVariants.{Before, After, Parenthesis}
-use Rattle.rv_expr.specs.Reading.{signed, joined, closed, alone, wanted, reached}
+use Rattle.rv_expr.specs.Reading.{signed, joined, closed, alone, expecting_operand, after_operand}
 use Rattle.rv_expr.proofs.RoleGrammar.{RolesSpell, atom, parens, unary, binary, looser}
 
 -- no unary operator waits, and no binary one that binds as tightly as the bound
@@ -38,20 +38,20 @@ Above-less bound (Parenthesis ∷ ws) h = tt
 
 -- an operand with its unary operators is there for what waits
 pub record SignedOperand (ps : List TokenRole) (e : Tree) : Type 0 where
-  pub there : (ws : List Pending) (qs : List TokenRole) → wanted ws (ps ++ qs) ≡ signed (λ vs f. reached vs f qs) ws e
+  pub there : (ws : List Pending) (qs : List TokenRole) → expecting_operand ws (ps ++ qs) ≡ signed (λ vs f. after_operand vs f qs) ws e
 
 -- after the roles, an operator that binds as loosely as the bound finds the tree
 pub record Chain (bound : ℕ) (ps : List TokenRole) (e : Tree) (ws : List Pending) : Type 0 where
   pub waiting : List Pending
   pub last : Tree
-  pub there : (qs : List TokenRole) → wanted ws (ps ++ qs) ≡ reached waiting last qs
+  pub there : (qs : List TokenRole) → expecting_operand ws (ps ++ qs) ≡ after_operand waiting last qs
   pub joins : (m : ℕ) (next : List Pending → Tree → Option Tree) → bound ≤ m → joined m next waiting last ≡ joined m next ws e
 
 chain-from_operand : (bound : ℕ) (ps : List TokenRole) (e : Tree) (ws : List Pending) → SignedOperand ps e → Above bound ws → Chain bound ps e ws
 chain-from_operand bound ps e ws o h = record {
   waiting = ws;
   last = e;
-  there = λ qs. o.there ws qs ∙ signed-above bound (λ vs f. reached vs f qs) ws e h;
+  there = λ qs. o.there ws qs ∙ signed-above bound (λ vs f. after_operand vs f qs) ws e h;
   joins = λ m next le. refl;
 }
 
@@ -76,9 +76,9 @@ parens-read : (ps : List TokenRole) (e : Tree) → Reads 3 ps e → SignedOperan
 parens-read ps e r = record {
   there = λ ws qs.
       let c = chain_at 3 ps e r (Parenthesis ∷ ws) tt in
-      ap (wanted (Parenthesis ∷ ws)) (append_assoc ps (Close ∷ []) qs)
+      ap (expecting_operand (Parenthesis ∷ ws)) (append_assoc ps (Close ∷ []) qs)
       ∙ c.there (Close ∷ qs)
-      ∙ c.joins 3 (closed (signed (λ vs f. reached vs f qs))) (omega arith);
+      ∙ c.joins 3 (closed (signed (λ vs f. after_operand vs f qs))) (omega arith);
 }
 
 binary-read : (bound : ℕ) (op : BinaryOp) (u : Option UnaryOp) (ps qs : List TokenRole) (a b : Tree) → level op ≡ suc bound → Reads (suc bound) ps a → Reads bound qs b → Reads (suc bound) (ps ++ Operator u (Some op) ∷ qs) (Binary op a b)
@@ -90,10 +90,10 @@ binary-read bound op u ps qs a b is r t ws h =
       waiting = right.waiting;
       last = right.last;
       there = λ rest.
-          ap (wanted ws) (append_assoc ps (Operator u (Some op) ∷ qs) rest)
+          ap (expecting_operand ws) (append_assoc ps (Operator u (Some op) ∷ qs) rest)
           ∙ left.there (Operator u (Some op) ∷ (qs ++ rest))
-          ∙ left.joins (level op) (λ vs f. wanted (After op f ∷ vs) (qs ++ rest)) (omega arith)
-          ∙ joined-above (level op) (λ vs f. wanted (After op f ∷ vs) (qs ++ rest)) ws a outer
+          ∙ left.joins (level op) (λ vs f. expecting_operand (After op f ∷ vs) (qs ++ rest)) (omega arith)
+          ∙ joined-above (level op) (λ vs f. expecting_operand (After op f ∷ vs) (qs ++ rest)) ws a outer
           ∙ right.there rest;
       joins = λ m next le. right.joins m next (omega arith) ∙ rw (le-leb (level op) m (omega arith)) refl;
     }
@@ -106,7 +106,7 @@ reads (binary {bound} {op} u {ps} {qs} {a} {b} is s t) = binary-read bound op u 
 reads (looser {bound} {rs} {e} s) = λ ws h. chain-weaker bound rs e ws (chain_at bound rs e (reads s) ws (Above-less bound ws h))
 
 -- what the roles spell is read
-pub wanted_from_spelled : (ps : List TokenRole) (e : Tree) → RolesSpell 3 ps e → wanted [] ps ≡ Some e
-wanted_from_spelled ps e s =
+pub expecting_operand_from_spelled : (ps : List TokenRole) (e : Tree) → RolesSpell 3 ps e → expecting_operand [] ps ≡ Some e
+expecting_operand_from_spelled ps e s =
     let c = chain_at 3 ps e (reads s) [] tt in
-    ap (wanted []) (sym (append-nil ps)) ∙ c.there [] ∙ c.joins 3 alone (omega arith)
+    ap (expecting_operand []) (sym (append-nil ps)) ∙ c.there [] ∙ c.joins 3 alone (omega arith)

@@ -1,6 +1,6 @@
 -- How many parentheses are open. (docs/LANGUAGE.md, Expressions)
 use Rattle.std.specs.Prelude.{ℕ, suc, ◌-◌, max, List, [], ◌∷◌, map}
-use Rattle.rv_text.specs.Lexing.{Piece}
+use Rattle.rv_text.specs.Lexing.{SpelledToken}
 use Rattle.rv_expr.specs.TokenRoles.{TokenRole, Operand, Operator, Open, Close, token_role}
 
 -- how many are open after a token, where `depth` are open before it; a `)` that closes none counts for nothing
@@ -16,5 +16,5 @@ depth_from depth [] = depth
 depth_from depth (r ∷ rs) = max depth (depth_from (depth_after depth r) rs)
 
 -- the most parentheses of a run of tokens that are open at one place
-abbrev pub depth_of : List Piece → ℕ
+abbrev pub depth_of : List SpelledToken → ℕ
 depth_of run = depth_from 0 (map token_role run)

@@ -1,6 +1,6 @@
 -- What it is that parentheses are open at one place. (docs/LANGUAGE.md, Expressions)
 use Rattle.std.specs.Prelude.{◌≡◌, ℕ, ◌+◌, ◌≤◌, List, [], ◌∷◌, ◌++◌, map}
-use Rattle.rv_text.specs.Lexing.{Piece}
+use Rattle.rv_text.specs.Lexing.{SpelledToken}
 use Rattle.rv_expr.specs.TokenRoles.{TokenRole, Operand, Operator, Open, Close, token_role}
 
 -- how many `(` there are
@@ -20,9 +20,9 @@ closings (Operand e ∷ rs) = closings rs
 closings (Operator unary binary ∷ rs) = closings rs
 
 -- so many are open at one place: those that a stretch of the tokens opens and does not close
-pub record AreOpenAtOnce (count : ℕ) (run : List Piece) : Type 0 where
+pub record AreOpenAtOnce (count : ℕ) (run : List SpelledToken) : Type 0 where
   pub before : List TokenRole
   pub stretch : List TokenRole
-  pub behind : List TokenRole
-  pub whole : map token_role run ≡ before ++ (stretch ++ behind)
+  pub after : List TokenRole
+  pub whole : map token_role run ≡ before ++ (stretch ++ after)
   pub opened : closings stretch + count ≤ openings stretch

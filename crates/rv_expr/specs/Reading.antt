@@ -1,14 +1,14 @@
 -- The tree of a run of tokens. (docs/LANGUAGE.md, Expressions)
 use Rattle.std.specs.Prelude.{ℕ, nat_le, List, [], ◌∷◌, map, Option, Some, None, slice_range, if◌then◌else◌}
-use Rattle.rv_text.specs.Lexing.{LexedLine, Piece, pieces}
+use Rattle.rv_text.specs.Lexing.{LexedLine, SpelledToken, spelled_tokens}
 use Rattle.rv_expr.specs.declared.reading.Pending.{Pending}
 use Rattle.rv_expr.specs.declared.reading.Pending.TheVariants.{Before, After, Parenthesis}
 use Rattle.rv_expr.specs.TokenRoles.{TokenRole, Operand, Operator, Open, Close, token_role}
 use Rattle.rv_expr.specs.Tree.{Tree, Unary, Binary, level}
 
 -- the tokens of a line from a place up to, and without, another
-abbrev pub run_of : LexedLine → ℕ → ℕ → List Piece
-run_of line from to = slice_range (pieces line) from to
+abbrev pub run_of : LexedLine → ℕ → ℕ → List SpelledToken
+run_of line from to = slice_range (spelled_tokens line) from to
 
 -- The lists hold what waits for an operand, the innermost first, and `next` goes on from there.
 
@@ -39,24 +39,24 @@ abbrev pub alone : List Pending → Tree → Option Tree
 alone [] e = Some e
 alone (w ∷ ws) e = None
 
--- what becomes of a place where an operand is wanted, and of one after an operand
+-- what becomes of a place where an operand is expected, and of one after an operand
 abbrev mutual
-  pub wanted : List Pending → List TokenRole → Option Tree
-  wanted ws [] = None
-  wanted ws (Operand e ∷ rs) = signed (λ vs f. reached vs f rs) ws e
-  wanted ws (Operator None b ∷ rs) = None
-  wanted ws (Operator (Some op) b ∷ rs) = wanted (Before op ∷ ws) rs
-  wanted ws (Open ∷ rs) = wanted (Parenthesis ∷ ws) rs
-  wanted ws (Close ∷ rs) = None
+  pub expecting_operand : List Pending → List TokenRole → Option Tree
+  expecting_operand ws [] = None
+  expecting_operand ws (Operand e ∷ rs) = signed (λ vs f. after_operand vs f rs) ws e
+  expecting_operand ws (Operator None b ∷ rs) = None
+  expecting_operand ws (Operator (Some op) b ∷ rs) = expecting_operand (Before op ∷ ws) rs
+  expecting_operand ws (Open ∷ rs) = expecting_operand (Parenthesis ∷ ws) rs
+  expecting_operand ws (Close ∷ rs) = None
 
-  pub reached : List Pending → Tree → List TokenRole → Option Tree
-  reached ws e [] = joined 3 alone ws e
-  reached ws e (Operand f ∷ rs) = None
-  reached ws e (Operator u None ∷ rs) = None
-  reached ws e (Operator u (Some op) ∷ rs) = joined (level op) (λ vs f. wanted (After op f ∷ vs) rs) ws e
-  reached ws e (Open ∷ rs) = None
-  reached ws e (Close ∷ rs) = joined 3 (closed (signed (λ vs f. reached vs f rs))) ws e
+  pub after_operand : List Pending → Tree → List TokenRole → Option Tree
+  after_operand ws e [] = joined 3 alone ws e
+  after_operand ws e (Operand f ∷ rs) = None
+  after_operand ws e (Operator u None ∷ rs) = None
+  after_operand ws e (Operator u (Some op) ∷ rs) = joined (level op) (λ vs f. expecting_operand (After op f ∷ vs) rs) ws e
+  after_operand ws e (Open ∷ rs) = None
+  after_operand ws e (Close ∷ rs) = joined 3 (closed (signed (λ vs f. after_operand vs f rs))) ws e
 
 -- the tree of a run of tokens, where it is an expression
-abbrev pub expression_of : List Piece → Option Tree
-expression_of run = wanted [] (map token_role run)
+abbrev pub expression_of : List SpelledToken → Option Tree
+expression_of run = expecting_operand [] (map token_role run)

@@ -2,7 +2,7 @@
 use Rattle.std.specs.Prelude.{ℕ, ◌-◌, ◌^◌, pos, ◌==◌, ◌&&◌, Bool, false, nat_lt, List, [], ◌∷◌, length, take, Option, Some, None, option_map, option_and_then, slice_index, if◌then◌else◌}
 use Rattle.rv_text.specs.declared.lexeme.TokenKind.{TokenKind}
 use Rattle.rv_text.specs.declared.lexeme.TokenKind.TheVariants as kinds
-use Rattle.rv_text.specs.Lexing.{Piece}
+use Rattle.rv_text.specs.Lexing.{SpelledToken}
 use Rattle.rv_text.specs.Numbers.{number_of, digits_number}
 use Rattle.rv_text.specs.Strings.{escaped_at}
 use Rattle.rv_expr.specs.declared.tree.BinaryOp.{BinaryOp}
@@ -11,13 +11,13 @@ use Rattle.rv_expr.specs.declared.tree.Direction.{Direction}
 use Rattle.rv_expr.specs.declared.tree.Direction.TheVariants.{Back, Forward}
 use Rattle.rv_expr.specs.declared.tree.UnaryOp.{UnaryOp}
 use Rattle.rv_expr.specs.declared.tree.UnaryOp.TheVariants.{Neg, Not}
-use Rattle.rv_expr.specs.Tree.{Tree, Number, Word, Local, Here}
+use Rattle.rv_expr.specs.Tree.{Tree, Number, Symbol, Local, Here}
 
 -- `.`, or a symbol
-abbrev pub word_operand : List ℕ → Tree
-word_operand [] = Word []
-word_operand (c ∷ []) = if c == 0x2E then Here else Word (c ∷ [])
-word_operand (c ∷ d ∷ cs) = Word (c ∷ d ∷ cs)
+abbrev pub identifier_operand : List ℕ → Tree
+identifier_operand [] = Symbol []
+identifier_operand (c ∷ []) = if c == 0x2E then Here else Symbol (c ∷ [])
+identifier_operand (c ∷ d ∷ cs) = Symbol (c ∷ d ∷ cs)
 
 -- `b` or `f`
 abbrev pub direction : ℕ → Option Direction
@@ -38,23 +38,23 @@ local_operand text =
 
 -- the operand that a token is by itself
 abbrev pub operand_text : TokenKind → List ℕ → Option Tree
-operand_text kinds.Word text = Some (word_operand text)
+operand_text kinds.Identifier text = Some (identifier_operand text)
 operand_text kinds.Number text = option_map (λ n. Number (pos n)) (number_of text)
 operand_text kinds.Local text = local_operand text
 operand_text kinds.Char text = option_map (λ p. Number (pos p.0)) (escaped_at text 1)
 operand_text kinds.Str text = None
-operand_text kinds.Sign text = None
+operand_text kinds.Punctuation text = None
 
 -- `-` and `~`
-abbrev pub unary_sign : List ℕ → Option UnaryOp
-unary_sign [] = None
-unary_sign (c ∷ []) = if c == 0x2D then Some Neg else (if c == 0x7E then Some Not else None)
-unary_sign (c ∷ d ∷ cs) = None
+abbrev pub unary_operator : List ℕ → Option UnaryOp
+unary_operator [] = None
+unary_operator (c ∷ []) = if c == 0x2D then Some Neg else (if c == 0x7E then Some Not else None)
+unary_operator (c ∷ d ∷ cs) = None
 
 -- `*`, `/`, `%`, `&`, `|`, `^`, `+`, `-`, `<<` and `>>`
-abbrev pub binary_sign : List ℕ → Option BinaryOp
-binary_sign [] = None
-binary_sign (c ∷ []) =
+abbrev pub binary_operator : List ℕ → Option BinaryOp
+binary_operator [] = None
+binary_operator (c ∷ []) =
     if c == 0x2A then Some Mul
     else (if c == 0x2F then Some Div
     else (if c == 0x25 then Some Rem
@@ -64,9 +64,9 @@ binary_sign (c ∷ []) =
     else (if c == 0x2B then Some Add
     else (if c == 0x2D then Some Sub
     else None)))))))
-binary_sign (c ∷ d ∷ []) =
+binary_operator (c ∷ d ∷ []) =
     if c == 0x3C && d == 0x3C then Some Shl else (if c == 0x3E && d == 0x3E then Some Shr else None)
-binary_sign (c ∷ d ∷ e ∷ cs) = None
+binary_operator (c ∷ d ∷ e ∷ cs) = None
 
 -- the text is this one byte
 abbrev pub is_byte : ℕ → List ℕ → Bool
@@ -83,23 +83,23 @@ pub data TokenRole : Type 0 where
   Close : TokenRole
 
 -- `(`, `)`, or another sign
-abbrev pub token_role_of_sign : List ℕ → TokenRole
-token_role_of_sign text =
+abbrev pub token_role_of_punctuation : List ℕ → TokenRole
+token_role_of_punctuation text =
     if is_byte 0x28 text then Open
     else (if is_byte 0x29 text then Close
-    else Operator (unary_sign text) (binary_sign text))
+    else Operator (unary_operator text) (binary_operator text))
 
 abbrev pub token_role_of_operand : Option Tree → TokenRole
 token_role_of_operand None = Operator None None
 token_role_of_operand (Some e) = Operand e
 
 abbrev pub token_role_of_text : TokenKind → List ℕ → TokenRole
-token_role_of_text kinds.Word text = token_role_of_operand (operand_text kinds.Word text)
+token_role_of_text kinds.Identifier text = token_role_of_operand (operand_text kinds.Identifier text)
 token_role_of_text kinds.Number text = token_role_of_operand (operand_text kinds.Number text)
 token_role_of_text kinds.Local text = token_role_of_operand (operand_text kinds.Local text)
 token_role_of_text kinds.Char text = token_role_of_operand (operand_text kinds.Char text)
 token_role_of_text kinds.Str text = token_role_of_operand (operand_text kinds.Str text)
-token_role_of_text kinds.Sign text = token_role_of_sign text
+token_role_of_text kinds.Punctuation text = token_role_of_punctuation text
 
-abbrev pub token_role : Piece → TokenRole
+abbrev pub token_role : SpelledToken → TokenRole
 token_role p = token_role_of_text p.kind p.text

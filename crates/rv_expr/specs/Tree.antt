@@ -10,7 +10,7 @@ use Rattle.rv_expr.specs.declared.tree.LabelReference.TheVariants as labels
 -- a number, a symbol, a local label, `.`, and operators with their operands
 pub data Tree : Type 0 where
   Number : ℤ → Tree
-  Word : List ℕ → Tree
+  Symbol : List ℕ → Tree
   Local : ℕ → Direction → Tree
   Here : Tree
   Unary : UnaryOp → Tree → Tree
@@ -32,7 +32,7 @@ level Sub = 3
 -- how many operators a tree has
 abbrev pub tree_size : Tree → ℕ
 tree_size (Number n) = 0
-tree_size (Word name) = 0
+tree_size (Symbol name) = 0
 tree_size (Local number direction) = 0
 tree_size Here = 0
 tree_size (Unary op a) = tree_size a + 1
@@ -40,7 +40,7 @@ tree_size (Binary op a b) = tree_size a + tree_size b + 1
 
 -- the label that a tree is, where it is a symbol, a local label or `.` alone
 abbrev pub label_reference_of : Tree → Option LabelReference
-label_reference_of (Word name) = Some (labels.Symbol name)
+label_reference_of (Symbol name) = Some (labels.Symbol name)
 label_reference_of (Local number direction) = Some (labels.Local number direction)
 label_reference_of Here = Some labels.Here
 label_reference_of (Number n) = None

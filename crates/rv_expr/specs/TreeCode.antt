@@ -9,7 +9,7 @@ use Rattle.rv_expr.specs.contracts.tree.UnaryOp as unary_ops
 use Rattle.rv_expr.specs.declared.tree.BinaryOp.{BinaryOp}
 use Rattle.rv_expr.specs.declared.tree.UnaryOp.{UnaryOp}
 use Rattle.rv_expr.specs.declared.tree.Direction.{Direction}
-use Rattle.rv_expr.specs.Tree.{Tree, Number, Word, Local, Here, Unary, Binary}
+use Rattle.rv_expr.specs.Tree.{Tree, Number, Symbol, Local, Here, Unary, Binary}
 
 -- an operand by itself: a number, a name, a local label, `.`
 abbrev pub Leaf : Type 0
@@ -22,7 +22,7 @@ PostfixItem = Leaf ⊎ (UnaryOp ⊎ BinaryOp)
 -- the items of a tree, and then those that are left
 abbrev pub postfix : Tree → List PostfixItem → List PostfixItem
 postfix (Number n) rest = inl (inl n) ∷ rest
-postfix (Word name) rest = inl (inr (inl name)) ∷ rest
+postfix (Symbol name) rest = inl (inr (inl name)) ∷ rest
 postfix (Local number direction) rest = inl (inr (inr (inl (number, direction)))) ∷ rest
 postfix Here rest = inl (inr (inr (inr tt))) ∷ rest
 postfix (Unary op a) rest = postfix a (inr (inl op) ∷ rest)
@@ -31,7 +31,7 @@ postfix (Binary op a b) rest = postfix a (postfix b (inr (inr op) ∷ rest))
 -- the tree that is one operand
 abbrev pub leaf : Leaf → Tree
 leaf (inl n) = Number n
-leaf (inr (inl name)) = Word name
+leaf (inr (inl name)) = Symbol name
 leaf (inr (inr (inl l))) = Local l.0 l.1
 leaf (inr (inr (inr u))) = Here
 
@@ -50,7 +50,7 @@ trees es (item ∷ rest) = trees (after_item es item) rest
 -- the items of a tree put it on the stack
 pub trees-postfix : (e : Tree) (es : List Tree) (rest : List PostfixItem) → trees es (postfix e rest) ≡ trees (e ∷ es) rest
 trees-postfix (Number n) es rest = refl
-trees-postfix (Word name) es rest = refl
+trees-postfix (Symbol name) es rest = refl
 trees-postfix (Local number direction) es rest = refl
 trees-postfix Here es rest = refl
 trees-postfix (Unary op a) es rest = trees-postfix a es _

@@ -5,7 +5,7 @@ use Rattle.rv_expr.specs.declared.faults.ValueFault.TheVariants.{Arithmetic}
 use Rattle.rv_expr.specs.declared.tree.Direction.{Direction}
 use Rattle.rv_expr.specs.declared.tree.LabelReference.{LabelReference}
 use Rattle.rv_expr.specs.Arithmetic.{apply, apply_unary}
-use Rattle.rv_expr.specs.Tree.{Tree, Number, Word, Local, Here, Unary, Binary}
+use Rattle.rv_expr.specs.Tree.{Tree, Number, Symbol, Local, Here, Unary, Binary}
 
 -- what names give on a line, each a value or a fault
 pub record Environment : Type 0 where
@@ -37,7 +37,7 @@ of_two f (Ok x) (Ok y) = arithmetic (f x y)
 -- the value of an expression, or its first fault
 abbrev pub value_of : Environment → Tree → Result ℤ ValueFault
 value_of given (Number n) = Ok n
-value_of given (Word name) = given.symbol name
+value_of given (Symbol name) = given.symbol name
 value_of given (Local number direction) = given.local number direction
 value_of given Here = given.here
 value_of given (Unary op a) = of_one (apply_unary op) (value_of given a)

@@ -18,8 +18,8 @@ pub fn depth_after(depth: usize, kind: TokenKind, text: &[u8]) -> usize
     ensures bound { result ≤ depth + 1 }
 {
     match (kind, text) {
-        (TokenKind::Sign, [b'(']) => depth + 1,
-        (TokenKind::Sign, [b')']) => depth.saturating_sub(1),
+        (TokenKind::Punctuation, [b'(']) => depth + 1,
+        (TokenKind::Punctuation, [b')']) => depth.saturating_sub(1),
         _ => depth,
     }
 }

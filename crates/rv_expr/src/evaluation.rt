@@ -38,7 +38,7 @@ fn evaluate<N: Names>(expression: &Expr, names: &N, here: u32) -> Result<i64, Va
 {
     match &expression.node {
         Node::Number(n) => Ok(*n),
-        Node::Word(name) => names.symbol(here, name.bytes()),
+        Node::Symbol(name) => names.symbol(here, name.bytes()),
         Node::Local(number, direction) => names.local(here, *number, *direction),
         Node::Here => names.here(here),
         Node::Unary(op, operand) => {

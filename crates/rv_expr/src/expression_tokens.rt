@@ -4,7 +4,7 @@ ghost use Rattle.std.specs.Prelude.{◌≡◌, ℕ, pos, ◌+◌, ◌<◌, ◌�
 ghost use Rattle.rv_text.specs.Strings.{escaped_at};
 ghost use Rattle.rv_expr.specs.ReaderState.{primary_tree, expression_token_role};
 ghost use Rattle.rv_expr.specs.Reading.{run_of};
-ghost use Rattle.rv_expr.specs.TokenRoles.{binary_sign, direction, label_number, local_operand, operand_text, token_role, token_role_of_text, token_role_of_sign, unary_sign, word_operand};
+ghost use Rattle.rv_expr.specs.TokenRoles.{binary_operator, direction, label_number, local_operand, operand_text, token_role, token_role_of_text, token_role_of_punctuation, unary_operator, identifier_operand};
 
 use crate::tree::{BinaryOp, Direction, UnaryOp};
 use rv_text::{TokenKind, Tokens, digits, escaped, number};
@@ -15,7 +15,7 @@ pub enum Primary<'a> {
     /// A number or a character.
     Number(i64),
     /// The name of a symbol.
-    Word(&'a [u8]),
+    Symbol(&'a [u8]),
     /// A local label, by its number and where it is looked for.
     Local(u16, Direction),
     /// `.`
@@ -64,12 +64,12 @@ fn local<'a>(text: &[u8]) -> Option<Primary<'a>>
 }
 
 // A symbol, or `.`.
-fn word(text: &[u8]) -> Primary<'_>
-    ensures { word_operand text.now ≡ primary_tree result }
+fn identifier(text: &[u8]) -> Primary<'_>
+    ensures { identifier_operand text.now ≡ primary_tree result }
 {
     match text {
         [b'.'] => Primary::Here,
-        _ => Primary::Word(text),
+        _ => Primary::Symbol(text),
     }
 }
 
@@ -86,17 +86,17 @@ fn operand_text(kind: TokenKind, text: &[u8]) -> Option<Primary<'_>>
     ensures { operand_text kind text.now ≡ option_map primary_tree result }
 {
     match kind {
-        TokenKind::Word => Some(word(text)),
+        TokenKind::Identifier => Some(identifier(text)),
         TokenKind::Number => Some(Primary::Number(number(text)?)),
         TokenKind::Local => local(text),
         TokenKind::Char => Some(Primary::Number(character(text)?)),
-        TokenKind::Str | TokenKind::Sign => None,
+        TokenKind::Str | TokenKind::Punctuation => None,
     }
 }
 
 // The operator that a sign is before an operand.
 fn unary(text: &[u8]) -> Option<UnaryOp>
-    ensures { result ≡ unary_sign text.now }
+    ensures { result ≡ unary_operator text.now }
 {
     match text {
         [b'-'] => Some(UnaryOp::Neg),
@@ -107,7 +107,7 @@ fn unary(text: &[u8]) -> Option<UnaryOp>
 
 // The operator that a sign is between two operands.
 fn binary(text: &[u8]) -> Option<BinaryOp>
-    ensures { result ≡ binary_sign text.now }
+    ensures { result ≡ binary_operator text.now }
 {
     match text {
         [b'*'] => Some(BinaryOp::Mul),
@@ -125,8 +125,8 @@ fn binary(text: &[u8]) -> Option<BinaryOp>
 }
 
 // What a sign is.
-fn sign<'a>(text: &[u8]) -> ExpressionToken<'a>
-    ensures { token_role_of_sign text.now ≡ expression_token_role result }
+fn punctuation<'a>(text: &[u8]) -> ExpressionToken<'a>
+    ensures { token_role_of_punctuation text.now ≡ expression_token_role result }
 {
     match text {
         [b'('] => ExpressionToken::Open,
@@ -140,7 +140,7 @@ fn expression_token_of_text(kind: TokenKind, text: &[u8]) -> ExpressionToken<'_>
     ensures { token_role_of_text kind text.now ≡ expression_token_role result }
 {
     match kind {
-        TokenKind::Sign => sign(text),
+        TokenKind::Punctuation => punctuation(text),
         _ => match operand_text(kind, text) {
             Some(operand) => ExpressionToken::Operand(operand),
             None => ExpressionToken::Operator(None, None),

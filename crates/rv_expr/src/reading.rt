@@ -3,7 +3,7 @@
 ghost use Rattle.std.specs.Prelude.{◌≡◌, ◌≤◌, [], ◌∷◌, List, Option, Some, length, IfOk, IfErr, MatchResult};
 ghost use Rattle.rv_expr.specs.Depth.{depth_of};
 ghost use Rattle.rv_expr.specs.ReaderState.{waits, primary_tree, expression_token_role, left_of, Fails};
-ghost use Rattle.rv_expr.specs.Reading.{signed, joined, wanted, reached, run_of, expression_of};
+ghost use Rattle.rv_expr.specs.Reading.{signed, joined, expecting_operand, after_operand, run_of, expression_of};
 ghost use Rattle.rv_expr.specs.TokenRoles.{TokenRole};
 ghost use Rattle.rv_expr.specs.Refusals.{Refuses};
 ghost use Rattle.rv_expr.specs.Tree.{Tree, Unary, Binary, level};
@@ -64,7 +64,11 @@ fn make_binary(alloc: Global, op: BinaryOp, left: Expr, right: Expr) -> Result<E
 
 // The unary operators before an operand act on it.
 #[tactic(auto, using(crate::proofs::Waits::waits_push))]
-fn apply_signs(alloc: Global, pending: &mut Vec<Pending>, operand: Expr) -> Result<Expr, AllocError>
+fn apply_unary_operators(
+    alloc: Global,
+    pending: &mut Vec<Pending>,
+    operand: Expr,
+) -> Result<Expr, AllocError>
     ensures { IfOk result (λ t. (next : List Pending → Tree → Option Tree)
         → signed next (waits pending.old.items) operand ≡ next (waits pending.new.items) t) }
 {
@@ -113,28 +117,28 @@ fn make_operand(alloc: Global, operand: Primary<'_>) -> Result<Expr, AllocError>
 {
     let node = match operand {
         Primary::Number(n) => Node::Number(n),
-        Primary::Word(name) => Node::Word(Name::of(alloc, name)?),
+        Primary::Symbol(name) => Node::Symbol(Name::of(alloc, name)?),
         Primary::Local(number, direction) => Node::Local(number, direction),
         Primary::Here => Node::Here,
     };
     Ok(Expr { node })
 }
 
-// A step where an operand is wanted.
+// A step where an operand is expected.
 #[tactic(auto, using(crate::proofs::Waits::waits_push))]
-fn step_wanted(
+fn step_expecting_operand(
     alloc: Global,
     pending: &mut Vec<Pending>,
     token: ExpressionToken<'_>,
 ) -> Result<Option<Expr>, ReadFault>
     ensures ok { IfOk result (λ have. (rs : List TokenRole)
-        → wanted (waits pending.old.items) (expression_token_role token.entry ∷ rs) ≡ left_of pending.new.items have rs) }
-    ensures err { IfErr result (λ f. (rs : List TokenRole) → Fails f (wanted (waits pending.old.items) (expression_token_role token.entry ∷ rs))) }
+        → expecting_operand (waits pending.old.items) (expression_token_role token.entry ∷ rs) ≡ left_of pending.new.items have rs) }
+    ensures err { IfErr result (λ f. (rs : List TokenRole) → Fails f (expecting_operand (waits pending.old.items) (expression_token_role token.entry ∷ rs))) }
 {
     match token {
         ExpressionToken::Operand(operand) => {
             let operand = make_operand(alloc, operand)?;
-            Ok(Some(apply_signs(alloc, pending, operand)?))
+            Ok(Some(apply_unary_operators(alloc, pending, operand)?))
         }
         ExpressionToken::Operator(Some(op), _) => {
             pending.push(Pending::Before(op))?;
@@ -150,16 +154,16 @@ fn step_wanted(
 
 // A step after an operand.
 #[tactic(auto, using(crate::proofs::Waits::waits_push))]
-fn step_reached(
+fn step_after_operand(
     alloc: Global,
     pending: &mut Vec<Pending>,
     operand: Expr,
     token: ExpressionToken<'_>,
 ) -> Result<Option<Expr>, ReadFault>
     ensures ok { IfOk result (λ have. (rs : List TokenRole)
-        → reached (waits pending.old.items) operand (expression_token_role token.entry ∷ rs) ≡ left_of pending.new.items have rs) }
+        → after_operand (waits pending.old.items) operand (expression_token_role token.entry ∷ rs) ≡ left_of pending.new.items have rs) }
     ensures err { IfErr result (λ f. (rs : List TokenRole)
-        → Fails f (reached (waits pending.old.items) operand (expression_token_role token.entry ∷ rs))) }
+        → Fails f (after_operand (waits pending.old.items) operand (expression_token_role token.entry ∷ rs))) }
 {
     match token {
         ExpressionToken::Operator(_, Some(op)) => {
@@ -170,7 +174,9 @@ fn step_reached(
         ExpressionToken::Close => {
             let inner = apply_operators(alloc, pending, LOOSEST_LEVEL, operand)?;
             match pending.pop() {
-                Some(Pending::Parenthesis) => Ok(Some(apply_signs(alloc, pending, inner)?)),
+                Some(Pending::Parenthesis) => Ok(Some(apply_unary_operators(
+                    alloc, pending, inner,
+                )?)),
                 _ => Err(ReadFault::Operand),
             }
         }
@@ -179,7 +185,7 @@ fn step_reached(
     }
 }
 
-// A step after an operand that is there, or where one is wanted.
+// A step after an operand that is there, or where one is expected.
 fn step(
     alloc: Global,
     pending: &mut Vec<Pending>,
@@ -191,16 +197,16 @@ fn step(
     ensures err { IfErr result (λ f. (rs : List TokenRole) → Fails f (left_of pending.old.items have (expression_token_role token.entry ∷ rs))) }
 {
     match have {
-        Some(operand) => step_reached(alloc, pending, operand, token),
-        None => step_wanted(alloc, pending, token),
+        Some(operand) => step_after_operand(alloc, pending, operand, token),
+        None => step_expecting_operand(alloc, pending, token),
     }
 }
 
 // The end of the tokens, after an operand.
 fn finish(alloc: Global, pending: &mut Vec<Pending>, operand: Expr) -> Result<Expr, ReadFault>
     ensures { MatchResult result
-        (λ e. reached (waits pending.old.items) operand [] ≡ Some e)
-        (λ f. Fails f (reached (waits pending.old.items) operand [])) }
+        (λ e. after_operand (waits pending.old.items) operand [] ≡ Some e)
+        (λ f. Fails f (after_operand (waits pending.old.items) operand [])) }
 {
     let whole = apply_operators(alloc, pending, LOOSEST_LEVEL, operand)?;
     if pending.is_empty() {

@@ -66,7 +66,7 @@ pub enum Node {
     /// A whole number, or a character as the number of its byte.
     Number(i64),
     /// A symbol, also one that is spelt like a register.
-    Word(Name),
+    Symbol(Name),
     /// A local label, by its number and where it is looked for.
     Local(u16, Direction),
     /// `.`, the address of the line.
@@ -113,7 +113,7 @@ impl Expr {
         ensures { result ≡ label_reference_of self }
     {
         match self.node {
-            Node::Word(name) => Some(LabelReference::Symbol(name)),
+            Node::Symbol(name) => Some(LabelReference::Symbol(name)),
             Node::Local(number, direction) => Some(LabelReference::Local(number, direction)),
             Node::Here => Some(LabelReference::Here),
             Node::Number(_) | Node::Unary(_, _) | Node::Binary(_, _, _) => None,

@@ -14,10 +14,10 @@ enum Label {
     No,
 }
 
-// Whether the root of an expression of this text is as wanted.
+// Whether the root of an expression of this text is as expected.
 fn is_node(node: &Node, want: Label, text: &[u8]) -> bool {
     match (node, want) {
-        (Node::Word(name), Label::Symbol) => name.bytes() == text,
+        (Node::Symbol(name), Label::Symbol) => name.bytes() == text,
         (Node::Local(n, d), Label::Local(number, direction)) => *n == number && *d == direction,
         (Node::Here, Label::Here) => true,
         (Node::Number(_) | Node::Unary(_, _) | Node::Binary(_, _, _), Label::No) => true,
@@ -25,7 +25,7 @@ fn is_node(node: &Node, want: Label, text: &[u8]) -> bool {
     }
 }
 
-// Whether the label of an expression of this text is as wanted.
+// Whether the label of an expression of this text is as expected.
 fn is_label(label: &Option<LabelReference>, want: Label, text: &[u8]) -> bool {
     match (label, want) {
         (Some(LabelReference::Symbol(name)), Label::Symbol) => name.bytes() == text,

@@ -58,13 +58,13 @@ fn finds_depth(rt: HostRuntime) -> Result<(), Fail> {
 #[test]
 fn finds_depth_after_token(rt: HostRuntime) {
     for (depth, kind, text, want) in [
-        (3, TokenKind::Sign, "(", 4),
-        (3, TokenKind::Sign, ")", 2),
-        (0, TokenKind::Sign, ")", 0),
-        (3, TokenKind::Sign, ",", 3),
+        (3, TokenKind::Punctuation, "(", 4),
+        (3, TokenKind::Punctuation, ")", 2),
+        (0, TokenKind::Punctuation, ")", 0),
+        (3, TokenKind::Punctuation, ",", 3),
         (3, TokenKind::Char, "'('", 3),
         (3, TokenKind::Str, "\"(\"", 3),
-        (3, TokenKind::Word, "x", 3),
+        (3, TokenKind::Identifier, "x", 3),
     ] {
         assert!(rt; depth < 64);
         assert_eq!(rt;

@@ -95,7 +95,7 @@ fn computed(alloc: Global, line: &[u8], from: usize, here: u32) -> Result<Outcom
     Ok(Outcome { result, calls })
 }
 
-// The calls that are wanted: one of `value`, where there is an expression.
+// The calls that are expected: one of `value`, where there is an expression.
 fn wanted_calls(want: Result<i64, Refusal>) -> (u64, u64, u64) {
     match want {
         Err(Refusal::Read(_)) => (0, 0, 0),

@@ -13,7 +13,7 @@ use Rattle.rv_ops.specs.declared.op.Op.TheVariants as op
 use Rattle.rv_expr.specs.declared.tree.BinaryOp.TheVariants.{Add}
 use Rattle.rv_expr.specs.declared.tree.Direction.TheVariants.{Forward}
 use Rattle.rv_expr.specs.declared.tree.LabelReference.TheVariants as label
-use Rattle.rv_expr.specs.Tree.{Tree, Number, Word, Here, Binary}
+use Rattle.rv_expr.specs.Tree.{Tree, Number, Symbol, Here, Binary}
 use Rattle.rv_stmt.specs.declared.label.LabelName.TheVariants as name
 use Rattle.rv_stmt.specs.declared.operand.Role.{Role}
 use Rattle.rv_stmt.specs.declared.operand.Role.TheVariants.{Immediate, SourceImmediate, Target, PairTarget, Constant}
@@ -53,7 +53,7 @@ abbrev pseudo : ℕ → Op → ℕ → ℕ → ℕ → ℤ → List Operand → 
 pseudo to o rd rs1 rs2 v operands =
     Pseudo (record { name = record { from = 0; to = to }; op = o; fields = fields rd rs1 rs2 v; operands = operands })
 
--- labels, in front of a body that is right, faulty or empty
+-- labels, before a body that is right, faulty or empty
 
 labels : (statement_of (codes "x: 07: 1: .: nop")).labels ≡ record { name = name.Symbol (codes "x"); span = record { from = 0; to = 1 } } ∷ []
 labels = refl
@@ -95,13 +95,13 @@ instructions_rows =
     ∷ (codes "ADD a0,fp,x31", instr 0 3 op.Add 10 8 31 (pos 0) [])
     ∷ (codes "beq a0, a1, .+4094", instr 0 3 op.Beq 0 10 11 (pos 0) (value (Binary Add Here (Number (pos 4094))) Target 12 18 ∷ []))
     ∷ (codes "lw a0, (a1)", instr 0 2 op.Lw 10 11 0 (pos 0) [])
-    ∷ (codes "sw a0, x+4(a1)", instr 0 2 op.Sw 0 11 10 (pos 0) (value (Binary Add (Word (codes "x")) (Number (pos 4))) Immediate 7 14 ∷ []))
+    ∷ (codes "sw a0, x+4(a1)", instr 0 2 op.Sw 0 11 10 (pos 0) (value (Binary Add (Symbol (codes "x")) (Number (pos 4))) Immediate 7 14 ∷ []))
     ∷ (codes "jalr a0, a1", instr 0 4 op.Jalr 10 11 0 (pos 0) [])
     ∷ (codes "jalr a0, 4(a1)", instr 0 4 op.Jalr 10 11 0 (pos 0) (value (Number (pos 4)) Immediate 9 14 ∷ []))
     ∷ (codes "ecall", instr 0 5 op.Ecall 0 0 0 (pos 0) [])
     ∷ (codes "fence IR, w", instr 0 5 op.Fence 0 10 1 (pos 0) [])
     ∷ (codes "csrrw a0, mstatus, a1", instr 0 5 op.Csrrw 10 11 0 (pos 0x300) [])
-    ∷ (codes "csrrwi a0, 5, n", instr 0 6 op.Csrrwi 10 0 0 (pos 0) (value (Number (pos 5)) Immediate 11 12 ∷ value (Word (codes "n")) SourceImmediate 14 15 ∷ []))
+    ∷ (codes "csrrwi a0, 5, n", instr 0 6 op.Csrrwi 10 0 0 (pos 0) (value (Number (pos 5)) Immediate 11 12 ∷ value (Symbol (codes "n")) SourceImmediate 14 15 ∷ []))
     ∷ []
 
 instructions : are_bodies instructions_rows
@@ -119,7 +119,7 @@ compressed_rows =
     ∷ (codes "c.sw a0, (a1)", instr 0 4 op.CSw 0 11 10 (pos 0) [])
     ∷ (codes "c.swsp t0, 8(sp)", instr 0 6 op.CSwsp 0 0 5 (pos 0) (value (Number (pos 8)) Immediate 11 16 ∷ []))
     ∷ (codes "c.jr ra", instr 0 4 op.CJr 0 1 0 (pos 0) [])
-    ∷ (codes "c.beqz a0, t", instr 0 6 op.CBeqz 0 10 0 (pos 0) (value (Word (codes "t")) Target 11 12 ∷ []))
+    ∷ (codes "c.beqz a0, t", instr 0 6 op.CBeqz 0 10 0 (pos 0) (value (Symbol (codes "t")) Target 11 12 ∷ []))
     ∷ (codes "c.nop", instr 0 5 op.CNop 0 0 0 (pos 0) [])
     ∷ []
 
@@ -156,8 +156,8 @@ abbrev memory_rows : List (List ℕ × Body)
 memory_rows =
     (codes "lw a0, x+(a1)", faulty BadOperand 7 13)
     ∷ (codes "lw a0, ((a1)", faulty BadOperand 7 12)
-    ∷ (codes "lw a0, ((a1))", pseudo 2 op.Lw 10 10 0 (pos 0) (value (Word (codes "a1")) PairTarget 7 13 ∷ []))
-    ∷ (codes "sw a0, (a1), t0", pseudo 2 op.Sw 0 5 10 (pos 0) (value (Word (codes "a1")) PairTarget 7 11 ∷ []))
+    ∷ (codes "lw a0, ((a1))", pseudo 2 op.Lw 10 10 0 (pos 0) (value (Symbol (codes "a1")) PairTarget 7 13 ∷ []))
+    ∷ (codes "sw a0, (a1), t0", pseudo 2 op.Sw 0 5 10 (pos 0) (value (Symbol (codes "a1")) PairTarget 7 11 ∷ []))
     ∷ (codes "sw a0, 4(a1), t0", faulty BadOperand 7 12)
     ∷ (codes "lw a0,", faulty BadOperand 6 6)
     ∷ (codes "c.lw a0,", faulty BadRegister 8 8)
@@ -176,8 +176,8 @@ memory = refl
 
 abbrev modifiers_rows : List (List ℕ × Body)
 modifiers_rows =
-    (codes "lui a0, %HI(x+1)", instr 0 3 op.Lui 10 0 0 (pos 0) (modified (High (Binary Add (Word (codes "x")) (Number (pos 1)))) 8 16 ∷ []))
-    ∷ (codes "addi a0, a0, %lo(x)", instr 0 4 op.Addi 10 10 0 (pos 0) (modified (Low (Word (codes "x"))) 13 19 ∷ []))
+    (codes "lui a0, %HI(x+1)", instr 0 3 op.Lui 10 0 0 (pos 0) (modified (High (Binary Add (Symbol (codes "x")) (Number (pos 1)))) 8 16 ∷ []))
+    ∷ (codes "addi a0, a0, %lo(x)", instr 0 4 op.Addi 10 10 0 (pos 0) (modified (Low (Symbol (codes "x"))) 13 19 ∷ []))
     ∷ (codes "addi a0, a0, %lo(x)+1", faulty BadOperand 13 21)
     ∷ (codes "lw a0, %pcrel_lo(1f)(a1)", instr 0 2 op.Lw 10 11 0 (pos 0) (modified (PcrelLow (label.Local 1 Forward)) 7 24 ∷ []))
     ∷ (codes "lw a0, %lo(x)", faulty BadRegister 7 13)
@@ -227,18 +227,18 @@ on_registers = refl
 
 abbrev jumps_rows : List (List ℕ × Body)
 jumps_rows =
-    (codes "beqz a0, t", pseudo 4 op.Beq 0 10 0 (pos 0) (value (Word (codes "t")) Target 9 10 ∷ []))
-    ∷ (codes "bnez a0, t", pseudo 4 op.Bne 0 10 0 (pos 0) (value (Word (codes "t")) Target 9 10 ∷ []))
-    ∷ (codes "bgez a0, t", pseudo 4 op.Bge 0 10 0 (pos 0) (value (Word (codes "t")) Target 9 10 ∷ []))
-    ∷ (codes "bltz a0, t", pseudo 4 op.Blt 0 10 0 (pos 0) (value (Word (codes "t")) Target 9 10 ∷ []))
-    ∷ (codes "blez a0, t", pseudo 4 op.Bge 0 0 10 (pos 0) (value (Word (codes "t")) Target 9 10 ∷ []))
-    ∷ (codes "bgtz a0, t", pseudo 4 op.Blt 0 0 10 (pos 0) (value (Word (codes "t")) Target 9 10 ∷ []))
-    ∷ (codes "bgt a0, a1, t", pseudo 3 op.Blt 0 11 10 (pos 0) (value (Word (codes "t")) Target 12 13 ∷ []))
-    ∷ (codes "ble a0, a1, t", pseudo 3 op.Bge 0 11 10 (pos 0) (value (Word (codes "t")) Target 12 13 ∷ []))
-    ∷ (codes "bgtu a0, a1, t", pseudo 4 op.Bltu 0 11 10 (pos 0) (value (Word (codes "t")) Target 13 14 ∷ []))
-    ∷ (codes "bleu a0, a1, t", pseudo 4 op.Bgeu 0 11 10 (pos 0) (value (Word (codes "t")) Target 13 14 ∷ []))
-    ∷ (codes "j t", pseudo 1 op.Jal 0 0 0 (pos 0) (value (Word (codes "t")) Target 2 3 ∷ []))
-    ∷ (codes "jal t", pseudo 3 op.Jal 1 0 0 (pos 0) (value (Word (codes "t")) Target 4 5 ∷ []))
+    (codes "beqz a0, t", pseudo 4 op.Beq 0 10 0 (pos 0) (value (Symbol (codes "t")) Target 9 10 ∷ []))
+    ∷ (codes "bnez a0, t", pseudo 4 op.Bne 0 10 0 (pos 0) (value (Symbol (codes "t")) Target 9 10 ∷ []))
+    ∷ (codes "bgez a0, t", pseudo 4 op.Bge 0 10 0 (pos 0) (value (Symbol (codes "t")) Target 9 10 ∷ []))
+    ∷ (codes "bltz a0, t", pseudo 4 op.Blt 0 10 0 (pos 0) (value (Symbol (codes "t")) Target 9 10 ∷ []))
+    ∷ (codes "blez a0, t", pseudo 4 op.Bge 0 0 10 (pos 0) (value (Symbol (codes "t")) Target 9 10 ∷ []))
+    ∷ (codes "bgtz a0, t", pseudo 4 op.Blt 0 0 10 (pos 0) (value (Symbol (codes "t")) Target 9 10 ∷ []))
+    ∷ (codes "bgt a0, a1, t", pseudo 3 op.Blt 0 11 10 (pos 0) (value (Symbol (codes "t")) Target 12 13 ∷ []))
+    ∷ (codes "ble a0, a1, t", pseudo 3 op.Bge 0 11 10 (pos 0) (value (Symbol (codes "t")) Target 12 13 ∷ []))
+    ∷ (codes "bgtu a0, a1, t", pseudo 4 op.Bltu 0 11 10 (pos 0) (value (Symbol (codes "t")) Target 13 14 ∷ []))
+    ∷ (codes "bleu a0, a1, t", pseudo 4 op.Bgeu 0 11 10 (pos 0) (value (Symbol (codes "t")) Target 13 14 ∷ []))
+    ∷ (codes "j t", pseudo 1 op.Jal 0 0 0 (pos 0) (value (Symbol (codes "t")) Target 2 3 ∷ []))
+    ∷ (codes "jal t", pseudo 3 op.Jal 1 0 0 (pos 0) (value (Symbol (codes "t")) Target 4 5 ∷ []))
     ∷ (codes "jr a0", pseudo 2 op.Jalr 0 10 0 (pos 0) [])
     ∷ (codes "jalr a0", pseudo 4 op.Jalr 1 10 0 (pos 0) [])
     ∷ (codes "ret", pseudo 3 op.Jalr 0 1 0 (pos 0) [])
@@ -256,9 +256,9 @@ on_csrs_rows =
     ∷ (codes "csrw mepc, a0", pseudo 4 op.Csrrw 0 10 0 (pos 0x341) [])
     ∷ (codes "csrs mepc, a0", pseudo 4 op.Csrrs 0 10 0 (pos 0x341) [])
     ∷ (codes "csrc mepc, a0", pseudo 4 op.Csrrc 0 10 0 (pos 0x341) [])
-    ∷ (codes "csrwi mepc, t", pseudo 5 op.Csrrwi 0 0 0 (pos 0x341) (value (Word (codes "t")) SourceImmediate 12 13 ∷ []))
-    ∷ (codes "csrsi mepc, t", pseudo 5 op.Csrrsi 0 0 0 (pos 0x341) (value (Word (codes "t")) SourceImmediate 12 13 ∷ []))
-    ∷ (codes "csrci mepc, t", pseudo 5 op.Csrrci 0 0 0 (pos 0x341) (value (Word (codes "t")) SourceImmediate 12 13 ∷ []))
+    ∷ (codes "csrwi mepc, t", pseudo 5 op.Csrrwi 0 0 0 (pos 0x341) (value (Symbol (codes "t")) SourceImmediate 12 13 ∷ []))
+    ∷ (codes "csrsi mepc, t", pseudo 5 op.Csrrsi 0 0 0 (pos 0x341) (value (Symbol (codes "t")) SourceImmediate 12 13 ∷ []))
+    ∷ (codes "csrci mepc, t", pseudo 5 op.Csrrci 0 0 0 (pos 0x341) (value (Symbol (codes "t")) SourceImmediate 12 13 ∷ []))
     ∷ (codes "rdcycle a0", pseudo 7 op.Csrrs 10 0 0 (pos 0xC00) [])
     ∷ (codes "rdtime a0", pseudo 6 op.Csrrs 10 0 0 (pos 0xC01) [])
     ∷ (codes "rdinstret a0", pseudo 9 op.Csrrs 10 0 0 (pos 0xC02) [])
@@ -275,15 +275,15 @@ on_csrs = refl
 
 abbrev in_two_words_rows : List (List ℕ × Body)
 in_two_words_rows =
-    (codes "la a0, t", pseudo 2 op.Addi 10 10 0 (pos 0) (value (Word (codes "t")) PairTarget 7 8 ∷ []))
-    ∷ (codes "lla a0, t", pseudo 3 op.Addi 10 10 0 (pos 0) (value (Word (codes "t")) PairTarget 8 9 ∷ []))
-    ∷ (codes "call t", pseudo 4 op.Jalr 1 1 0 (pos 0) (value (Word (codes "t")) PairTarget 5 6 ∷ []))
-    ∷ (codes "tail t", pseudo 4 op.Jalr 0 6 0 (pos 0) (value (Word (codes "t")) PairTarget 5 6 ∷ []))
-    ∷ (codes "lb a0, t", pseudo 2 op.Lb 10 10 0 (pos 0) (value (Word (codes "t")) PairTarget 7 8 ∷ []))
-    ∷ (codes "lh a0, t", pseudo 2 op.Lh 10 10 0 (pos 0) (value (Word (codes "t")) PairTarget 7 8 ∷ []))
-    ∷ (codes "lw a0, t", pseudo 2 op.Lw 10 10 0 (pos 0) (value (Word (codes "t")) PairTarget 7 8 ∷ []))
-    ∷ (codes "lbu a0, t", pseudo 3 op.Lbu 10 10 0 (pos 0) (value (Word (codes "t")) PairTarget 8 9 ∷ []))
-    ∷ (codes "lhu a0, t", pseudo 3 op.Lhu 10 10 0 (pos 0) (value (Word (codes "t")) PairTarget 8 9 ∷ []))
+    (codes "la a0, t", pseudo 2 op.Addi 10 10 0 (pos 0) (value (Symbol (codes "t")) PairTarget 7 8 ∷ []))
+    ∷ (codes "lla a0, t", pseudo 3 op.Addi 10 10 0 (pos 0) (value (Symbol (codes "t")) PairTarget 8 9 ∷ []))
+    ∷ (codes "call t", pseudo 4 op.Jalr 1 1 0 (pos 0) (value (Symbol (codes "t")) PairTarget 5 6 ∷ []))
+    ∷ (codes "tail t", pseudo 4 op.Jalr 0 6 0 (pos 0) (value (Symbol (codes "t")) PairTarget 5 6 ∷ []))
+    ∷ (codes "lb a0, t", pseudo 2 op.Lb 10 10 0 (pos 0) (value (Symbol (codes "t")) PairTarget 7 8 ∷ []))
+    ∷ (codes "lh a0, t", pseudo 2 op.Lh 10 10 0 (pos 0) (value (Symbol (codes "t")) PairTarget 7 8 ∷ []))
+    ∷ (codes "lw a0, t", pseudo 2 op.Lw 10 10 0 (pos 0) (value (Symbol (codes "t")) PairTarget 7 8 ∷ []))
+    ∷ (codes "lbu a0, t", pseudo 3 op.Lbu 10 10 0 (pos 0) (value (Symbol (codes "t")) PairTarget 8 9 ∷ []))
+    ∷ (codes "lhu a0, t", pseudo 3 op.Lhu 10 10 0 (pos 0) (value (Symbol (codes "t")) PairTarget 8 9 ∷ []))
     ∷ []
 
 in_two_words : are_bodies in_two_words_rows
@@ -294,9 +294,9 @@ in_two_words = refl
 
 abbrev others_rows : List (List ℕ × Body)
 others_rows =
-    (codes "li a0, t", pseudo 2 op.Addi 10 0 0 (pos 0) (value (Word (codes "t")) Constant 7 8 ∷ []))
+    (codes "li a0, t", pseudo 2 op.Addi 10 0 0 (pos 0) (value (Symbol (codes "t")) Constant 7 8 ∷ []))
     ∷ (codes "fence", pseudo 5 op.Fence 0 15 15 (pos 0) [])
-    ∷ (codes "jalr a0, a1, t", pseudo 4 op.Jalr 10 11 0 (pos 0) (value (Word (codes "t")) Immediate 13 14 ∷ []))
+    ∷ (codes "jalr a0, a1, t", pseudo 4 op.Jalr 10 11 0 (pos 0) (value (Symbol (codes "t")) Immediate 13 14 ∷ []))
     ∷ []
 
 others : are_bodies others_rows
@@ -305,9 +305,9 @@ others = refl
 
 abbrev stores_rows : List (List ℕ × Body)
 stores_rows =
-    (codes "sb a0, t, a1", pseudo 2 op.Sb 0 11 10 (pos 0) (value (Word (codes "t")) PairTarget 7 8 ∷ []))
-    ∷ (codes "sh a0, t, a1", pseudo 2 op.Sh 0 11 10 (pos 0) (value (Word (codes "t")) PairTarget 7 8 ∷ []))
-    ∷ (codes "sw a0, t, a1", pseudo 2 op.Sw 0 11 10 (pos 0) (value (Word (codes "t")) PairTarget 7 8 ∷ []))
+    (codes "sb a0, t, a1", pseudo 2 op.Sb 0 11 10 (pos 0) (value (Symbol (codes "t")) PairTarget 7 8 ∷ []))
+    ∷ (codes "sh a0, t, a1", pseudo 2 op.Sh 0 11 10 (pos 0) (value (Symbol (codes "t")) PairTarget 7 8 ∷ []))
+    ∷ (codes "sw a0, t, a1", pseudo 2 op.Sw 0 11 10 (pos 0) (value (Symbol (codes "t")) PairTarget 7 8 ∷ []))
     ∷ []
 
 stores : are_bodies stores_rows

@@ -3,10 +3,10 @@ use Rattle.std.proofs.Common.{◌≡◌, ℕ, ◌+◌, ◌-◌, ◌≤◌, List,
 use Rattle.std.proofs.lemmas.List.{drop-drop, length-drop}
 use Rattle.std.proofs.lemmas.Option.{none-some}
 use Rattle.std.specs.List.{slice_get}
-use Rattle.rv_text.specs.Lexing.{Piece}
+use Rattle.rv_text.specs.Lexing.{SpelledToken}
 use Rattle.rv_stmt.specs.declared.label.Label.{Label}
-use Rattle.rv_stmt.specs.Labels.{labels_and_body, label_at, label_of, with_label}
-use Rattle.rv_stmt.specs.Tokens.{is_sign_there}
+use Rattle.rv_stmt.specs.Labels.{labels_and_body, label_at, label_of_token, with_label}
+use Rattle.rv_stmt.specs.Tokens.{is_punctuation_there}
 
 slice_get-drop : {A : Type 0} (xs : List A) (k i : ℕ) → slice_get xs (k + i) ≡ slice_get (drop k xs) i
 slice_get-drop xs zero i = let place : 0 + i ≡ i = omega arith in ap (slice_get xs) place
@@ -16,24 +16,24 @@ slice_get-drop (x ∷ xs) (suc k) i =
     ap (slice_get (x ∷ xs)) place ∙ slice_get-drop xs k i
 
 -- the label of a token with another after it
-abbrev label_of_two : Option Piece → Option Piece → Option Label
-label_of_two first second =
-    if is_sign_there (codes ":") second then option_and_then label_of first else None
+abbrev label_of_two_tokens : Option SpelledToken → Option SpelledToken → Option Label
+label_of_two_tokens first second =
+    if is_punctuation_there (codes ":") second then option_and_then label_of_token first else None
 
-label_at-drop : (ps : List Piece) (k : ℕ) → label_at ps k ≡ label_at (drop k ps) 0
+label_at-drop : (ps : List SpelledToken) (k : ℕ) → label_at ps k ≡ label_at (drop k ps) 0
 label_at-drop ps k =
     let second : slice_get ps (k + 1) ≡ slice_get (drop k ps) 1 = slice_get-drop ps k 1 in
     let place : k ≡ k + 0 = omega arith in
     let first : slice_get ps k ≡ slice_get (drop k ps) 0 = ap (slice_get ps) place ∙ slice_get-drop ps k 0 in
-    ap (λ b. label_of_two (slice_get ps k) b) second ∙ ap (λ a. label_of_two a (slice_get (drop k ps) 1)) first
+    ap (λ b. label_of_two_tokens (slice_get ps k) b) second ∙ ap (λ a. label_of_two_tokens a (slice_get (drop k ps) 1)) first
 
 -- a label in front: the others follow it and its `:`
-record IsLabelled (ps : List Piece) (label : Label) : Type 0 where
+record IsLabelled (ps : List SpelledToken) (label : Label) : Type 0 where
   labels : (labels_and_body ps).labels ≡ label ∷ (labels_and_body (drop 2 ps)).labels
   body : (labels_and_body ps).body ≡ (labels_and_body (drop 2 ps)).body
   within : 2 ≤ length ps
 
-first_label : (ps : List Piece) (label : Label) → label_at ps 0 ≡ Some label → IsLabelled ps label
+first_label : (ps : List SpelledToken) (label : Label) → label_at ps 0 ≡ Some label → IsLabelled ps label
 first_label [] label h = absurd (none-some label h)
 first_label (p ∷ []) label h = absurd (none-some label h)
 first_label (p ∷ q ∷ ps) label h = record {
@@ -42,12 +42,12 @@ first_label (p ∷ q ∷ ps) label h = record {
   within = omega arith;
 }
 
-no_first_label : (ps : List Piece) → label_at ps 0 ≡ None → labels_and_body ps ≡ record { labels = []; body = ps }
+no_first_label : (ps : List SpelledToken) → label_at ps 0 ≡ None → labels_and_body ps ≡ record { labels = []; body = ps }
 no_first_label [] h = refl
 no_first_label (p ∷ []) h = refl
 no_first_label (p ∷ q ∷ ps) h = ap (λ l. with_label l (p ∷ q ∷ ps) (labels_and_body ps)) h
 
-module _ (ps : List Piece) (k : ℕ) where
+module _ (ps : List SpelledToken) (k : ℕ) where
   -- a label at a place: what follows it and its `:`
   module _ (label : Label) (h : label_at ps k ≡ Some label) where
     found : IsLabelled (drop k ps) label

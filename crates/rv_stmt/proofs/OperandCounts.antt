@@ -7,8 +7,8 @@ use Rattle.rv_text.specs.declared.faults.FaultNumber.TheVariants.{TooDeep}
 use Rattle.rv_text.specs.declared.lexeme.Span.{Span}
 use Rattle.rv_text.specs.declared.lexeme.TokenKind.{TokenKind}
 use Rattle.rv_text.specs.declared.lexeme.TokenKind.TheVariants as kinds
-use Rattle.rv_text.specs.Lexing.{Piece, lexed_line, pieces}
-use Rattle.rv_text.specs.TokenLaws.{few_pieces}
+use Rattle.rv_text.specs.Lexing.{SpelledToken, lexed_line, spelled_tokens}
+use Rattle.rv_text.specs.TokenLaws.{few_spelled_tokens}
 use Rattle.rv_expr.specs.Depth.{depth_after}
 use Rattle.rv_expr.specs.TokenRoles.{token_role}
 use Rattle.rv_ops.specs.Table.{shape_of, classes_of}
@@ -39,7 +39,7 @@ use Rattle.rv_stmt.specs.Registers.{register, register_in, csr_in, set}
 use Rattle.rv_stmt.specs.Runs.{with_first, runs_from, runs_of}
 use Rattle.rv_stmt.specs.Slots.{with_waiting, with_offset, memory_slot, register_or_memory, address_through_rd_slot, csr_or_expression, slot_of, operand_of_slot, slots_read}
 use Rattle.rv_stmt.specs.Statement.{body_of_expansion, body_of_draft, body_of_form, unless_lexical, body_from, body_of, statement_of, operands_of}
-use Rattle.rv_stmt.specs.Tokens.{is_sign, sign_at}
+use Rattle.rv_stmt.specs.Tokens.{is_punctuation, punctuation_at}
 use Rattle.rv_stmt.specs.Values.{is_deep, plain, immediate}
 
 -- a reading, if it succeeds, adds at most so many operands
@@ -97,7 +97,7 @@ slot_adds op slot.Memory r d = memory_adds op r d
 slot_adds op slot.StackMemory r d = then_adds 1 d (memory (shape_of op) StackPointer r.tokens) _ (λ l. offset_adds r.span d l.offset)
 slot_adds op slot.MemoryOrRegister r d = memory_or_register_adds op r d (register_in r.tokens)
 slot_adds op slot.MemoryOrAddress r d =
-    either_adds 1 d (sign_at (codes "%") r.tokens 0 || is_some (base_of r.tokens)) (memory_slot op r d) (address_through_rd_slot r d) (memory_adds op r d) (through_rd_adds r d)
+    either_adds 1 d (punctuation_at (codes "%") r.tokens 0 || is_some (base_of r.tokens)) (memory_slot op r d) (address_through_rd_slot r d) (memory_adds op r d) (through_rd_adds r d)
 slot_adds op slot.Address r d = waiting_adds PairTarget r.span d (plain r.tokens)
 slot_adds op slot.AddressThroughRd r d = through_rd_adds r d
 slot_adds op slot.Csr r d = csr_adds r d (csr_in r.tokens)
@@ -153,22 +153,22 @@ form_operands name runs (Ok form) =
 
 -- there are no more runs than tokens after the name, and one
 
-first_length : (p : Piece) (rs : List Run) → length (with_first p rs) ≡ length rs
+first_length : (p : SpelledToken) (rs : List Run) → length (with_first p rs) ≡ length rs
 first_length p [] = refl
 first_length p (r ∷ rs) = refl
 
-few_from : (end depth : ℕ) (ps : List Piece) → length (runs_from end depth ps) ≤ length ps + 1
+few_from : (end depth : ℕ) (ps : List SpelledToken) → length (runs_from end depth ps) ≤ length ps + 1
 few_from end depth [] = omega arith
 few_from end depth (p ∷ ps) =
     let rest = runs_from p.span.to (depth_after depth (token_role p)) ps in
     let cut = few_from p.span.to 0 ps in
     let joined = few_from p.span.to (depth_after depth (token_role p)) ps in
     let same = first_length p rest in
-    elim (is_sign (codes ",") p && depth == 0)
+    elim (is_punctuation (codes ",") p && depth == 0)
     as (λ ends. length (cond ends (Rattle.rv_stmt.specs.Runs.no_tokens end ∷ runs_from p.span.to 0 ps) (with_first p rest)) ≤ length (p ∷ ps) + 1)
     [ true ↦ omega (arith, cut) | false ↦ omega (arith, joined, same) ]
 
-few_runs : (end : ℕ) (ps : List Piece) → length (runs_of end ps) ≤ length ps + 1
+few_runs : (end : ℕ) (ps : List SpelledToken) → length (runs_of end ps) ≤ length ps + 1
 few_runs end [] = omega arith
 few_runs end (p ∷ ps) = few_from end 0 (p ∷ ps)
 
@@ -178,8 +178,8 @@ unless_operands : (fault : Option Fault) (body : Body) (n : ℕ) → length (ope
 unless_operands None body n h = h
 unless_operands (Some fault) body n h = omega arith
 
-from_operands : (fault : Option Fault) (kind : TokenKind) (p : Piece) (ps : List Piece) → length (operands_of (body_from fault kind p ps)) ≤ length ps + 1
-from_operands fault kinds.Word p ps =
+from_operands : (fault : Option Fault) (kind : TokenKind) (p : SpelledToken) (ps : List SpelledToken) → length (operands_of (body_from fault kind p ps)) ≤ length ps + 1
+from_operands fault kinds.Identifier p ps =
     let runs = runs_of p.span.to ps in
     let h = form_operands p.span runs (form_of p.text (length runs)) in
     let few = few_runs p.span.to ps in
@@ -188,17 +188,17 @@ from_operands fault kinds.Number p ps = unless_operands fault _ (length ps + 1) 
 from_operands fault kinds.Local p ps = unless_operands fault _ (length ps + 1) (omega arith)
 from_operands fault kinds.Str p ps = unless_operands fault _ (length ps + 1) (omega arith)
 from_operands fault kinds.Char p ps = unless_operands fault _ (length ps + 1) (omega arith)
-from_operands fault kinds.Sign p ps = unless_operands fault _ (length ps + 1) (omega arith)
+from_operands fault kinds.Punctuation p ps = unless_operands fault _ (length ps + 1) (omega arith)
 
-body_operands : (fault : Option Fault) (ps : List Piece) → length (operands_of (body_of fault ps)) ≤ length ps
+body_operands : (fault : Option Fault) (ps : List SpelledToken) → length (operands_of (body_of fault ps)) ≤ length ps
 body_operands fault [] = unless_operands fault Empty 0 (omega arith)
 body_operands fault (p ∷ ps) = let h = from_operands fault p.kind p ps in omega (arith, h)
 
-with_label_few : (label : Option Label) (ps qs : List Piece) → length (labels_and_body qs).body ≤ length ps → length (with_label label ps (labels_and_body qs)).body ≤ length ps
+with_label_few : (label : Option Label) (ps qs : List SpelledToken) → length (labels_and_body qs).body ≤ length ps → length (with_label label ps (labels_and_body qs)).body ≤ length ps
 with_label_few None ps qs h = omega arith
 with_label_few (Some label) ps qs h = h
 
-few_in_body : (ps : List Piece) → length (labels_and_body ps).body ≤ length ps
+few_in_body : (ps : List SpelledToken) → length (labels_and_body ps).body ≤ length ps
 few_in_body [] = omega arith
 few_in_body (p ∷ []) = omega arith
 few_in_body (p ∷ q ∷ ps) =
@@ -207,8 +207,8 @@ few_in_body (p ∷ q ∷ ps) =
 
 pub few_operands : (line : List ℕ) → length (operands_of (statement_of line).body) ≤ length line
 few_operands line =
-    let ps = pieces (lexed_line line) in
+    let ps = spelled_tokens (lexed_line line) in
     let h = body_operands (lexed_line line).fault (labels_and_body ps).body in
     let body = few_in_body ps in
-    let few = few_pieces line in
+    let few = few_spelled_tokens line in
     omega (arith, h, body, few)

@@ -3,14 +3,14 @@ use Rattle.std.proofs.Common.{[], ◌∷◌, Some, None, ◌≡◌, ℕ, ◌+◌
 use Rattle.std.specs.List.{slice_range, slice_get}
 use Rattle.std.proofs.lemmas.Option.{none-some, same_Some}
 use Rattle.std.proofs.lemmas.List.{drop_all, length-take-le, length-drop, drop-take, take-take, drop-drop}
-use Rattle.rv_text.specs.Lexing.{LexedLine, pieces}
-use Rattle.rv_text.specs.TokenLaws.{count_of_pieces}
+use Rattle.rv_text.specs.Lexing.{LexedLine, spelled_tokens}
+use Rattle.rv_text.specs.TokenLaws.{count_of_spelled_tokens}
 use Rattle.rv_expr.specs.Reading.{run_of}
 
 pub length_run : (l : LexedLine) (from to : ℕ) → to ≤ length l.tokens → length (run_of l from to) ≡ to - from
 length_run l from to h =
-    let count : length (pieces l) ≡ length l.tokens = count_of_pieces l in
-    length-take-le (to - from) (drop from (pieces l)) (rw length-drop omega (arith, h, count))
+    let count : length (spelled_tokens l) ≡ length l.tokens = count_of_spelled_tokens l in
+    length-take-le (to - from) (drop from (spelled_tokens l)) (rw length-drop omega (arith, h, count))
 
 pub part_of_part : {A : Type 0} (xs : List A) (f t a b : ℕ) → a ≤ b → b ≤ t - f → slice_range xs (f + a) (f + b) ≡ slice_range (slice_range xs f t) a b
 part_of_part xs f t a b h k =
@@ -26,8 +26,8 @@ part_of_part xs f t a b h k =
     ∙ sym (ap (take (b - a)) inner ∙ take-take (b - a) (t - f - a) (drop (f + a) xs) bound)
 
 -- the tokens of a range from a place on
-pub range_behind : {A : Type 0} (xs : List A) (f t k : ℕ) → k ≤ t - f → slice_range xs (f + k) t ≡ drop k (slice_range xs f t)
-range_behind xs f t k h =
+pub range_after : {A : Type 0} (xs : List A) (f t k : ℕ) → k ≤ t - f → slice_range xs (f + k) t ≡ drop k (slice_range xs f t)
+range_after xs f t k h =
     let n : t - f ≡ k + (t - (f + k)) = omega arith in
     sym
     (ap (λ c. drop k (take c (drop f xs))) n
@@ -49,5 +49,5 @@ none_first [] h = refl
 none_first (x ∷ xs) h = absurd (none-some x h)
 
 -- what is left after a place
-pub length_behind : {A : Type 0} (xs : List A) (k : ℕ) → length (drop k xs) ≡ length xs - k
-length_behind xs k = length-drop k xs
+pub length_after : {A : Type 0} (xs : List A) (k : ℕ) → length (drop k xs) ≡ length xs - k
+length_after xs k = length-drop k xs

@@ -2,7 +2,7 @@
 use Rattle.std.specs.Prelude.{ℕ, pos, ◌||◌, List, [], ◌∷◌, Option, Some, None, is_some, Result, Ok, codes, if◌then◌else◌}
 use Rattle.rv_text.specs.declared.faults.Fault.{Fault}
 use Rattle.rv_text.specs.declared.lexeme.Span.{Span}
-use Rattle.rv_text.specs.Lexing.{Piece}
+use Rattle.rv_text.specs.Lexing.{SpelledToken}
 use Rattle.rv_ops.specs.Table.{shape_of, classes_of}
 use Rattle.rv_ops.specs.declared.op.Op.{Op}
 use Rattle.rv_stmt.specs.declared.draft.Draft.{Draft}
@@ -19,7 +19,7 @@ use Rattle.rv_stmt.specs.Memory.{base_of, memory}
 use Rattle.rv_stmt.specs.Readings.{Reading, and_then}
 use Rattle.rv_stmt.specs.Operands.{operand_of_run}
 use Rattle.rv_stmt.specs.Registers.{register_in, register, csr_in, set}
-use Rattle.rv_stmt.specs.Tokens.{sign_at}
+use Rattle.rv_stmt.specs.Tokens.{punctuation_at}
 use Rattle.rv_stmt.specs.Values.{plain, immediate}
 
 -- an operand that waits for its value
@@ -33,7 +33,7 @@ with_offset span d None = Ok (with_value d (pos 0))
 with_offset span d (Some v) = with_waiting Immediate span d (Ok v)
 
 -- the register of a run, which `put` puts into its field
-abbrev pub register_slot : Accepted → List Piece → (ℕ → Draft) → Reading Draft
+abbrev pub register_slot : Accepted → List SpelledToken → (ℕ → Draft) → Reading Draft
 register_slot a run put = and_then (register a run) (λ n. Ok (put n))
 
 -- `offset(register)`, with the register in `rs1`
@@ -63,7 +63,7 @@ address_through_rd_slot r d = with_waiting PairTarget r.span (with_rs1 d d.field
 -- `offset(register)`, or an address that `rd` reaches
 abbrev pub memory_or_address_slot : Op → Run → Draft → Reading Draft
 memory_or_address_slot op r d =
-    if sign_at (codes "%") r.tokens 0 || is_some (base_of r.tokens)
+    if punctuation_at (codes "%") r.tokens 0 || is_some (base_of r.tokens)
     then memory_slot op r d
     else address_through_rd_slot r d
 
@@ -76,10 +76,10 @@ abbrev pub csr_slot : Run → Draft → Reading Draft
 csr_slot r d = csr_or_expression r d (csr_in r.tokens)
 
 -- the sets of a fence
-abbrev pub predecessors_slot : List Piece → Draft → Reading Draft
+abbrev pub predecessors_slot : List SpelledToken → Draft → Reading Draft
 predecessors_slot run d = and_then (set run) (λ n. Ok (with_rs1 d n))
 
-abbrev pub successors_slot : List Piece → Draft → Reading Draft
+abbrev pub successors_slot : List SpelledToken → Draft → Reading Draft
 successors_slot run d = and_then (set run) (λ n. Ok (with_rs2 d n))
 
 -- the draft with what a slot reads from a run, or what is wrong with the run

@@ -6,7 +6,7 @@ use Rattle.rv_text.specs.declared.faults.FaultNumber.TheVariants.{NoStatement}
 use Rattle.rv_text.specs.declared.lexeme.Span.{Span}
 use Rattle.rv_text.specs.declared.lexeme.TokenKind.{TokenKind}
 use Rattle.rv_text.specs.declared.lexeme.TokenKind.TheVariants as kinds
-use Rattle.rv_text.specs.Lexing.{LexedLine, Piece, lexed_line, pieces}
+use Rattle.rv_text.specs.Lexing.{LexedLine, SpelledToken, lexed_line, spelled_tokens}
 use Rattle.rv_stmt.specs.declared.expansion.Expansion.{Expansion}
 use Rattle.rv_stmt.specs.declared.expansion.Expansion.TheVariants.{Itself}
 use Rattle.rv_stmt.specs.declared.operand.Operand.{Operand}
@@ -43,7 +43,7 @@ body_of_form name runs (Ok form) =
     body_of_draft form name (slots_read form.op form.slots runs (record { fields = form.fields; operands = [] }))
 
 -- the body of an instruction's mnemonic and its runs
-abbrev pub body_of_mnemonic : Piece → List Run → Body
+abbrev pub body_of_mnemonic : SpelledToken → List Run → Body
 body_of_mnemonic p runs = body_of_form p.span runs (form_of p.text (length runs))
 
 -- the lexical fault that ends the tokens, where there is one and it counts, or else a body
@@ -53,23 +53,23 @@ unless_lexical None body = body
 
 -- the body of a name and what follows it: the name decides whether a lexical fault after it counts, and it does after the
 -- mnemonics of instructions and after unknown names
-abbrev pub body_of_name : Option Fault → Piece → List Piece → Body
+abbrev pub body_of_name : Option Fault → SpelledToken → List SpelledToken → Body
 body_of_name fault p ps = unless_lexical fault (body_of_mnemonic p (runs_of p.span.to ps))
 
 -- a body begins with a word
-abbrev pub body_from : Option Fault → TokenKind → Piece → List Piece → Body
-body_from fault kinds.Word p ps = body_of_name fault p ps
+abbrev pub body_from : Option Fault → TokenKind → SpelledToken → List SpelledToken → Body
+body_from fault kinds.Identifier p ps = body_of_name fault p ps
 body_from fault kind p ps = unless_lexical fault (Faulty (record { number = NoStatement; span = p.span }))
 
 -- the body that some tokens are, which a lexical fault may end
-abbrev pub body_of : Option Fault → List Piece → Body
+abbrev pub body_of : Option Fault → List SpelledToken → Body
 body_of fault [] = unless_lexical fault Empty
 body_of fault (p ∷ ps) = body_from fault p.kind p ps
 
 -- labels before a fault count
 abbrev pub statement_of_lexed : LexedLine → Stmt
 statement_of_lexed l =
-    record { labels = (labels_and_body (pieces l)).labels; body = body_of l.fault (labels_and_body (pieces l)).body }
+    record { labels = (labels_and_body (spelled_tokens l)).labels; body = body_of l.fault (labels_and_body (spelled_tokens l)).body }
 
 -- the statement of a line
 abbrev pub statement_of : List ℕ → Stmt

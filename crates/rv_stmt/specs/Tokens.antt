@@ -2,34 +2,34 @@
 use Rattle.std.specs.Prelude.{ℕ, Bool, true, false, ◌&&◌, ◌==◌, bytes_eq, List, length, Option, Some, None, option_and_then, if◌then◌else◌}
 use Rattle.std.specs.List.{slice_get}
 use Rattle.rv_text.specs.declared.lexeme.TokenKind.{TokenKind}
-use Rattle.rv_text.specs.declared.lexeme.TokenKind.TheVariants.{Word, Sign}
-use Rattle.rv_text.specs.Lexing.{Piece}
+use Rattle.rv_text.specs.declared.lexeme.TokenKind.TheVariants.{Identifier, Punctuation}
+use Rattle.rv_text.specs.Lexing.{SpelledToken}
 
-abbrev pub is_sign_kind : TokenKind → Bool
-is_sign_kind Sign = true
-is_sign_kind kind = false
+abbrev pub is_punctuation_kind : TokenKind → Bool
+is_punctuation_kind Punctuation = true
+is_punctuation_kind kind = false
 
 -- the token is this sign
-abbrev pub is_sign : List ℕ → Piece → Bool
-is_sign sign p = is_sign_kind p.kind && bytes_eq p.text sign
+abbrev pub is_punctuation : List ℕ → SpelledToken → Bool
+is_punctuation punctuation p = is_punctuation_kind p.kind && bytes_eq p.text punctuation
 
-abbrev pub is_sign_there : List ℕ → Option Piece → Bool
-is_sign_there sign None = false
-is_sign_there sign (Some p) = is_sign sign p
+abbrev pub is_punctuation_there : List ℕ → Option SpelledToken → Bool
+is_punctuation_there punctuation None = false
+is_punctuation_there punctuation (Some p) = is_punctuation punctuation p
 
 -- the sign stands at a place
-abbrev pub sign_at : List ℕ → List Piece → ℕ → Bool
-sign_at sign run k = is_sign_there sign (slice_get run k)
+abbrev pub punctuation_at : List ℕ → List SpelledToken → ℕ → Bool
+punctuation_at punctuation run k = is_punctuation_there punctuation (slice_get run k)
 
 -- the text of a word
-abbrev pub word_of : TokenKind → List ℕ → Option (List ℕ)
-word_of Word text = Some text
-word_of kind text = None
+abbrev pub identifier_of : TokenKind → List ℕ → Option (List ℕ)
+identifier_of Identifier text = Some text
+identifier_of kind text = None
 
 -- the word at a place
-abbrev pub word_at : List Piece → ℕ → Option (List ℕ)
-word_at run k = option_and_then (λ p. word_of p.kind p.text) (slice_get run k)
+abbrev pub identifier_at : List SpelledToken → ℕ → Option (List ℕ)
+identifier_at run k = option_and_then (λ p. identifier_of p.kind p.text) (slice_get run k)
 
 -- the one word that the tokens are
-abbrev pub one_word : List Piece → Option (List ℕ)
-one_word run = if length run == 1 then word_at run 0 else None
+abbrev pub one_identifier : List SpelledToken → Option (List ℕ)
+one_identifier run = if length run == 1 then identifier_at run 0 else None

@@ -1,4 +1,4 @@
-//! Reads the labels in front of a line's body.
+//! Reads the labels before a line's body.
 
 ghost use Rattle.std.specs.Prelude.{◌≡◌, ◌≤◌, ◌<◌, ◌^◌, length, drop, IfOk};
 ghost use Rattle.rv_stmt.specs.Labels.{label_name, labels_and_body, label_at};
@@ -14,7 +14,7 @@ fn label_name(alloc: Global, kind: TokenKind, text: &[u8]) -> Result<Option<Labe
     ensures { IfOk result (λ name. name ≡ label_name kind text.now) }
 {
     match kind {
-        TokenKind::Word if text != b".".as_slice() => {
+        TokenKind::Identifier if text != b".".as_slice() => {
             Ok(Some(LabelName::Symbol(Name::of(alloc, text)?)))
         }
         TokenKind::Number if is_local_number(text) => {
@@ -29,7 +29,7 @@ fn label_at(alloc: Global, line: &TokenRange<'_>, place: usize) -> Result<Option
     requires { place < 2 ^ 32 }
     ensures { IfOk result (λ label. label ≡ label_at line.now place) }
 {
-    if !line.sign_at(b":", place + 1) {
+    if !line.punctuation_at(b":", place + 1) {
         return Ok(None);
     }
     let Some(token) = line.token_at(place) else {

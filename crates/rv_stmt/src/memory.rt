@@ -1,7 +1,7 @@
 //! Operands in memory: `offset(register)`.
 
 ghost use Rattle.std.specs.Prelude.{◌≡◌, ◌+◌, ◌<◌, ◌≤◌, ◌^◌, IfOk, IfSome, option_map, length, take, drop};
-ghost use Rattle.rv_stmt.specs.Memory.{base_at, base_of, offset, closed_within, group_from, group_of, base_behind, modified_memory, plain_memory, memory};
+ghost use Rattle.rv_stmt.specs.Memory.{base_at, base_of, offset, closed_within, group_from, group_of, base_after, modified_memory, plain_memory, memory};
 
 use crate::operand::OperandValue;
 use crate::reading::Attempt;
@@ -25,10 +25,10 @@ fn base_at(run: &TokenRange<'_>, place: usize) -> Option<Reg>
     requires { place + 2 < 2 ^ 64 }
     ensures { result ≡ base_at run.now place }
 {
-    if !(run.sign_at(b"(", place) && run.sign_at(b")", place + 2)) {
+    if !(run.punctuation_at(b"(", place) && run.punctuation_at(b")", place + 2)) {
         return None;
     }
-    let name = run.word_at(place + 1)?;
+    let name = run.identifier_at(place + 1)?;
     reg_by_name(name)
 }
 
@@ -64,21 +64,21 @@ fn closed_within(run: &TokenRange<'_>) -> Option<usize>
 
 // How many tokens a modifier has with its parentheses: `%`, a name if there is one, and up to the parenthesis that
 // closes the first.
-#[tactic(auto, using(crate::proofs::Ranges::length_behind))]
+#[tactic(auto, using(crate::proofs::Ranges::length_after))]
 fn group_of(run: &TokenRange<'_>) -> Option<usize>
     ensures value { result ≡ group_of run.now }
     ensures within { IfSome result (λ n. n ≤ length run.now) }
 {
-    let open = if run.word_at(1).is_some() { 2 } else { 1 };
-    if !run.sign_at(b"(", open) {
+    let open = if run.identifier_at(1).is_some() { 2 } else { 1 };
+    if !run.punctuation_at(b"(", open) {
         return None;
     }
     Some(open + closed_within(&run.skip(open))?)
 }
 
 // The register in parentheses after a modifier, if nothing else follows.
-fn base_behind(run: &TokenRange<'_>, place: usize) -> Option<Reg>
-    ensures { result ≡ base_behind run.now place }
+fn base_after(run: &TokenRange<'_>, place: usize) -> Option<Reg>
+    ensures { result ≡ base_after run.now place }
 {
     let length = run.len();
     if length < 3 || length - 3 != place {
@@ -109,7 +109,7 @@ fn modified_memory(
     let Some(length) = group_of(run) else {
         return Ok(Err(FaultNumber::BadRegister));
     };
-    let base = match accepted.check(base_behind(run, length)) {
+    let base = match accepted.check(base_after(run, length)) {
         Ok(base) => base,
         Err(fault) => return Ok(Err(fault)),
     };
@@ -142,7 +142,7 @@ pub fn memory(
 ) -> Attempt<Located>
     ensures { IfOk result (λ r. r ≡ memory shape accepted run.now) }
 {
-    if run.sign_at(b"%", 0) {
+    if run.punctuation_at(b"%", 0) {
         modified_memory(alloc, shape, accepted, run)
     } else {
         plain_memory(alloc, accepted, run)

@@ -48,7 +48,7 @@ impl Accepted {
 pub fn register_in(run: &TokenRange<'_>) -> Option<Reg>
     ensures { result ≡ register_in run.now }
 {
-    let name = run.one_word()?;
+    let name = run.one_identifier()?;
     reg_by_name(name)
 }
 
@@ -63,6 +63,6 @@ pub fn register(accepted: Accepted, run: &TokenRange<'_>) -> Reading<Reg>
 pub fn csr_in(run: &TokenRange<'_>) -> Option<Csr>
     ensures { result ≡ csr_in run.now }
 {
-    let name = run.one_word()?;
+    let name = run.one_identifier()?;
     csr_by_name(name)
 }

@@ -2,10 +2,10 @@
 
 ghost use Rattle.std.specs.Prelude.{◌≡◌, ◌+◌, ◌-◌, ◌&&◌, ◌==◌, codes, ◌<◌, ◌≤◌, ◌^◌, [], ◌∷◌, length, map, IfOk};
 ghost use Rattle.rv_text.specs.declared.lexeme.Span.{Span};
-ghost use Rattle.rv_stmt.specs.FirstRun.{run_length, run_end, runs_behind};
+ghost use Rattle.rv_stmt.specs.FirstRun.{run_length, run_end, runs_after};
 ghost use Rattle.rv_stmt.specs.Operands.{reported_at, operand_of_run};
 ghost use Rattle.rv_stmt.specs.Runs.{runs_from, runs_of};
-ghost use Rattle.rv_stmt.specs.Tokens.{is_sign};
+ghost use Rattle.rv_stmt.specs.Tokens.{is_punctuation};
 
 use crate::reading::Reading;
 use crate::token_range::{Lexeme, TokenRange};
@@ -42,9 +42,9 @@ impl Run<'_> {
 
 // Whether a token is a comma outside parentheses.
 fn ends_run(depth: usize, token: &Lexeme<'_>) -> bool
-    ensures { result ≡ (is_sign (codes ",") token.now && depth == 0) }
+    ensures { result ≡ (is_punctuation (codes ",") token.now && depth == 0) }
 {
-    token.is_sign(b",") && depth == 0
+    token.is_punctuation(b",") && depth == 0
 }
 
 // How many tokens stand before the next comma outside parentheses, and where they end; `before` is the end of the
@@ -69,10 +69,10 @@ fn run_extent(tokens: &TokenRange<'_>, before: u32) -> (usize, u32)
     (length, end)
 }
 
-// The run at the front of some tokens, and what follows it, from its comma on.
+// The run at the start of some tokens, and what follows it, from its comma on.
 #[tactic(auto, using(crate::proofs::RunLemmas::first_run, crate::proofs::RunLemmas::run_length_within))]
 fn next_run<'a>(tokens: &TokenRange<'a>, end: u32) -> (Run<'a>, TokenRange<'a>)
-    ensures runs { runs_from end 0 tokens.now ≡ result.0 ∷ runs_behind result.1 }
+    ensures runs { runs_from end 0 tokens.now ≡ result.0 ∷ runs_after result.1 }
     ensures shorter { length result.1 ≤ length tokens.now }
 {
     let (length, to) = run_extent(tokens, end);

@@ -32,7 +32,7 @@ pub const SETS: [(u8, &str); 15] = [
 pub fn set(run: &TokenRange<'_>) -> Reading<Reg>
     ensures { result ≡ set run.now }
 {
-    let name = run.one_word().ok_or(FaultNumber::BadOperand)?;
+    let name = run.one_identifier().ok_or(FaultNumber::BadOperand)?;
     let bits = first_named(&SETS, name).and_then(Reg::new);
     bits.ok_or(FaultNumber::BadOperand)
 }

@@ -147,7 +147,7 @@ fn body_of(
     let Some((first, after)) = tokens.split_first() else {
         return Ok(unless_lexical(lexical, Body::Empty));
     };
-    if first.kind == TokenKind::Word {
+    if first.kind == TokenKind::Identifier {
         return body_of_name(alloc, lexical, &first, &after);
     }
     let fault = Fault {
@@ -158,7 +158,7 @@ fn body_of(
 }
 
 /// The statement of a line's tokens.
-#[tactic(auto, using(crate::proofs::StatementLemmas::all_pieces, rv_text::specs::TokenLaws::count_of_pieces))]
+#[tactic(auto, using(crate::proofs::StatementLemmas::all_spelled_tokens, rv_text::specs::TokenLaws::count_of_spelled_tokens))]
 pub fn statement(alloc: Global, tokens: &Tokens<'_>) -> Result<Stmt, AllocError>
     requires { length tokens.now.tokens < 2 ^ 31 }
     ensures { IfOk result (λ s. s ≡ statement_of_lexed tokens.now) }

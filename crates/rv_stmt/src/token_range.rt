@@ -5,7 +5,7 @@ ghost use Rattle.std.specs.List.{slice_get};
 ghost use Rattle.rv_expr.specs.Depth.{depth_of};
 ghost use Rattle.rv_expr.specs.Reading.{run_of, expression_of};
 ghost use Rattle.rv_expr.specs.Refusals.{Refuses};
-ghost use Rattle.rv_stmt.specs.Tokens.{is_sign, sign_at, word_at, one_word};
+ghost use Rattle.rv_stmt.specs.Tokens.{is_punctuation, punctuation_at, identifier_at, one_identifier};
 ghost use Rattle.rv_stmt.specs.Values.{is_deep};
 
 use rv_expr::{Expr, MAX_DEPTH, ReadFault, parenthesis_depth, read};
@@ -22,19 +22,19 @@ pub struct Lexeme<'a> {
 }
 
 impl<'a> Model for Lexeme<'a> {
-    ghost use Rattle.rv_text.specs.Lexing.{Piece};
+    ghost use Rattle.rv_text.specs.Lexing.{SpelledToken};
 
-    ghost Value = { Piece };
+    ghost Value = { SpelledToken };
 
     ghost view = { λ l. record { kind = l.kind; text = l.text.now; span = l.span } };
 }
 
 impl Lexeme<'_> {
     /// Whether it is the sign.
-    pub fn is_sign(&self, sign: &[u8]) -> bool
-        ensures { result ≡ is_sign sign.now self.now }
+    pub fn is_punctuation(&self, punctuation: &[u8]) -> bool
+        ensures { result ≡ is_punctuation punctuation.now self.now }
     {
-        self.kind == TokenKind::Sign && self.text == sign
+        self.kind == TokenKind::Punctuation && self.text == punctuation
     }
 }
 
@@ -48,10 +48,10 @@ pub struct TokenRange<'a> {
 
 impl<'a> Model for TokenRange<'a> {
     ghost use Rattle.std.specs.Prelude.{◌≤◌, ◌<◌, ◌^◌, List, length};
-    ghost use Rattle.rv_text.specs.Lexing.{Piece};
+    ghost use Rattle.rv_text.specs.Lexing.{SpelledToken};
     ghost use Rattle.rv_expr.specs.Reading.{run_of};
 
-    ghost Value = { List Piece };
+    ghost Value = { List SpelledToken };
 
     ghost view = { λ r. run_of r.tokens.now r.from r.to };
 
@@ -91,34 +91,34 @@ impl<'a> TokenRange<'a> {
     }
 
     /// Whether the token at a place is the sign.
-    pub fn sign_at(&self, sign: &[u8], place: usize) -> bool
-        ensures { result ≡ sign_at sign.now self.now place }
+    pub fn punctuation_at(&self, punctuation: &[u8], place: usize) -> bool
+        ensures { result ≡ punctuation_at punctuation.now self.now place }
     {
         match self.token_at(place) {
-            Some(token) => token.is_sign(sign),
+            Some(token) => token.is_punctuation(punctuation),
             None => false,
         }
     }
 
     /// The word at a place, if one stands there.
-    pub fn word_at(&self, place: usize) -> Option<&'a [u8]>
-        ensures { option_map (λ w. w.now) result ≡ word_at self.now place }
+    pub fn identifier_at(&self, place: usize) -> Option<&'a [u8]>
+        ensures { option_map (λ w. w.now) result ≡ identifier_at self.now place }
     {
         let token = self.token_at(place)?;
         match token.kind {
-            TokenKind::Word => Some(token.text),
+            TokenKind::Identifier => Some(token.text),
             _ => None,
         }
     }
 
     /// The one word that the tokens are, if they are one.
-    pub fn one_word(&self) -> Option<&'a [u8]>
-        ensures { option_map (λ w. w.now) result ≡ one_word self.now }
+    pub fn one_identifier(&self) -> Option<&'a [u8]>
+        ensures { option_map (λ w. w.now) result ≡ one_identifier self.now }
     {
         if self.len() != 1 {
             return None;
         }
-        self.word_at(0)
+        self.identifier_at(0)
     }
 
     /// The tokens from a place up to, and without, another.
@@ -132,7 +132,7 @@ impl<'a> TokenRange<'a> {
     }
 
     /// The tokens from a place on.
-    #[tactic(auto, using(crate::proofs::Ranges::length_run, crate::proofs::Ranges::range_behind, crate::proofs::Ranges::past_range))]
+    #[tactic(auto, using(crate::proofs::Ranges::length_run, crate::proofs::Ranges::range_after, crate::proofs::Ranges::past_range))]
     pub fn skip(&self, place: usize) -> Self
         ensures tokens { result ≡ drop place self.now }
         ensures fits { length self.now < 2 ^ 64 }

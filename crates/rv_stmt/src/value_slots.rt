@@ -77,7 +77,7 @@ impl Draft {
     pub fn memory_or_address_slot(self, alloc: Global, op: Op, run: &Run<'_>) -> Attempt<Draft>
         ensures { IfOk result (λ r. r ≡ memory_or_address_slot op run.now self) }
     {
-        if run.tokens.sign_at(b"%", 0) || base_of(&run.tokens).is_some() {
+        if run.tokens.punctuation_at(b"%", 0) || base_of(&run.tokens).is_some() {
             self.memory_slot(alloc, op, run)
         } else {
             self.address_through_rd_slot(alloc, run)

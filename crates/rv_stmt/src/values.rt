@@ -1,7 +1,7 @@
 //! The values of operands: expressions, with or without a modifier.
 
 ghost use Rattle.std.specs.Prelude.{◌≡◌, IfOk, option_and_then};
-ghost use Rattle.rv_stmt.specs.Tokens.{word_at};
+ghost use Rattle.rv_stmt.specs.Tokens.{identifier_at};
 ghost use Rattle.rv_stmt.specs.Values.{expression, plain, modifier_named, modifier_of_shape, label_reference, value_of_modifier, modified_value, immediate};
 
 use crate::modifiers::{Modifier, modifier_named, takes_modifier};
@@ -34,9 +34,9 @@ pub fn plain(alloc: Global, run: &TokenRange<'_>) -> Attempt<OperandValue>
 
 // The modifier whose name stands after a `%`, if the shape takes it.
 fn modifier_of(shape: Shape, run: &TokenRange<'_>) -> Option<Modifier>
-    ensures { result ≡ modifier_of_shape shape (option_and_then modifier_named (word_at run.now 1)) }
+    ensures { result ≡ modifier_of_shape shape (option_and_then modifier_named (identifier_at run.now 1)) }
 {
-    let name = run.word_at(1)?;
+    let name = run.identifier_at(1)?;
     let modifier = modifier_named(name)?;
     if takes_modifier(shape, modifier) {
         Some(modifier)
@@ -77,7 +77,7 @@ pub fn modified_value(alloc: Global, shape: Shape, run: &TokenRange<'_>) -> Atte
     ensures { IfOk result (λ r. r ≡ modified_value shape run.now) }
 {
     let length = run.len();
-    if !(length >= 4 && run.sign_at(b"(", 2) && run.sign_at(b")", length - 1)) {
+    if !(length >= 4 && run.punctuation_at(b"(", 2) && run.punctuation_at(b")", length - 1)) {
         return Ok(Err(FaultNumber::BadOperand));
     }
     match modifier_of(shape, run) {
@@ -90,7 +90,7 @@ pub fn modified_value(alloc: Global, shape: Shape, run: &TokenRange<'_>) -> Atte
 pub fn immediate(alloc: Global, shape: Shape, run: &TokenRange<'_>) -> Attempt<OperandValue>
     ensures { IfOk result (λ r. r ≡ immediate shape run.now) }
 {
-    if run.sign_at(b"%", 0) {
+    if run.punctuation_at(b"%", 0) {
         modified_value(alloc, shape, run)
     } else {
         plain(alloc, run)

@@ -31,7 +31,7 @@ fn push_local(
 fn push_expression(alloc: Global, text: &mut String, expr: &Expr) -> Result<(), Fail> {
     match &expr.node {
         Node::Number(number) => text.push_str(format!(in alloc; " {number}")?.as_str())?,
-        Node::Word(name) => {
+        Node::Symbol(name) => {
             text.push(' ')?;
             push_name(text, name)?;
         }

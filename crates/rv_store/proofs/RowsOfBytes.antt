@@ -3,7 +3,7 @@ use Rattle.std.proofs.Common.{◌≡◌, ℕ, zero, suc, ◌+◌, ◌-◌, ◌*�
 use Rattle.std.proofs.lemmas.List.{take_all, drop_all, append-nil, drop-drop}
 use Rattle.std.proofs.Math.Seq.{take-append_seam, drop-append_seam}
 use Rattle.std.specs.Prelude.{Option}
-use Rattle.rv_text.specs.Streams.{WritesFront}
+use Rattle.rv_text.specs.Streams.{WritesPrefix}
 use Rattle.rv_text.specs.Blocks.{Waits}
 use Rattle.rv_text.specs.BlockLaws.{waits_then, waits_lost, lost_first}
 use Rattle.rv_store.specs.Image.{byte_row, first_rows, row_count, byte_rows}
@@ -18,10 +18,10 @@ taken_all row left all whole none few =
 -- sixteen bytes were taken
 pub taken_full : (row left all : List ℕ) → row ++ left ≡ all → length row ≡ 16 → (row ≡ take 16 all) × (left ≡ drop 16 all)
 taken_full row left all whole full =
-    let front : take (length row) (row ++ left) ≡ row = take-append_seam row left in
+    let prefix : take (length row) (row ++ left) ≡ row = take-append_seam row left in
     let back : drop (length row) (row ++ left) ≡ left = drop-append_seam row left in
-    let front' = rw (full, whole) at front in
-    let back' = rw (full, whole) at back in (sym front', sym back')
+    let prefix' = rw (full, whole) at prefix in
+    let back' = rw (full, whole) at back in (sym prefix', sym back')
 
 -- one row more
 pub next_row_is : (start k : ℕ) (bytes row : List ℕ) → row ≡ take 16 (drop (16 * k) bytes) → first_rows start bytes (k + 1) ≡ first_rows start bytes k ++ byte_row (start + 16 * k) row
@@ -43,9 +43,9 @@ rows_then start bytes k (suc more) =
     }
 
 -- a write fails within the row that comes next
-pub front_of_rows : (start : ℕ) (bytes row : List ℕ) (k : ℕ) (t0 t1 t2 : Option (List ℕ)) (p0 p1 : List ℕ) → k < row_count (length bytes) → row ≡ take 16 (drop (16 * k) bytes) → Waits t0 p0 (first_rows start bytes k) t1 p1 → WritesFront t1 (p1 ++ byte_row (start + 16 * k) row) t2 → WritesFront t0 (p0 ++ byte_rows start bytes) t2
+pub prefix_of_rows : (start : ℕ) (bytes row : List ℕ) (k : ℕ) (t0 t1 t2 : Option (List ℕ)) (p0 p1 : List ℕ) → k < row_count (length bytes) → row ≡ take 16 (drop (16 * k) bytes) → Waits t0 p0 (first_rows start bytes k) t1 p1 → WritesPrefix t1 (p1 ++ byte_row (start + 16 * k) row) t2 → WritesPrefix t0 (p0 ++ byte_rows start bytes) t2
 unfolding byte_rows
-front_of_rows start bytes row k t0 t1 t2 p0 p1 within e a w =
+prefix_of_rows start bytes row k t0 t1 t2 p0 p1 within e a w =
     let more = row_count (length bytes) - (k + 1) in
     let then_ = rows_then start bytes (k + 1) more in
     let count : k + 1 + more ≡ row_count (length bytes) = omega arith in

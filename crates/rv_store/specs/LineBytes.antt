@@ -2,7 +2,7 @@
 -- 20191213, section 2.4: `NAME rd, rs1, rs2` for an operation on registers, `NAME rd, rs1, LITERAL` for one with an
 -- immediate. Every other line has none.
 use Rattle.std.specs.Prelude.{ℕ, ℤ, pos, neg_ℤ, ◌/◌, ◌%◌, Bool, not, ◌&&◌, ◌==◌, List, [], length, map, Option, Some, None, is_some, nat_le, option_map, option_and_then, slice_index_or, if◌then◌else◌, codes, bytes_eq}
-use Rattle.rv_text.specs.Lexing.{LexedLine, lexed_line, pieces}
+use Rattle.rv_text.specs.Lexing.{LexedLine, lexed_line, spelled_tokens}
 use Rattle.rv_text.specs.Numbers.{number_of}
 use Rattle.rv_ops.specs.declared.op.Op.{Op}
 use Rattle.rv_ops.specs.declared.op.Shape.{Shape}
@@ -15,7 +15,7 @@ use Rattle.rv_code.specs.Encoding.{word_of, bytes_of_word, is_immediate, registe
 
 -- the texts of the tokens
 abbrev pub texts : LexedLine → List (List ℕ)
-texts line = map (λ piece. piece.text) (pieces line)
+texts line = map (λ token. token.text) (spelled_tokens line)
 
 -- the text of a token, by its place from 0 on
 abbrev pub token_text : List (List ℕ) → ℕ → List ℕ

@@ -12,7 +12,7 @@ use crate::store::Store;
 use crate::word_bytes::WordBytes;
 use crate::words::total_size;
 use rv_code::Word;
-use rv_text::{Failed, OutputBlock, Row, Sink};
+use rv_text::{Failed, OutputBlock, OutputRow, Sink};
 use thiserror::Error;
 
 /// Why a text was not written as a whole.
@@ -52,7 +52,7 @@ fn push_byte_row<W: Sink>(
     ensures text { Gathers (W.taken sink.old) block.old (byte_row address bytes.now) result (W.taken sink.new) block.new }
     ensures count { W.failures sink.new ≡ failures_after (W.failures sink.old) result }
 {
-    let mut row = Row::new();
+    let mut row = OutputRow::new();
     row.push_hex(8, address);
     row.push_text(b":");
     for byte in bytes {
@@ -99,7 +99,7 @@ fn push_section_row<W: Sink>(
     ensures text { Gathers (W.taken sink.old) block.old (section_row name.now base size) result (W.taken sink.new) block.new }
     ensures count { W.failures sink.new ≡ failures_after (W.failures sink.old) result }
 {
-    let mut row = Row::new();
+    let mut row = OutputRow::new();
     row.push_text(name);
     row.push_text(b" 0x");
     row.push_hex(8, base);

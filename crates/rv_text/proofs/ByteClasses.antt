@@ -7,8 +7,8 @@ use Rattle.std.proofs.lemmas.Bool.{and_parts, or_cases, and_from, cases_Bool, eq
 use Rattle.std.proofs.lemmas.Bool.Decides.{nat_tests}
 use Rattle.std.proofs.lemmas.List.Folds.{list_all-append}
 use Rattle.rv_text.specs.declared.lexeme.TokenKind.{TokenKind}
-use Rattle.rv_text.specs.declared.lexeme.TokenKind.TheVariants.{Word, Number, Local, Str, Char, Sign}
-use Rattle.rv_text.specs.Bytes.{is_word_start, is_sign_byte}
+use Rattle.rv_text.specs.declared.lexeme.TokenKind.TheVariants.{Identifier, Number, Local, Str, Char, Punctuation}
+use Rattle.rv_text.specs.Bytes.{is_identifier_start, is_punctuation_byte}
 use Rattle.rv_text.specs.Lexical.{IsOfKind, goes_on}
 use Rattle.rv_text.specs.Numbers.{number_of, after_zero, digits_number, is_local, is_local_number}
 
@@ -40,7 +40,7 @@ run_ends (b ∷ bs) =
     (cases_Bool (is_ascii_alphanumeric b))
 
 -- bytes
-pub digit_no_start : (b : ℕ) → is_ascii_digit b ≡ true → is_word_start b ≡ false
+pub digit_no_start : (b : ℕ) → is_ascii_digit b ≡ true → is_identifier_start b ≡ false
 digit_no_start b h = grind (arith, nat_tests)
 
 digit_alphanumeric : (base c : ℕ) → base ≤ 16 → is_digit c base ≡ true → is_ascii_alphanumeric c ≡ true
@@ -115,9 +115,9 @@ decimals_alphanumeric (c ∷ cs) all =
     and_from _ _ (digit_is_alphanumeric c parts.0) (decimals_alphanumeric cs parts.1)
 
 -- all but the last, and the last
-pub last_behind : (c : ℕ) (cs : List ℕ) → take (length cs) (c ∷ cs) ++ get_or (c ∷ cs) (length cs) 0 ∷ [] ≡ c ∷ cs
-last_behind c [] = refl
-last_behind c (d ∷ ds) = ap (λ l. c ∷ l) (last_behind d ds)
+pub last_after : (c : ℕ) (cs : List ℕ) → take (length cs) (c ∷ cs) ++ get_or (c ∷ cs) (length cs) 0 ∷ [] ≡ c ∷ cs
+last_after c [] = refl
+last_after c (d ∷ ds) = ap (λ l. c ∷ l) (last_after d ds)
 
 pub local_parts : (c : ℕ) (cs : List ℕ) → is_local (c ∷ cs) ≡ true → (is_local_number (take (length cs) (c ∷ cs)) ≡ true) × ((get_or (c ∷ cs) (length cs) 0 == 0x62 || get_or (c ∷ cs) (length cs) 0 == 0x66) ≡ true)
 local_parts c cs h = let e : length (c ∷ cs) - 1 ≡ length cs = omega arith in and_parts _ _ (rw e at h)
@@ -130,9 +130,9 @@ local_alphanumeric [] h = absurd cc
 local_alphanumeric (c ∷ cs) h =
     let parts = local_parts c cs h in
     let digits = take (length cs) (c ∷ cs) in
-    let front = decimals_alphanumeric digits (local_number_digits digits parts.0) in
+    let prefix = decimals_alphanumeric digits (local_number_digits digits parts.0) in
     let last = letter_last (get_or (c ∷ cs) (length cs) 0) parts.1 in
-    subst (λ l. list_all is_ascii_alphanumeric l ≡ true) (last_behind c cs) (list_all-append is_ascii_alphanumeric (take (length cs) (c ∷ cs)) (get_or (c ∷ cs) (length cs) 0 ∷ []) ∙ and_from _ _ front (and_from _ _ last refl))
+    subst (λ l. list_all is_ascii_alphanumeric l ≡ true) (last_after c cs) (list_all-append is_ascii_alphanumeric (take (length cs) (c ∷ cs)) (get_or (c ∷ cs) (length cs) 0 ∷ []) ∙ and_from _ _ prefix (and_from _ _ last refl))
 
 pub local_first : (c : ℕ) (cs : List ℕ) → is_local (c ∷ cs) ≡ true → is_ascii_digit c ≡ true
 local_first c [] h = absurd (let parts = local_parts c [] h in cc)
@@ -142,42 +142,42 @@ local_first c (d ∷ ds) h =
 -- the class of a byte, by the kinds of tokens that begin with it
 abbrev pub class_of : ℕ → ℕ
 class_of b =
-    cond (is_word_start b) 1 (cond (is_ascii_digit b) 2 (cond (b == 0x22) 3 (cond (b == 0x27) 4 (cond (is_sign_byte b) 5 0))))
+    cond (is_identifier_start b) 1 (cond (is_ascii_digit b) 2 (cond (b == 0x22) 3 (cond (b == 0x27) 4 (cond (is_punctuation_byte b) 5 0))))
 
 abbrev pub class_of_kind : TokenKind → ℕ
-class_of_kind Word = 1
+class_of_kind Identifier = 1
 class_of_kind Number = 2
 class_of_kind Local = 2
 class_of_kind Str = 3
 class_of_kind Char = 4
-class_of_kind Sign = 5
+class_of_kind Punctuation = 5
 
-pub start_class : (b : ℕ) → is_word_start b ≡ true → class_of b ≡ 1
+pub start_class : (b : ℕ) → is_identifier_start b ≡ true → class_of b ≡ 1
 start_class b h = rw h refl
 
 pub digit_class : (b : ℕ) → is_ascii_digit b ≡ true → class_of b ≡ 2
 digit_class b h = rw (digit_no_start b h, h) refl
 
-sign_class : (b : ℕ) → (is_sign_byte b && not (is_word_start b) && not (is_ascii_digit b)) ≡ true → class_of b ≡ 5
-sign_class b h =
-    let outer = and_parts (is_sign_byte b && not (is_word_start b)) (not (is_ascii_digit b)) h in
-    let inner = and_parts (is_sign_byte b) (not (is_word_start b)) outer.0 in
+punctuation_class : (b : ℕ) → (is_punctuation_byte b && not (is_identifier_start b) && not (is_ascii_digit b)) ≡ true → class_of b ≡ 5
+punctuation_class b h =
+    let outer = and_parts (is_punctuation_byte b && not (is_identifier_start b)) (not (is_ascii_digit b)) h in
+    let inner = and_parts (is_punctuation_byte b) (not (is_identifier_start b)) outer.0 in
     let last = and_parts (nat_le 0x21 b && nat_le b 0x7E && not (b == 0x22)) (not (b == 0x27)) inner.0 in
     let third = and_parts (nat_le 0x21 b && nat_le b 0x7E) (not (b == 0x22)) last.0 in
-    rw (inner.0, not-true (is_word_start b) inner.1, not-true (is_ascii_digit b) outer.1, not-true (b == 0x22) third.1, not-true (b == 0x27) last.1) refl
+    rw (inner.0, not-true (is_identifier_start b) inner.1, not-true (is_ascii_digit b) outer.1, not-true (b == 0x22) third.1, not-true (b == 0x27) last.1) refl
 
 -- a token begins with a byte of its kind's class
 pub first_class : (kind : TokenKind) (b : ℕ) (bs : List ℕ) → IsOfKind kind (b ∷ bs) → class_of b ≡ class_of_kind kind
-first_class Word b bs h = start_class b (and_parts _ _ h).0
+first_class Identifier b bs h = start_class b (and_parts _ _ h).0
 first_class Number b bs h = digit_class b (number_first b bs h)
 first_class Local b bs h = digit_class b (local_first b bs h)
 first_class Str b bs h = rw h.0 refl
 first_class Char b [] h = absurd h
 first_class Char b (c ∷ cs) h = rw h.0 refl
-first_class Sign b [] h = sign_class b h
-first_class Sign b (c ∷ []) h =
+first_class Punctuation b [] h = punctuation_class b h
+first_class Punctuation b (c ∷ []) h =
     ⊎_elim
     (λ (less : (b == 0x3C && c == 0x3C) ≡ true). let e = eqb-true b 0x3C (and_parts _ _ less).0 in rw e refl)
     (λ (more : (b == 0x3E && c == 0x3E) ≡ true). let e = eqb-true b 0x3E (and_parts _ _ more).0 in rw e refl)
     (or_cases _ _ h)
-first_class Sign b (c ∷ d ∷ ds) h = absurd cc
+first_class Punctuation b (c ∷ d ∷ ds) h = absurd cc

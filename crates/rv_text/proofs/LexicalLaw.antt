@@ -5,12 +5,12 @@ use Rattle.std.proofs.lemmas.List.Elements.{All-from_recursion}
 use Rattle.rv_text.specs.declared.faults.Fault.{Fault}
 use Rattle.rv_text.specs.declared.lexeme.Token.{Token}
 use Rattle.rv_text.specs.declared.lexeme.TokenKind.{TokenKind}
-use Rattle.rv_text.specs.declared.lexeme.Front.{Front}
-use Rattle.rv_text.specs.declared.lexeme.Front.TheVariants.{Blank, Comment, Lexeme, Wrong}
-use Rattle.rv_text.specs.Lexing.{Lexed, SpansFit, front, placed, tokens_from, tokens_of}
-use Rattle.rv_text.specs.Lexical.{IsOfKind, Reads, ended, comment, blank, token, wrong, Rise}
+use Rattle.rv_text.specs.declared.lexeme.Prefix.{Prefix}
+use Rattle.rv_text.specs.declared.lexeme.Prefix.TheVariants.{Whitespace, Comment, Lexeme, Wrong}
+use Rattle.rv_text.specs.Lexing.{Lexed, SpansFit, prefix, with_rest, tokens_from, tokens_of}
+use Rattle.rv_text.specs.Lexical.{IsOfKind, Reads, ended, comment, whitespace, token, wrong, Rise}
 use Rattle.rv_text.proofs.Steps.{tokens_from-taken}
-use Rattle.rv_text.proofs.LexicalLemmas.{Stands, front_stands}
+use Rattle.rv_text.proofs.LexicalLemmas.{Stands, prefix_stands}
 
 abbrev ReadsAs : ℕ → List ℕ → Lexed → Type 0
 ReadsAs at bs l = Reads at bs l.tokens l.fault
@@ -20,7 +20,7 @@ some_bytes kind zero bs h = absurd h
 some_bytes kind (suc n) bs h = omega arith
 
 -- a token and what follows it
-token_then : (at n : ℕ) (kind : TokenKind) (b : ℕ) (bs : List ℕ) → Stands b bs (Lexeme kind n) → ((at : ℕ) (k : ℕ) → k ≤ length bs → ReadsAs at (drop k bs) (tokens_from at 0 (drop k bs))) → ReadsAs at (b ∷ bs) (placed (Lexeme kind n) at (λ taken. tokens_from (at + 1) taken bs))
+token_then : (at n : ℕ) (kind : TokenKind) (b : ℕ) (bs : List ℕ) → Stands b bs (Lexeme kind n) → ((at : ℕ) (k : ℕ) → k ≤ length bs → ReadsAs at (drop k bs) (tokens_from at 0 (drop k bs))) → ReadsAs at (b ∷ bs) (with_rest (Lexeme kind n) at (λ taken. tokens_from (at + 1) taken bs))
 token_then at zero kind b bs h next = absurd (omega (arith, some_bytes kind 0 (b ∷ bs) h.1.is))
 token_then at (suc m) kind b bs h next =
     let within : m ≤ length bs = omega (arith, h.1.fits) in
@@ -31,18 +31,18 @@ token_then at (suc m) kind b bs h next =
     let rest = next (at + suc m) m within in
     rw (step, same) (token at (suc m) kind (b ∷ bs) (tokens_from (at + suc m) 0 (drop m bs)).tokens (tokens_from (at + suc m) 0 (drop m bs)).fault h.1.fits h.0 h.1.is h.1.ends h.1.longest rest)
 
-placed_reads : (at b : ℕ) (bs : List ℕ) (f : Front) → Stands b bs f → ((at : ℕ) (k : ℕ) → k ≤ length bs → ReadsAs at (drop k bs) (tokens_from at 0 (drop k bs))) → ReadsAs at (b ∷ bs) (placed f at (λ taken. tokens_from (at + 1) taken bs))
-placed_reads at b bs Blank h next =
-    blank at b bs (tokens_from (at + 1) 0 bs).tokens (tokens_from (at + 1) 0 bs).fault h (next (at + 1) 0 (omega arith))
-placed_reads at b bs Comment h next = comment at (b ∷ bs) h
-placed_reads at b bs (Lexeme kind n) h next = token_then at n kind b bs h next
-placed_reads at b bs (Wrong number n) h next = wrong at n number b bs h.0 h.1
+with_rest_reads : (at b : ℕ) (bs : List ℕ) (f : Prefix) → Stands b bs f → ((at : ℕ) (k : ℕ) → k ≤ length bs → ReadsAs at (drop k bs) (tokens_from at 0 (drop k bs))) → ReadsAs at (b ∷ bs) (with_rest f at (λ taken. tokens_from (at + 1) taken bs))
+with_rest_reads at b bs Whitespace h next =
+    whitespace at b bs (tokens_from (at + 1) 0 bs).tokens (tokens_from (at + 1) 0 bs).fault h (next (at + 1) 0 (omega arith))
+with_rest_reads at b bs Comment h next = comment at (b ∷ bs) h
+with_rest_reads at b bs (Lexeme kind n) h next = token_then at n kind b bs h next
+with_rest_reads at b bs (Wrong number n) h next = wrong at n number b bs h.0 h.1
 
 reads_from : (fuel at : ℕ) (bs : List ℕ) → length bs ≤ fuel → ReadsAs at bs (tokens_from at 0 bs)
 reads_from fuel at [] enough = ended at
 reads_from zero at (b ∷ bs) enough = absurd (omega arith)
 reads_from (suc fuel) at (b ∷ bs) enough =
-    placed_reads at b bs (front (b ∷ bs)) (front_stands b bs) (λ at k fits. reads_from fuel at (drop k bs) (rw length-drop (omega arith)))
+    with_rest_reads at b bs (prefix (b ∷ bs)) (prefix_stands b bs) (λ at k fits. reads_from fuel at (drop k bs) (rw length-drop (omega arith)))
 
 pub reads : (line : List ℕ) → Reads 0 line (tokens_of line).tokens (tokens_of line).fault
 reads line = reads_from (length line) 0 line (omega arith)
@@ -55,7 +55,7 @@ rises_later from at end (t ∷ ts) h rise = (omega (arith, rise.0), rise.1, rise
 rises_from : {at : ℕ} {bs : List ℕ} {ts : List Token} {fault : Option Fault} → Reads at bs ts fault → Rise at (at + length bs) ts
 rises_from (ended at) = omega arith
 rises_from (comment at bs h) = omega arith
-rises_from (blank at b bs ts fault h more) = rises_later at (at + 1) (at + length (b ∷ bs)) ts (omega arith) (let e : at + 1 + length bs ≡ at + length (b ∷ bs) = omega arith in rw e at (rises_from more))
+rises_from (whitespace at b bs ts fault h more) = rises_later at (at + 1) (at + length (b ∷ bs)) ts (omega arith) (let e : at + 1 + length bs ≡ at + length (b ∷ bs) = omega arith in rw e at (rises_from more))
 rises_from (token at n kind bs ts fault fits plain is ends longest more) =
     let some = some_bytes kind n bs is in
     let e : at + n + length (drop n bs) ≡ at + length bs = rw length-drop (omega arith) in

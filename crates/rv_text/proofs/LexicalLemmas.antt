@@ -8,11 +8,11 @@ use Rattle.std.proofs.lemmas.List.{take-append-drop, length-take-le}
 use Rattle.std.proofs.lemmas.List.Sums.{prefix_len-le-length}
 use Rattle.rv_text.specs.declared.faults.FaultNumber.TheVariants.{BadNumber}
 use Rattle.rv_text.specs.declared.lexeme.TokenKind.{TokenKind}
-use Rattle.rv_text.specs.declared.lexeme.TokenKind.TheVariants.{Word, Number, Local, Str, Char, Sign}
-use Rattle.rv_text.specs.declared.lexeme.Front.{Front}
-use Rattle.rv_text.specs.declared.lexeme.Front.TheVariants.{Blank, Comment, Lexeme, Wrong}
-use Rattle.rv_text.specs.Bytes.{is_blank, is_word_start, is_word_byte, is_sign_byte}
-use Rattle.rv_text.specs.Lexing.{begins_comment, begins_shift, quoted, front}
+use Rattle.rv_text.specs.declared.lexeme.TokenKind.TheVariants.{Identifier, Number, Local, Str, Char, Punctuation}
+use Rattle.rv_text.specs.declared.lexeme.Prefix.{Prefix}
+use Rattle.rv_text.specs.declared.lexeme.Prefix.TheVariants.{Whitespace, Comment, Lexeme, Wrong}
+use Rattle.rv_text.specs.Bytes.{is_whitespace, is_identifier_start, is_identifier_byte, is_punctuation_byte}
+use Rattle.rv_text.specs.Lexing.{begins_comment, begins_shift, quoted, prefix}
 use Rattle.rv_text.specs.Lexical.{IsOfKind, IsLongest, EndsRun, goes_on, IsWrong}
 use Rattle.rv_text.specs.Numbers.{number_of, is_local}
 use Rattle.rv_text.specs.Strings.{string_len, char_len}
@@ -23,23 +23,23 @@ use Rattle.rv_text.proofs.QuotedLemmas.{string_sound, string_complete, character
 pub kind_of : (c : ℕ) (kind : TokenKind) (b : ℕ) (bs : List ℕ) → class_of b ≡ c → IsOfKind kind (b ∷ bs) → class_of_kind kind ≡ c
 kind_of c kind b bs own text = sym (first_class kind b bs text) ∙ own
 
-start_in_word : (b : ℕ) → is_word_start b ≡ true → is_word_byte b ≡ true
-start_in_word b h = or_left _ _ h
+start_in_identifier : (b : ℕ) → is_identifier_start b ≡ true → is_identifier_byte b ≡ true
+start_in_identifier b h = or_left _ _ h
 
-word_longest : (b : ℕ) (bs : List ℕ) → is_word_start b ≡ true → IsLongest (prefix_len is_word_byte (b ∷ bs)) (b ∷ bs)
-word_longest b bs start zero kind more fits text = text
-word_longest b bs start (suc k) Word more fits text =
-    run_longest is_word_byte (b ∷ bs) (suc k) more fits (and_from (is_word_byte b) (list_all is_word_byte (take k bs)) (start_in_word b start) (and_parts (is_word_start b) (list_all is_word_byte (take k bs)) text).1)
-word_longest b bs start (suc k) Number more fits text =
+identifier_longest : (b : ℕ) (bs : List ℕ) → is_identifier_start b ≡ true → IsLongest (prefix_len is_identifier_byte (b ∷ bs)) (b ∷ bs)
+identifier_longest b bs start zero kind more fits text = text
+identifier_longest b bs start (suc k) Identifier more fits text =
+    run_longest is_identifier_byte (b ∷ bs) (suc k) more fits (and_from (is_identifier_byte b) (list_all is_identifier_byte (take k bs)) (start_in_identifier b start) (and_parts (is_identifier_start b) (list_all is_identifier_byte (take k bs)) text).1)
+identifier_longest b bs start (suc k) Number more fits text =
     absurd (let e : 2 ≡ 1 = kind_of 1 Number b (take k bs) (start_class b start) text in omega arith)
-word_longest b bs start (suc k) Local more fits text =
+identifier_longest b bs start (suc k) Local more fits text =
     absurd (let e : 2 ≡ 1 = kind_of 1 Local b (take k bs) (start_class b start) text in omega arith)
-word_longest b bs start (suc k) Str more fits text =
+identifier_longest b bs start (suc k) Str more fits text =
     absurd (let e : 3 ≡ 1 = kind_of 1 Str b (take k bs) (start_class b start) text in omega arith)
-word_longest b bs start (suc k) Char more fits text =
+identifier_longest b bs start (suc k) Char more fits text =
     absurd (let e : 4 ≡ 1 = kind_of 1 Char b (take k bs) (start_class b start) text in omega arith)
-word_longest b bs start (suc k) Sign more fits text =
-    absurd (let e : 5 ≡ 1 = kind_of 1 Sign b (take k bs) (start_class b start) text in omega arith)
+identifier_longest b bs start (suc k) Punctuation more fits text =
+    absurd (let e : 5 ≡ 1 = kind_of 1 Punctuation b (take k bs) (start_class b start) text in omega arith)
 
 run_is_longest : (b : ℕ) (bs : List ℕ) → is_ascii_digit b ≡ true → IsLongest (prefix_len is_ascii_alphanumeric (b ∷ bs)) (b ∷ bs)
 run_is_longest b bs digit zero kind more fits text = text
@@ -47,14 +47,14 @@ run_is_longest b bs digit (suc k) Number more fits text =
     run_longest is_ascii_alphanumeric (b ∷ bs) (suc k) more fits (number_alphanumeric (b ∷ take k bs) text)
 run_is_longest b bs digit (suc k) Local more fits text =
     run_longest is_ascii_alphanumeric (b ∷ bs) (suc k) more fits (local_alphanumeric (b ∷ take k bs) text)
-run_is_longest b bs digit (suc k) Word more fits text =
-    absurd (let e : 1 ≡ 2 = kind_of 2 Word b (take k bs) (digit_class b digit) text in omega arith)
+run_is_longest b bs digit (suc k) Identifier more fits text =
+    absurd (let e : 1 ≡ 2 = kind_of 2 Identifier b (take k bs) (digit_class b digit) text in omega arith)
 run_is_longest b bs digit (suc k) Str more fits text =
     absurd (let e : 3 ≡ 2 = kind_of 2 Str b (take k bs) (digit_class b digit) text in omega arith)
 run_is_longest b bs digit (suc k) Char more fits text =
     absurd (let e : 4 ≡ 2 = kind_of 2 Char b (take k bs) (digit_class b digit) text in omega arith)
-run_is_longest b bs digit (suc k) Sign more fits text =
-    absurd (let e : 5 ≡ 2 = kind_of 2 Sign b (take k bs) (digit_class b digit) text in omega arith)
+run_is_longest b bs digit (suc k) Punctuation more fits text =
+    absurd (let e : 5 ≡ 2 = kind_of 2 Punctuation b (take k bs) (digit_class b digit) text in omega arith)
 
 -- how long a string and a character are
 string_size : (k b : ℕ) (bs : List ℕ) → k ≤ length bs → IsOfKind Str (b ∷ take k bs) → string_len 0 bs ≡ Some k
@@ -72,103 +72,103 @@ string_longest : (b n : ℕ) (bs : List ℕ) → class_of b ≡ 3 → string_len
 string_longest b n bs own len zero kind more fits text = text
 string_longest b n bs own len (suc k) Str more fits text =
     absurd (let e : Some n ≡ Some k = sym len ∙ string_size k b bs (omega arith) text in let same : n ≡ k = cc in omega arith)
-string_longest b n bs own len (suc k) Word more fits text =
-    absurd (let e : 1 ≡ 3 = kind_of 3 Word b (take k bs) own text in omega arith)
+string_longest b n bs own len (suc k) Identifier more fits text =
+    absurd (let e : 1 ≡ 3 = kind_of 3 Identifier b (take k bs) own text in omega arith)
 string_longest b n bs own len (suc k) Number more fits text =
     absurd (let e : 2 ≡ 3 = kind_of 3 Number b (take k bs) own text in omega arith)
 string_longest b n bs own len (suc k) Local more fits text =
     absurd (let e : 2 ≡ 3 = kind_of 3 Local b (take k bs) own text in omega arith)
 string_longest b n bs own len (suc k) Char more fits text =
     absurd (let e : 4 ≡ 3 = kind_of 3 Char b (take k bs) own text in omega arith)
-string_longest b n bs own len (suc k) Sign more fits text =
-    absurd (let e : 5 ≡ 3 = kind_of 3 Sign b (take k bs) own text in omega arith)
+string_longest b n bs own len (suc k) Punctuation more fits text =
+    absurd (let e : 5 ≡ 3 = kind_of 3 Punctuation b (take k bs) own text in omega arith)
 
 no_string : (b : ℕ) (bs : List ℕ) → class_of b ≡ 3 → string_len 0 bs ≡ None → IsLongest 0 (b ∷ bs)
 no_string b bs own len zero kind more fits text = text
 no_string b bs own len (suc k) Str more fits text =
     absurd (let e : None ≡ Some k = sym len ∙ string_size k b bs (omega arith) text in cc)
-no_string b bs own len (suc k) Word more fits text =
-    absurd (let e : 1 ≡ 3 = kind_of 3 Word b (take k bs) own text in omega arith)
+no_string b bs own len (suc k) Identifier more fits text =
+    absurd (let e : 1 ≡ 3 = kind_of 3 Identifier b (take k bs) own text in omega arith)
 no_string b bs own len (suc k) Number more fits text =
     absurd (let e : 2 ≡ 3 = kind_of 3 Number b (take k bs) own text in omega arith)
 no_string b bs own len (suc k) Local more fits text =
     absurd (let e : 2 ≡ 3 = kind_of 3 Local b (take k bs) own text in omega arith)
 no_string b bs own len (suc k) Char more fits text =
     absurd (let e : 4 ≡ 3 = kind_of 3 Char b (take k bs) own text in omega arith)
-no_string b bs own len (suc k) Sign more fits text =
-    absurd (let e : 5 ≡ 3 = kind_of 3 Sign b (take k bs) own text in omega arith)
+no_string b bs own len (suc k) Punctuation more fits text =
+    absurd (let e : 5 ≡ 3 = kind_of 3 Punctuation b (take k bs) own text in omega arith)
 
 character_longest : (b n : ℕ) (bs : List ℕ) → class_of b ≡ 4 → char_len bs ≡ Some n → IsLongest (n + 1) (b ∷ bs)
 character_longest b n bs own len zero kind more fits text = text
 character_longest b n bs own len (suc k) Char more fits text =
     absurd (let e : Some n ≡ Some k = sym len ∙ character_size k b bs (omega arith) text in let same : n ≡ k = cc in omega arith)
-character_longest b n bs own len (suc k) Word more fits text =
-    absurd (let e : 1 ≡ 4 = kind_of 4 Word b (take k bs) own text in omega arith)
+character_longest b n bs own len (suc k) Identifier more fits text =
+    absurd (let e : 1 ≡ 4 = kind_of 4 Identifier b (take k bs) own text in omega arith)
 character_longest b n bs own len (suc k) Number more fits text =
     absurd (let e : 2 ≡ 4 = kind_of 4 Number b (take k bs) own text in omega arith)
 character_longest b n bs own len (suc k) Local more fits text =
     absurd (let e : 2 ≡ 4 = kind_of 4 Local b (take k bs) own text in omega arith)
 character_longest b n bs own len (suc k) Str more fits text =
     absurd (let e : 3 ≡ 4 = kind_of 4 Str b (take k bs) own text in omega arith)
-character_longest b n bs own len (suc k) Sign more fits text =
-    absurd (let e : 5 ≡ 4 = kind_of 4 Sign b (take k bs) own text in omega arith)
+character_longest b n bs own len (suc k) Punctuation more fits text =
+    absurd (let e : 5 ≡ 4 = kind_of 4 Punctuation b (take k bs) own text in omega arith)
 
 no_character : (b : ℕ) (bs : List ℕ) → class_of b ≡ 4 → char_len bs ≡ None → IsLongest 0 (b ∷ bs)
 no_character b bs own len zero kind more fits text = text
 no_character b bs own len (suc k) Char more fits text =
     absurd (let e : None ≡ Some k = sym len ∙ character_size k b bs (omega arith) text in cc)
-no_character b bs own len (suc k) Word more fits text =
-    absurd (let e : 1 ≡ 4 = kind_of 4 Word b (take k bs) own text in omega arith)
+no_character b bs own len (suc k) Identifier more fits text =
+    absurd (let e : 1 ≡ 4 = kind_of 4 Identifier b (take k bs) own text in omega arith)
 no_character b bs own len (suc k) Number more fits text =
     absurd (let e : 2 ≡ 4 = kind_of 4 Number b (take k bs) own text in omega arith)
 no_character b bs own len (suc k) Local more fits text =
     absurd (let e : 2 ≡ 4 = kind_of 4 Local b (take k bs) own text in omega arith)
 no_character b bs own len (suc k) Str more fits text =
     absurd (let e : 3 ≡ 4 = kind_of 4 Str b (take k bs) own text in omega arith)
-no_character b bs own len (suc k) Sign more fits text =
-    absurd (let e : 5 ≡ 4 = kind_of 4 Sign b (take k bs) own text in omega arith)
+no_character b bs own len (suc k) Punctuation more fits text =
+    absurd (let e : 5 ≡ 4 = kind_of 4 Punctuation b (take k bs) own text in omega arith)
 
 -- no sign has three bytes, and one of two bytes is `<<` or `>>`
-sign_longest_two : (b : ℕ) (bs : List ℕ) → class_of b ≡ 5 → IsLongest 2 (b ∷ bs)
-sign_longest_two b bs own zero kind more fits text = text
-sign_longest_two b [] own (suc k) kind more fits text = absurd (omega arith)
-sign_longest_two b (c ∷ []) own (suc k) kind more fits text = absurd (omega arith)
-sign_longest_two b (c ∷ d ∷ ds) own (suc zero) kind more fits text = absurd (omega arith)
-sign_longest_two b (c ∷ d ∷ ds) own (suc (suc zero)) kind more fits text = absurd (omega arith)
-sign_longest_two b (c ∷ d ∷ ds) own (suc (suc (suc k))) Sign more fits text = absurd cc
-sign_longest_two b (c ∷ d ∷ ds) own (suc (suc (suc k))) Word more fits text =
-    absurd (let e : 1 ≡ 5 = kind_of 5 Word b (c ∷ d ∷ take k ds) own text in omega arith)
-sign_longest_two b (c ∷ d ∷ ds) own (suc (suc (suc k))) Number more fits text =
+punctuation_longest_two : (b : ℕ) (bs : List ℕ) → class_of b ≡ 5 → IsLongest 2 (b ∷ bs)
+punctuation_longest_two b bs own zero kind more fits text = text
+punctuation_longest_two b [] own (suc k) kind more fits text = absurd (omega arith)
+punctuation_longest_two b (c ∷ []) own (suc k) kind more fits text = absurd (omega arith)
+punctuation_longest_two b (c ∷ d ∷ ds) own (suc zero) kind more fits text = absurd (omega arith)
+punctuation_longest_two b (c ∷ d ∷ ds) own (suc (suc zero)) kind more fits text = absurd (omega arith)
+punctuation_longest_two b (c ∷ d ∷ ds) own (suc (suc (suc k))) Punctuation more fits text = absurd cc
+punctuation_longest_two b (c ∷ d ∷ ds) own (suc (suc (suc k))) Identifier more fits text =
+    absurd (let e : 1 ≡ 5 = kind_of 5 Identifier b (c ∷ d ∷ take k ds) own text in omega arith)
+punctuation_longest_two b (c ∷ d ∷ ds) own (suc (suc (suc k))) Number more fits text =
     absurd (let e : 2 ≡ 5 = kind_of 5 Number b (c ∷ d ∷ take k ds) own text in omega arith)
-sign_longest_two b (c ∷ d ∷ ds) own (suc (suc (suc k))) Local more fits text =
+punctuation_longest_two b (c ∷ d ∷ ds) own (suc (suc (suc k))) Local more fits text =
     absurd (let e : 2 ≡ 5 = kind_of 5 Local b (c ∷ d ∷ take k ds) own text in omega arith)
-sign_longest_two b (c ∷ d ∷ ds) own (suc (suc (suc k))) Str more fits text =
+punctuation_longest_two b (c ∷ d ∷ ds) own (suc (suc (suc k))) Str more fits text =
     absurd (let e : 3 ≡ 5 = kind_of 5 Str b (c ∷ d ∷ take k ds) own text in omega arith)
-sign_longest_two b (c ∷ d ∷ ds) own (suc (suc (suc k))) Char more fits text =
+punctuation_longest_two b (c ∷ d ∷ ds) own (suc (suc (suc k))) Char more fits text =
     absurd (let e : 4 ≡ 5 = kind_of 5 Char b (c ∷ d ∷ take k ds) own text in omega arith)
 
-sign_longest_one : (b : ℕ) (bs : List ℕ) → class_of b ≡ 5 → begins_shift (b ∷ bs) ≡ false → IsLongest 1 (b ∷ bs)
-sign_longest_one b bs own single zero kind more fits text = text
-sign_longest_one b [] own single (suc k) kind more fits text = absurd (omega arith)
-sign_longest_one b (c ∷ cs) own single (suc zero) kind more fits text = absurd (omega arith)
-sign_longest_one b (c ∷ cs) own single (suc (suc zero)) Sign more fits text = both_ways (begins_shift (b ∷ c ∷ cs)) single text
-sign_longest_one b (c ∷ []) own single (suc (suc (suc k))) Sign more fits text = absurd (omega arith)
-sign_longest_one b (c ∷ d ∷ ds) own single (suc (suc (suc k))) Sign more fits text = absurd cc
-sign_longest_one b (c ∷ cs) own single (suc (suc k)) Word more fits text =
-    absurd (let e : 1 ≡ 5 = kind_of 5 Word b (c ∷ take k cs) own text in omega arith)
-sign_longest_one b (c ∷ cs) own single (suc (suc k)) Number more fits text =
+punctuation_longest_one : (b : ℕ) (bs : List ℕ) → class_of b ≡ 5 → begins_shift (b ∷ bs) ≡ false → IsLongest 1 (b ∷ bs)
+punctuation_longest_one b bs own single zero kind more fits text = text
+punctuation_longest_one b [] own single (suc k) kind more fits text = absurd (omega arith)
+punctuation_longest_one b (c ∷ cs) own single (suc zero) kind more fits text = absurd (omega arith)
+punctuation_longest_one b (c ∷ cs) own single (suc (suc zero)) Punctuation more fits text = both_ways (begins_shift (b ∷ c ∷ cs)) single text
+punctuation_longest_one b (c ∷ []) own single (suc (suc (suc k))) Punctuation more fits text = absurd (omega arith)
+punctuation_longest_one b (c ∷ d ∷ ds) own single (suc (suc (suc k))) Punctuation more fits text = absurd cc
+punctuation_longest_one b (c ∷ cs) own single (suc (suc k)) Identifier more fits text =
+    absurd (let e : 1 ≡ 5 = kind_of 5 Identifier b (c ∷ take k cs) own text in omega arith)
+punctuation_longest_one b (c ∷ cs) own single (suc (suc k)) Number more fits text =
     absurd (let e : 2 ≡ 5 = kind_of 5 Number b (c ∷ take k cs) own text in omega arith)
-sign_longest_one b (c ∷ cs) own single (suc (suc k)) Local more fits text =
+punctuation_longest_one b (c ∷ cs) own single (suc (suc k)) Local more fits text =
     absurd (let e : 2 ≡ 5 = kind_of 5 Local b (c ∷ take k cs) own text in omega arith)
-sign_longest_one b (c ∷ cs) own single (suc (suc k)) Str more fits text =
+punctuation_longest_one b (c ∷ cs) own single (suc (suc k)) Str more fits text =
     absurd (let e : 3 ≡ 5 = kind_of 5 Str b (c ∷ take k cs) own text in omega arith)
-sign_longest_one b (c ∷ cs) own single (suc (suc k)) Char more fits text =
+punctuation_longest_one b (c ∷ cs) own single (suc (suc k)) Char more fits text =
     absurd (let e : 4 ≡ 5 = kind_of 5 Char b (c ∷ take k cs) own text in omega arith)
 
 no_token : (b : ℕ) (bs : List ℕ) → class_of b ≡ 0 → IsLongest 0 (b ∷ bs)
 no_token b bs own zero kind more fits text = text
-no_token b bs own (suc k) Word more fits text =
-    absurd (let e : 1 ≡ 0 = kind_of 0 Word b (take k bs) own text in omega arith)
+no_token b bs own (suc k) Identifier more fits text =
+    absurd (let e : 1 ≡ 0 = kind_of 0 Identifier b (take k bs) own text in omega arith)
 no_token b bs own (suc k) Number more fits text =
     absurd (let e : 2 ≡ 0 = kind_of 0 Number b (take k bs) own text in omega arith)
 no_token b bs own (suc k) Local more fits text =
@@ -177,8 +177,8 @@ no_token b bs own (suc k) Str more fits text =
     absurd (let e : 3 ≡ 0 = kind_of 0 Str b (take k bs) own text in omega arith)
 no_token b bs own (suc k) Char more fits text =
     absurd (let e : 4 ≡ 0 = kind_of 0 Char b (take k bs) own text in omega arith)
-no_token b bs own (suc k) Sign more fits text =
-    absurd (let e : 5 ≡ 0 = kind_of 0 Sign b (take k bs) own text in omega arith)
+no_token b bs own (suc k) Punctuation more fits text =
+    absurd (let e : 5 ≡ 0 = kind_of 0 Punctuation b (take k bs) own text in omega arith)
 
 -- a token with which some bytes begin, by its kind and length
 pub record IsLexeme (kind : TokenKind) (n b : ℕ) (bs : List ℕ) : Type 0 where
@@ -188,8 +188,8 @@ pub record IsLexeme (kind : TokenKind) (n b : ℕ) (bs : List ℕ) : Type 0 wher
   pub longest : IsLongest n (b ∷ bs)
 
 -- what it means that some bytes begin with this
-abbrev pub Stands : ℕ → List ℕ → Front → Type 0
-Stands b bs Blank = is_blank b ≡ true
+abbrev pub Stands : ℕ → List ℕ → Prefix → Type 0
+Stands b bs Whitespace = is_whitespace b ≡ true
 Stands b bs Comment = begins_comment (b ∷ bs) ≡ true
 Stands b bs (Lexeme kind n) = (begins_comment (b ∷ bs) ≡ false) × IsLexeme kind n b bs
 Stands b bs (Wrong number n) = (begins_comment (b ∷ bs) ≡ false) × IsWrong number n b bs
@@ -201,7 +201,7 @@ character_is b n (c ∷ cs) is some =
     let found = character_sound c n cs some in
     (omega (arith, found.is, found.fits), subst (λ m. IsOfKind Char (b ∷ take m (c ∷ cs))) (sym found.is) (is, found.ends))
 
-shift_is : (b : ℕ) (bs : List ℕ) → begins_shift (b ∷ bs) ≡ true → (2 ≤ length (b ∷ bs)) × IsOfKind Sign (take 2 (b ∷ bs))
+shift_is : (b : ℕ) (bs : List ℕ) → begins_shift (b ∷ bs) ≡ true → (2 ≤ length (b ∷ bs)) × IsOfKind Punctuation (take 2 (b ∷ bs))
 shift_is b [] h = absurd cc
 shift_is b (c ∷ cs) h = (omega arith, h)
 
@@ -214,21 +214,21 @@ shift_class b (c ∷ cs) h =
     (or_cases _ _ h)
 
 -- the class of a byte that begins no word, no number and is no quote
-rest_class : (b : ℕ) (sign : Bool) → is_word_start b ≡ false → is_ascii_digit b ≡ false → (b == 0x22) ≡ false → (b == 0x27) ≡ false → is_sign_byte b ≡ sign → class_of b ≡ cond sign 5 0
+rest_class : (b : ℕ) (sign : Bool) → is_identifier_start b ≡ false → is_ascii_digit b ≡ false → (b == 0x22) ≡ false → (b == 0x27) ≡ false → is_punctuation_byte b ≡ sign → class_of b ≡ cond sign 5 0
 rest_class b sign start digit quote apostrophe is = rw (is, start, digit, quote, apostrophe) refl
 
 module _ (b : ℕ) (bs : List ℕ) (plain : begins_comment (b ∷ bs) ≡ false) where
-  word_stands : is_word_start b ≡ true → Stands b bs (Lexeme Word (prefix_len is_word_byte (b ∷ bs)))
-  word_stands start =
-      let word = start_in_word b start in
-      let all : list_all is_word_byte (take (prefix_len is_word_byte bs) bs) ≡ true = run_all is_word_byte bs in
-      let size : prefix_len is_word_byte (b ∷ bs) ≡ suc (prefix_len is_word_byte bs) = run_more is_word_byte b bs word in (
+  identifier_stands : is_identifier_start b ≡ true → Stands b bs (Lexeme Identifier (prefix_len is_identifier_byte (b ∷ bs)))
+  identifier_stands start =
+      let identifier = start_in_identifier b start in
+      let all : list_all is_identifier_byte (take (prefix_len is_identifier_byte bs) bs) ≡ true = run_all is_identifier_byte bs in
+      let size : prefix_len is_identifier_byte (b ∷ bs) ≡ suc (prefix_len is_identifier_byte bs) = run_more is_identifier_byte b bs identifier in (
         plain,
         record {
-          fits = prefix_len-le-length is_word_byte (b ∷ bs);
-          is = rw size (and_from (is_word_start b) (list_all is_word_byte (take (prefix_len is_word_byte bs) bs)) start all);
+          fits = prefix_len-le-length is_identifier_byte (b ∷ bs);
+          is = rw size (and_from (is_identifier_start b) (list_all is_identifier_byte (take (prefix_len is_identifier_byte bs) bs)) start all);
           ends = tt;
-          longest = word_longest b bs start;
+          longest = identifier_longest b bs start;
         },
       )
 
@@ -290,34 +290,34 @@ module _ (b : ℕ) (bs : List ℕ) (plain : begins_comment (b ∷ bs) ≡ false)
         }),
       )
 
-  shift_stands : class_of b ≡ 5 → begins_shift (b ∷ bs) ≡ true → Stands b bs (Lexeme Sign 2)
+  shift_stands : class_of b ≡ 5 → begins_shift (b ∷ bs) ≡ true → Stands b bs (Lexeme Punctuation 2)
   shift_stands own shift =
       let two = shift_is b bs shift in
-      (plain, record { fits = two.0; is = two.1; ends = tt; longest = sign_longest_two b bs own })
+      (plain, record { fits = two.0; is = two.1; ends = tt; longest = punctuation_longest_two b bs own })
 
-  sign_stands : is_word_start b ≡ false → is_ascii_digit b ≡ false → class_of b ≡ 5 → begins_shift (b ∷ bs) ≡ false → is_sign_byte b ≡ true → Stands b bs (Lexeme Sign 1)
-  sign_stands start digit own single sign = (
+  punctuation_stands : is_identifier_start b ≡ false → is_ascii_digit b ≡ false → class_of b ≡ 5 → begins_shift (b ∷ bs) ≡ false → is_punctuation_byte b ≡ true → Stands b bs (Lexeme Punctuation 1)
+  punctuation_stands start digit own single sign = (
     plain,
     record {
       fits = omega arith;
-      is = and_from (is_sign_byte b && not (is_word_start b)) (not (is_ascii_digit b)) (and_from (is_sign_byte b) (not (is_word_start b)) sign (not_from_false _ start)) (not_from_false _ digit);
+      is = and_from (is_punctuation_byte b && not (is_identifier_start b)) (not (is_ascii_digit b)) (and_from (is_punctuation_byte b) (not (is_identifier_start b)) sign (not_from_false _ start)) (not_from_false _ digit);
       ends = tt;
-      longest = sign_longest_one b bs own single;
+      longest = punctuation_longest_one b bs own single;
     },
   )
 
 -- what some bytes begin with, as it is found
-pub front_stands : (b : ℕ) (bs : List ℕ) → Stands b bs (front (b ∷ bs))
-front_stands b bs =
-    cond_both (is_blank b) _ _ (Stands b bs) (λ blank. blank)
-    (λ no_blank. cond_both (begins_comment (b ∷ bs)) _ _ (Stands b bs) (λ comment. comment)
-    (λ plain. cond_both (is_word_start b) _ _ (Stands b bs) (λ start. word_stands b bs plain start)
+pub prefix_stands : (b : ℕ) (bs : List ℕ) → Stands b bs (prefix (b ∷ bs))
+prefix_stands b bs =
+    cond_both (is_whitespace b) _ _ (Stands b bs) (λ whitespace. whitespace)
+    (λ no_whitespace. cond_both (begins_comment (b ∷ bs)) _ _ (Stands b bs) (λ comment. comment)
+    (λ plain. cond_both (is_identifier_start b) _ _ (Stands b bs) (λ start. identifier_stands b bs plain start)
     (λ no_start. cond_both (is_ascii_digit b) _ _ (Stands b bs) (λ digit. run_stands b bs plain digit (prefix_len is_ascii_alphanumeric (b ∷ bs)) refl)
     (λ no_digit. cond_both (b == 0x22) _ _ (Stands b bs) (λ quote. string_stands b bs plain quote (string_len 0 bs) refl)
     (λ no_quote. cond_both (b == 0x27) _ _ (Stands b bs) (λ quote. character_stands b bs plain quote (char_len bs) refl)
     (λ no_apostrophe.
     cond_both (begins_shift (b ∷ bs)) _ _ (Stands b bs)
     (λ shift. shift_stands b bs plain (shift_class b bs shift) shift)
-    (λ single. cond_both (is_sign_byte b) _ _ (Stands b bs)
-    (λ sign. sign_stands b bs plain no_start no_digit (rest_class b true no_start no_digit no_quote no_apostrophe sign) single sign)
-    (λ no_sign. (plain, record { one = refl; no_blank = no_blank; no_quote = or_from _ _ no_quote no_apostrophe; no_token = no_token b bs (rest_class b false no_start no_digit no_quote no_apostrophe no_sign) })))))))))
+    (λ single. cond_both (is_punctuation_byte b) _ _ (Stands b bs)
+    (λ sign. punctuation_stands b bs plain no_start no_digit (rest_class b true no_start no_digit no_quote no_apostrophe sign) single sign)
+    (λ no_punctuation. (plain, record { one = refl; no_whitespace = no_whitespace; no_quote = or_from _ _ no_quote no_apostrophe; no_token = no_token b bs (rest_class b false no_start no_digit no_quote no_apostrophe no_punctuation) })))))))))

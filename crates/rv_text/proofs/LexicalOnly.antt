@@ -11,16 +11,16 @@ use Rattle.rv_text.specs.declared.faults.FaultNumber.{FaultNumber}
 use Rattle.rv_text.specs.declared.faults.FaultNumber.TheVariants.{BadByte, BadNumber, BadString}
 use Rattle.rv_text.specs.declared.lexeme.Token.{Token}
 use Rattle.rv_text.specs.declared.lexeme.TokenKind.{TokenKind}
-use Rattle.rv_text.specs.declared.lexeme.TokenKind.TheVariants.{Word, Number, Local, Str, Char, Sign}
-use Rattle.rv_text.specs.declared.lexeme.Front.{Front}
-use Rattle.rv_text.specs.declared.lexeme.Front.TheVariants.{Blank, Comment, Lexeme, Wrong}
-use Rattle.rv_text.specs.Bytes.{is_blank}
-use Rattle.rv_text.specs.Lexing.{Lexed, begins, begins_comment, front, placed, tokens_from, tokens_of}
-use Rattle.rv_text.specs.Lexical.{IsOfKind, IsLongest, EndsRun, goes_on, IsWrong, IsBadNumber, Reads, ended, comment, blank, token, wrong}
+use Rattle.rv_text.specs.declared.lexeme.TokenKind.TheVariants.{Identifier, Number, Local, Str, Char, Punctuation}
+use Rattle.rv_text.specs.declared.lexeme.Prefix.{Prefix}
+use Rattle.rv_text.specs.declared.lexeme.Prefix.TheVariants.{Whitespace, Comment, Lexeme, Wrong}
+use Rattle.rv_text.specs.Bytes.{is_whitespace}
+use Rattle.rv_text.specs.Lexing.{Lexed, begins, begins_comment, prefix, with_rest, tokens_from, tokens_of}
+use Rattle.rv_text.specs.Lexical.{IsOfKind, IsLongest, EndsRun, goes_on, IsWrong, IsBadNumber, Reads, ended, comment, whitespace, token, wrong}
 use Rattle.rv_text.specs.Numbers.{number_of, is_local, is_local_number}
-use Rattle.rv_text.proofs.ByteClasses.{number_alphanumeric, local_alphanumeric, class_of, class_of_kind, digit_class, first_class, digits_all, local_parts, last_behind}
+use Rattle.rv_text.proofs.ByteClasses.{number_alphanumeric, local_alphanumeric, class_of, class_of_kind, digit_class, first_class, digits_all, local_parts, last_after}
 use Rattle.rv_text.proofs.LexicalLaw.{some_bytes}
-use Rattle.rv_text.proofs.LexicalLemmas.{IsLexeme, Stands, front_stands, kind_of}
+use Rattle.rv_text.proofs.LexicalLemmas.{IsLexeme, Stands, prefix_stands, kind_of}
 use Rattle.rv_text.proofs.Steps.{tokens_from-taken}
 
 -- a run that ends where no digit and no letter stands is the longest
@@ -44,7 +44,7 @@ last_no_digit c h =
 not_decimal : (c : ℕ) (cs : List ℕ) → list_all (λ c. is_digit c 10) (c ∷ cs) ≡ true → (get_or (c ∷ cs) (length cs) 0 == 0x62 || get_or (c ∷ cs) (length cs) 0 == 0x66) ≡ true → ⊥
 not_decimal c cs all last =
     let l = get_or (c ∷ cs) (length cs) 0 in
-    let split = sym (list_all-append (λ c. is_digit c 10) (take (length cs) (c ∷ cs)) (l ∷ [])) ∙ subst (λ xs. list_all (λ c. is_digit c 10) xs ≡ true) (sym (last_behind c cs)) all in
+    let split = sym (list_all-append (λ c. is_digit c 10) (take (length cs) (c ∷ cs)) (l ∷ [])) ∙ subst (λ xs. list_all (λ c. is_digit c 10) xs ≡ true) (sym (last_after c cs)) all in
     let digit = and_parts (is_digit l 10) true (and_parts (list_all (λ c. is_digit c 10) (take (length cs) (c ∷ cs))) (is_digit l 10 && true) split).1 in
     both_ways (is_digit l 10) (last_no_digit l last) digit.0
 
@@ -74,47 +74,47 @@ not_both c (d ∷ e ∷ es) number local =
     (cases_Bool (c == 0x30))
 
 same_kind : (x y : TokenKind) (b : ℕ) (bs : List ℕ) → IsOfKind x (b ∷ bs) → IsOfKind y (b ∷ bs) → x ≡ y
-same_kind Word Word b bs x y = refl
-same_kind Word Number b bs x y = absurd (let e : 2 ≡ 1 = kind_of 1 Number b bs (first_class Word b bs x) y in omega arith)
-same_kind Word Local b bs x y = absurd (let e : 2 ≡ 1 = kind_of 1 Local b bs (first_class Word b bs x) y in omega arith)
-same_kind Word Str b bs x y = absurd (let e : 3 ≡ 1 = kind_of 1 Str b bs (first_class Word b bs x) y in omega arith)
-same_kind Word Char b bs x y = absurd (let e : 4 ≡ 1 = kind_of 1 Char b bs (first_class Word b bs x) y in omega arith)
-same_kind Word Sign b bs x y = absurd (let e : 5 ≡ 1 = kind_of 1 Sign b bs (first_class Word b bs x) y in omega arith)
-same_kind Number Word b bs x y = absurd (let e : 1 ≡ 2 = kind_of 2 Word b bs (first_class Number b bs x) y in omega arith)
+same_kind Identifier Identifier b bs x y = refl
+same_kind Identifier Number b bs x y = absurd (let e : 2 ≡ 1 = kind_of 1 Number b bs (first_class Identifier b bs x) y in omega arith)
+same_kind Identifier Local b bs x y = absurd (let e : 2 ≡ 1 = kind_of 1 Local b bs (first_class Identifier b bs x) y in omega arith)
+same_kind Identifier Str b bs x y = absurd (let e : 3 ≡ 1 = kind_of 1 Str b bs (first_class Identifier b bs x) y in omega arith)
+same_kind Identifier Char b bs x y = absurd (let e : 4 ≡ 1 = kind_of 1 Char b bs (first_class Identifier b bs x) y in omega arith)
+same_kind Identifier Punctuation b bs x y = absurd (let e : 5 ≡ 1 = kind_of 1 Punctuation b bs (first_class Identifier b bs x) y in omega arith)
+same_kind Number Identifier b bs x y = absurd (let e : 1 ≡ 2 = kind_of 2 Identifier b bs (first_class Number b bs x) y in omega arith)
 same_kind Number Number b bs x y = refl
 same_kind Number Local b bs x y = absurd (not_both b bs x y)
 same_kind Number Str b bs x y = absurd (let e : 3 ≡ 2 = kind_of 2 Str b bs (first_class Number b bs x) y in omega arith)
 same_kind Number Char b bs x y = absurd (let e : 4 ≡ 2 = kind_of 2 Char b bs (first_class Number b bs x) y in omega arith)
-same_kind Number Sign b bs x y = absurd (let e : 5 ≡ 2 = kind_of 2 Sign b bs (first_class Number b bs x) y in omega arith)
-same_kind Local Word b bs x y = absurd (let e : 1 ≡ 2 = kind_of 2 Word b bs (first_class Local b bs x) y in omega arith)
+same_kind Number Punctuation b bs x y = absurd (let e : 5 ≡ 2 = kind_of 2 Punctuation b bs (first_class Number b bs x) y in omega arith)
+same_kind Local Identifier b bs x y = absurd (let e : 1 ≡ 2 = kind_of 2 Identifier b bs (first_class Local b bs x) y in omega arith)
 same_kind Local Number b bs x y = absurd (not_both b bs y x)
 same_kind Local Local b bs x y = refl
 same_kind Local Str b bs x y = absurd (let e : 3 ≡ 2 = kind_of 2 Str b bs (first_class Local b bs x) y in omega arith)
 same_kind Local Char b bs x y = absurd (let e : 4 ≡ 2 = kind_of 2 Char b bs (first_class Local b bs x) y in omega arith)
-same_kind Local Sign b bs x y = absurd (let e : 5 ≡ 2 = kind_of 2 Sign b bs (first_class Local b bs x) y in omega arith)
-same_kind Str Word b bs x y = absurd (let e : 1 ≡ 3 = kind_of 3 Word b bs (first_class Str b bs x) y in omega arith)
+same_kind Local Punctuation b bs x y = absurd (let e : 5 ≡ 2 = kind_of 2 Punctuation b bs (first_class Local b bs x) y in omega arith)
+same_kind Str Identifier b bs x y = absurd (let e : 1 ≡ 3 = kind_of 3 Identifier b bs (first_class Str b bs x) y in omega arith)
 same_kind Str Number b bs x y = absurd (let e : 2 ≡ 3 = kind_of 3 Number b bs (first_class Str b bs x) y in omega arith)
 same_kind Str Local b bs x y = absurd (let e : 2 ≡ 3 = kind_of 3 Local b bs (first_class Str b bs x) y in omega arith)
 same_kind Str Str b bs x y = refl
 same_kind Str Char b bs x y = absurd (let e : 4 ≡ 3 = kind_of 3 Char b bs (first_class Str b bs x) y in omega arith)
-same_kind Str Sign b bs x y = absurd (let e : 5 ≡ 3 = kind_of 3 Sign b bs (first_class Str b bs x) y in omega arith)
-same_kind Char Word b bs x y = absurd (let e : 1 ≡ 4 = kind_of 4 Word b bs (first_class Char b bs x) y in omega arith)
+same_kind Str Punctuation b bs x y = absurd (let e : 5 ≡ 3 = kind_of 3 Punctuation b bs (first_class Str b bs x) y in omega arith)
+same_kind Char Identifier b bs x y = absurd (let e : 1 ≡ 4 = kind_of 4 Identifier b bs (first_class Char b bs x) y in omega arith)
 same_kind Char Number b bs x y = absurd (let e : 2 ≡ 4 = kind_of 4 Number b bs (first_class Char b bs x) y in omega arith)
 same_kind Char Local b bs x y = absurd (let e : 2 ≡ 4 = kind_of 4 Local b bs (first_class Char b bs x) y in omega arith)
 same_kind Char Str b bs x y = absurd (let e : 3 ≡ 4 = kind_of 4 Str b bs (first_class Char b bs x) y in omega arith)
 same_kind Char Char b bs x y = refl
-same_kind Char Sign b bs x y = absurd (let e : 5 ≡ 4 = kind_of 4 Sign b bs (first_class Char b bs x) y in omega arith)
-same_kind Sign Word b bs x y = absurd (let e : 1 ≡ 5 = kind_of 5 Word b bs (first_class Sign b bs x) y in omega arith)
-same_kind Sign Number b bs x y = absurd (let e : 2 ≡ 5 = kind_of 5 Number b bs (first_class Sign b bs x) y in omega arith)
-same_kind Sign Local b bs x y = absurd (let e : 2 ≡ 5 = kind_of 5 Local b bs (first_class Sign b bs x) y in omega arith)
-same_kind Sign Str b bs x y = absurd (let e : 3 ≡ 5 = kind_of 5 Str b bs (first_class Sign b bs x) y in omega arith)
-same_kind Sign Char b bs x y = absurd (let e : 4 ≡ 5 = kind_of 5 Char b bs (first_class Sign b bs x) y in omega arith)
-same_kind Sign Sign b bs x y = refl
+same_kind Char Punctuation b bs x y = absurd (let e : 5 ≡ 4 = kind_of 4 Punctuation b bs (first_class Char b bs x) y in omega arith)
+same_kind Punctuation Identifier b bs x y = absurd (let e : 1 ≡ 5 = kind_of 5 Identifier b bs (first_class Punctuation b bs x) y in omega arith)
+same_kind Punctuation Number b bs x y = absurd (let e : 2 ≡ 5 = kind_of 5 Number b bs (first_class Punctuation b bs x) y in omega arith)
+same_kind Punctuation Local b bs x y = absurd (let e : 2 ≡ 5 = kind_of 5 Local b bs (first_class Punctuation b bs x) y in omega arith)
+same_kind Punctuation Str b bs x y = absurd (let e : 3 ≡ 5 = kind_of 5 Str b bs (first_class Punctuation b bs x) y in omega arith)
+same_kind Punctuation Char b bs x y = absurd (let e : 4 ≡ 5 = kind_of 5 Char b bs (first_class Punctuation b bs x) y in omega arith)
+same_kind Punctuation Punctuation b bs x y = refl
 
 -- no token is a run that is wrong
 token_in_run : (kind : TokenKind) (b n m : ℕ) (bs : List ℕ) → suc n ≤ length (b ∷ bs) → IsOfKind kind (b ∷ take n bs) → EndsRun kind (drop n bs) → IsBadNumber m b bs → ⊥
-token_in_run Word b n m bs fits is ends bad =
-    absurd (let e : 1 ≡ 2 = kind_of 2 Word b (take n bs) (digit_class b bad.digit) is in omega arith)
+token_in_run Identifier b n m bs fits is ends bad =
+    absurd (let e : 1 ≡ 2 = kind_of 2 Identifier b (take n bs) (digit_class b bad.digit) is in omega arith)
 token_in_run Number b n m bs fits is ends bad =
     let whole = run_is (b ∷ bs) (suc n) fits (number_alphanumeric (b ∷ take n bs) is) ends in
     let e : m ≡ suc n = bad.run ∙ whole in
@@ -127,12 +127,12 @@ token_in_run Str b n m bs fits is ends bad =
     absurd (let e : 3 ≡ 2 = kind_of 2 Str b (take n bs) (digit_class b bad.digit) is in omega arith)
 token_in_run Char b n m bs fits is ends bad =
     absurd (let e : 4 ≡ 2 = kind_of 2 Char b (take n bs) (digit_class b bad.digit) is in omega arith)
-token_in_run Sign b n m bs fits is ends bad =
-    absurd (let e : 5 ≡ 2 = kind_of 2 Sign b (take n bs) (digit_class b bad.digit) is in omega arith)
+token_in_run Punctuation b n m bs fits is ends bad =
+    absurd (let e : 5 ≡ 2 = kind_of 2 Punctuation b (take n bs) (digit_class b bad.digit) is in omega arith)
 
 -- the class of whitespace, and of what begins a comment
-blank_class : (b : ℕ) → is_blank b ≡ true → class_of b ≡ 0
-blank_class b h =
+whitespace_class : (b : ℕ) → is_whitespace b ≡ true → class_of b ≡ 0
+whitespace_class b h =
     ⊎_elim
     (λ (first : (b == 0x09 || b == 0x0C || b == 0x0D) ≡ true). ⊎_elim
     (λ (tabs : (b == 0x09 || b == 0x0C) ≡ true). ⊎_elim
@@ -163,18 +163,18 @@ quote_class b h =
     (or_cases _ _ h)
 
 some_class : (kind : TokenKind) → 1 ≤ class_of_kind kind
-some_class Word = omega arith
+some_class Identifier = omega arith
 some_class Number = omega arith
 some_class Local = omega arith
 some_class Str = omega arith
 some_class Char = omega arith
-some_class Sign = omega arith
+some_class Punctuation = omega arith
 
 -- no token begins with whitespace
-no_blank_token : (kind : TokenKind) (b n : ℕ) (bs : List ℕ) → is_blank b ≡ true → IsOfKind kind (take n (b ∷ bs)) → ⊥
-no_blank_token kind b zero bs h is = is
-no_blank_token kind b (suc n) bs h is =
-    absurd (omega (arith, first_class kind b (take n bs) is, blank_class b h, some_class kind))
+no_whitespace_token : (kind : TokenKind) (b n : ℕ) (bs : List ℕ) → is_whitespace b ≡ true → IsOfKind kind (take n (b ∷ bs)) → ⊥
+no_whitespace_token kind b zero bs h is = is
+no_whitespace_token kind b (suc n) bs h is =
+    absurd (omega (arith, first_class kind b (take n bs) is, whitespace_class b h, some_class kind))
 
 digit_of : (b : ℕ) → is_ascii_digit b ≡ true → is_digit b 10 ≡ true
 digit_of b h = grind (arith, nat_tests)
@@ -212,8 +212,8 @@ same_kind_at : (x y : TokenKind) (n b : ℕ) (bs : List ℕ) → IsOfKind x (tak
 same_kind_at x y zero b bs p q = absurd p
 same_kind_at x y (suc n) b bs p q = same_kind x y b (take n bs) p q
 
-lexeme_is : (f : Front) (kind : TokenKind) (n b : ℕ) (bs : List ℕ) → begins_comment (b ∷ bs) ≡ false → IsLexeme kind n b bs → Stands b bs f → f ≡ Lexeme kind n
-lexeme_is Blank kind n b bs plain p h = absurd (no_blank_token kind b n bs h p.is)
+lexeme_is : (f : Prefix) (kind : TokenKind) (n b : ℕ) (bs : List ℕ) → begins_comment (b ∷ bs) ≡ false → IsLexeme kind n b bs → Stands b bs f → f ≡ Lexeme kind n
+lexeme_is Whitespace kind n b bs plain p h = absurd (no_whitespace_token kind b n bs h p.is)
 lexeme_is Comment kind n b bs plain p h = absurd (both_ways (begins_comment (b ∷ bs)) plain h)
 lexeme_is (Lexeme other m) kind n b bs plain p h =
     let length = same_length other kind m n b bs h.1 p in
@@ -223,11 +223,11 @@ lexeme_is (Lexeme other m) kind n b bs plain p h =
 lexeme_is (Wrong number m) kind n b bs plain p h = absurd (no_wrong number kind b n m bs p.fits p.is p.ends h.1)
 
 -- whitespace is not wrong
-no_blank_wrong : (number : FaultNumber) (b n : ℕ) (bs : List ℕ) → is_blank b ≡ true → IsWrong number n b bs → ⊥
-no_blank_wrong BadByte b n bs h bad = both_ways (is_blank b) bad.no_blank h
-no_blank_wrong BadNumber b n bs h bad = absurd (omega (arith, blank_class b h, digit_class b bad.digit))
-no_blank_wrong BadString b n bs h bad = absurd (omega (arith, blank_class b h, quote_class b bad.quote))
-no_blank_wrong _ b n bs h bad = bad
+no_whitespace_wrong : (number : FaultNumber) (b n : ℕ) (bs : List ℕ) → is_whitespace b ≡ true → IsWrong number n b bs → ⊥
+no_whitespace_wrong BadByte b n bs h bad = both_ways (is_whitespace b) bad.no_whitespace h
+no_whitespace_wrong BadNumber b n bs h bad = absurd (omega (arith, whitespace_class b h, digit_class b bad.digit))
+no_whitespace_wrong BadString b n bs h bad = absurd (omega (arith, whitespace_class b h, quote_class b bad.quote))
+no_whitespace_wrong _ b n bs h bad = bad
 
 digit_and_quote : (b : ℕ) → is_ascii_digit b ≡ true → (b == 0x22 || b == 0x27) ≡ true → ⊥
 digit_and_quote b digit quote = absurd (omega (arith, digit_class b digit, quote_class b quote))
@@ -247,24 +247,24 @@ same_wrong BadString BadString n m b bs p q = (refl, p.all ∙ sym q.all)
 same_wrong BadString _ n m b bs p q = absurd q
 same_wrong _ y n m b bs p q = absurd p
 
-wrong_is : (f : Front) (number : FaultNumber) (n b : ℕ) (bs : List ℕ) → begins_comment (b ∷ bs) ≡ false → IsWrong number n b bs → Stands b bs f → f ≡ Wrong number n
-wrong_is Blank number n b bs plain bad h = absurd (no_blank_wrong number b n bs h bad)
+wrong_is : (f : Prefix) (number : FaultNumber) (n b : ℕ) (bs : List ℕ) → begins_comment (b ∷ bs) ≡ false → IsWrong number n b bs → Stands b bs f → f ≡ Wrong number n
+wrong_is Whitespace number n b bs plain bad h = absurd (no_whitespace_wrong number b n bs h bad)
 wrong_is Comment number n b bs plain bad h = absurd (both_ways (begins_comment (b ∷ bs)) plain h)
 wrong_is (Lexeme kind m) number n b bs plain bad h = absurd (no_wrong number kind b m n bs h.1.fits h.1.is h.1.ends bad)
 wrong_is (Wrong other m) number n b bs plain bad h =
     let same = same_wrong other number m n b bs h.1 bad in rw (same.0, same.1) refl
 
 -- what a derivation says of its first bytes is what stands there
-abbrev behind_front : ℕ → List ℕ → Front → Lexed
-behind_front at bs f = placed f at (λ taken. tokens_from (at + 1) taken bs)
+abbrev after_prefix : ℕ → List ℕ → Prefix → Lexed
+after_prefix at bs f = with_rest f at (λ taken. tokens_from (at + 1) taken bs)
 
 comment_only : (at : ℕ) (bs : List ℕ) → begins_comment bs ≡ true → tokens_from at 0 bs ≡ record { tokens = []; fault = None }
 comment_only at [] h = refl
 comment_only at (b ∷ bs) h =
     ⊎_elim
-    (λ (blank : is_blank b ≡ true). absurd (omega (arith, blank_class b blank, comment_class b bs h)))
-    (λ (other : is_blank b ≡ false). ap (behind_front at bs) (cond-false (is_blank b) _ _ other ∙ cond-true (begins_comment (b ∷ bs)) _ _ h))
-    (cases_Bool (is_blank b))
+    (λ (whitespace : is_whitespace b ≡ true). absurd (omega (arith, whitespace_class b whitespace, comment_class b bs h)))
+    (λ (other : is_whitespace b ≡ false). ap (after_prefix at bs) (cond-false (is_whitespace b) _ _ other ∙ cond-true (begins_comment (b ∷ bs)) _ _ h))
+    (cases_Bool (is_whitespace b))
 
 token_only : (at n : ℕ) (kind : TokenKind) (bs : List ℕ) (tokens : List Token) (fault : Option Fault) → n ≤ length bs → begins_comment bs ≡ false → IsOfKind kind (take n bs) → EndsRun kind (drop n bs) → IsLongest n bs → tokens_from (at + n) 0 (drop n bs) ≡ record { tokens = tokens; fault = fault } → tokens_from at 0 bs ≡ record { tokens = record { kind = kind; span = record { from = at; to = at + n } } ∷ tokens; fault = fault }
 token_only at n kind [] tokens fault fits plain is ends longest next = absurd (omega (arith, some_bytes kind n [] is))
@@ -272,7 +272,7 @@ token_only at zero kind (b ∷ bs) tokens fault fits plain is ends longest next 
 token_only at (suc m) kind (b ∷ bs) tokens fault fits plain is ends longest next =
     let joined : Lexed → Lexed =
     λ l. record { tokens = record { kind = kind; span = record { from = at; to = at + suc m } } ∷ l.tokens; fault = l.fault } in
-    let here = lexeme_is (front (b ∷ bs)) kind (suc m) b bs plain (record { fits = fits; is = is; ends = ends; longest = longest }) (front_stands b bs) in
+    let here = lexeme_is (prefix (b ∷ bs)) kind (suc m) b bs plain (record { fits = fits; is = is; ends = ends; longest = longest }) (prefix_stands b bs) in
     let step : suc m - 1 ≡ m = omega arith in
     let place : at + 1 + m ≡ at + suc m = omega arith in
     let rest : tokens_from (at + 1) (suc m - 1) bs ≡ record { tokens = tokens; fault = fault } =
@@ -280,16 +280,16 @@ token_only at (suc m) kind (b ∷ bs) tokens fault fits plain is ends longest ne
     ∙ tokens_from-taken (at + 1) m bs (omega arith)
     ∙ ap (λ x. tokens_from x 0 (drop m bs)) place
     ∙ next in
-    ap (behind_front at bs) here ∙ ap joined rest
+    ap (after_prefix at bs) here ∙ ap joined rest
 
 only_from : {at : ℕ} {bs : List ℕ} {tokens : List Token} {fault : Option Fault} → Reads at bs tokens fault → tokens_from at 0 bs ≡ record { tokens = tokens; fault = fault }
 only_from (ended at) = refl
 only_from (comment at bs h) = comment_only at bs h
-only_from (blank at b bs tokens fault h more) = ap (behind_front at bs) (cond-true (is_blank b) _ _ h) ∙ only_from more
+only_from (whitespace at b bs tokens fault h more) = ap (after_prefix at bs) (cond-true (is_whitespace b) _ _ h) ∙ only_from more
 only_from (token at n kind bs tokens fault fits plain is ends longest more) =
     token_only at n kind bs tokens fault fits plain is ends longest (only_from more)
 only_from (wrong at n number b bs plain h) =
-    ap (behind_front at bs) (wrong_is (front (b ∷ bs)) number n b bs plain h (front_stands b bs))
+    ap (after_prefix at bs) (wrong_is (prefix (b ∷ bs)) number n b bs plain h (prefix_stands b bs))
 
 pub only : (line : List ℕ) (tokens : List Token) (fault : Option Fault) → Reads 0 line tokens fault → tokens_of line ≡ record { tokens = tokens; fault = fault }
 only line tokens fault h = only_from h

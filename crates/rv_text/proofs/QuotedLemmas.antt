@@ -14,7 +14,7 @@ record Step (bs : List ℕ) (b n : ℕ) : Type 0 where
   only : Spelling
   stands : spelled (b ∷ bs) ≡ Some only
   rest : ℕ
-  behind : string_len (only.len - 1) bs ≡ Some rest
+  after : string_len (only.len - 1) bs ≡ Some rest
   all : n ≡ rest + 1
 
 one_more : (o : Option ℕ) (n : ℕ) → option_map (λ n. n + 1) o ≡ Some n → (m : ℕ) × (o ≡ Some m) × (n ≡ m + 1)
@@ -28,8 +28,8 @@ moved (Some m) k n h = (m, refl, cc)
 stepped : (o : Option Spelling) (bs : List ℕ) (b n : ℕ) → spelled (b ∷ bs) ≡ o → option_and_then (λ s. option_map (λ n. n + 1) (string_len (s.len - 1) bs)) o ≡ Some n → Step bs b n
 stepped None bs b n e h = absurd cc
 stepped (Some s) bs b n e h =
-    let (m, behind, all) = one_more (string_len (s.len - 1) bs) n h in
-    record { only = s; stands = e; rest = m; behind = behind; all = all }
+    let (m, after, all) = one_more (string_len (s.len - 1) bs) n h in
+    record { only = s; stands = e; rest = m; after = after; all = all }
 
 step_of : (b n : ℕ) (bs : List ℕ) → (b == 0x22) ≡ false → string_len 0 (b ∷ bs) ≡ Some n → Step bs b n
 step_of b n bs other h = stepped (spelled (b ∷ bs)) bs b n refl (sym (cond-false (b == 0x22) _ _ other) ∙ h)
@@ -63,7 +63,7 @@ string_sound (suc fuel) n (b ∷ bs) enough h =
     let len = spelled_len (b ∷ bs) s step.stands in
     let k = s.len - 1 in
     let within : k ≤ length bs = omega (arith, len.1) in
-    let (m, stands, is) = moved (string_len 0 (drop k bs)) k step.rest (sym (string_len-taken k bs within) ∙ step.behind) in
+    let (m, stands, is) = moved (string_len 0 (drop k bs)) k step.rest (sym (string_len-taken k bs within) ∙ step.after) in
     let closed = string_sound fuel m (drop k bs) (rw length-drop (omega arith)) stands in
     let fits = rw (length-drop k bs) at closed.fits in
     let all : n ≡ suc (k + m) = omega (arith, step.all) in
@@ -91,10 +91,10 @@ string_complete rest (spelling b bs s other stands more) =
     let cons = string_len-cons b (bs ++ rest) (b ∷ (bs ++ rest)) s refl other here in
     let taken = string_len-taken k (bs ++ rest) (rw length-append (omega arith)) in
     let next = subst (λ xs. string_len 0 (xs ++ rest) ≡ Some (length xs)) (dropped s.len k b bs (omega (arith, len.0))) (string_complete rest more) in
-    let behind : string_len k (bs ++ rest) ≡ Some (length (drop k bs) + k) =
+    let after : string_len k (bs ++ rest) ≡ Some (length (drop k bs) + k) =
     taken ∙ ap (option_map (λ n. n + k)) (ap (string_len 0) (drop-append-le k bs rest within) ∙ next) in
     let all : length (drop k bs) + k + 1 ≡ length (b ∷ bs) = rw length-drop (omega arith) in
-    cons ∙ ap (option_map (λ n. n + 1)) behind ∙ ap Some all
+    cons ∙ ap (option_map (λ n. n + 1)) after ∙ ap Some all
 
 -- the same for characters
 pub record IsCharacter (b n : ℕ) (bs : List ℕ) : Type 0 where

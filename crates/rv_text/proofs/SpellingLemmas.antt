@@ -95,10 +95,10 @@ escape_append (c ∷ cs) rest s h within =
     (cases_Bool (is_octal c))
 
 -- a spelling
-abbrev behind_backslash : Spelling → Spelling
-behind_backslash s = record { byte = s.byte; len = s.len + 1 }
+abbrev after_backslash : Spelling → Spelling
+after_backslash s = record { byte = s.byte; len = s.len + 1 }
 
-mapped : (o : Option Spelling) (s : Spelling) → option_map behind_backslash o ≡ Some s → (e : Spelling) × (o ≡ Some e) × (behind_backslash e ≡ s)
+mapped : (o : Option Spelling) (s : Spelling) → option_map after_backslash o ≡ Some s → (e : Spelling) × (o ≡ Some e) × (after_backslash e ≡ s)
 mapped None s h = absurd cc
 mapped (Some e) s h = (e, refl, cc)
 

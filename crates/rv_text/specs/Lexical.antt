@@ -7,24 +7,24 @@ use Rattle.rv_text.specs.declared.faults.FaultNumber.{FaultNumber}
 use Rattle.rv_text.specs.declared.faults.FaultNumber.TheVariants.{BadByte, BadNumber, BadString}
 use Rattle.rv_text.specs.declared.lexeme.Token.{Token}
 use Rattle.rv_text.specs.declared.lexeme.TokenKind.{TokenKind}
-use Rattle.rv_text.specs.declared.lexeme.TokenKind.TheVariants.{Word, Number, Local, Str, Char, Sign}
+use Rattle.rv_text.specs.declared.lexeme.TokenKind.TheVariants.{Identifier, Number, Local, Str, Char, Punctuation}
 use Rattle.rv_text.specs.declared.strings.Spelling.{Spelling}
-use Rattle.rv_text.specs.Bytes.{is_blank, is_word_start, is_word_byte, is_sign_byte}
+use Rattle.rv_text.specs.Bytes.{is_whitespace, is_identifier_start, is_identifier_byte, is_punctuation_byte}
 use Rattle.rv_text.specs.Lexing.{begins_comment}
 use Rattle.rv_text.specs.Numbers.{number_of, is_local}
 use Rattle.rv_text.specs.Strings.{spelled, may_stand}
 
 -- a byte with which a word may begin, and then bytes of a word
-abbrev pub is_word : List ℕ → Bool
-is_word [] = false
-is_word (b ∷ bs) = is_word_start b && list_all is_word_byte bs
+abbrev pub is_identifier : List ℕ → Bool
+is_identifier [] = false
+is_identifier (b ∷ bs) = is_identifier_start b && list_all is_identifier_byte bs
 
 -- `<<`, `>>`, or a visible byte that is no quote and begins no word and no number
-abbrev pub is_sign : List ℕ → Bool
-is_sign [] = false
-is_sign (b ∷ []) = is_sign_byte b && not (is_word_start b) && not (is_ascii_digit b)
-is_sign (b ∷ c ∷ []) = b == 0x3C && c == 0x3C || b == 0x3E && c == 0x3E
-is_sign (b ∷ c ∷ d ∷ bs) = false
+abbrev pub is_punctuation : List ℕ → Bool
+is_punctuation [] = false
+is_punctuation (b ∷ []) = is_punctuation_byte b && not (is_identifier_start b) && not (is_ascii_digit b)
+is_punctuation (b ∷ c ∷ []) = b == 0x3C && c == 0x3C || b == 0x3E && c == 0x3E
+is_punctuation (b ∷ c ∷ d ∷ bs) = false
 
 -- the spellings of a string's bytes, and then its closing quote
 pub data EndsString : List ℕ → Type 0 where
@@ -41,10 +41,10 @@ pub record EndsCharacter (b : ℕ) (bs : List ℕ) : Type 0 where
 -- a text is a token of the kind
 abbrev pub IsOfKind : TokenKind → List ℕ → Type 0
 IsOfKind kind [] = ⊥
-IsOfKind Word (b ∷ bs) = is_word (b ∷ bs) ≡ true
+IsOfKind Identifier (b ∷ bs) = is_identifier (b ∷ bs) ≡ true
 IsOfKind Number (b ∷ bs) = is_some (number_of (b ∷ bs)) ≡ true
 IsOfKind Local (b ∷ bs) = is_local (b ∷ bs) ≡ true
-IsOfKind Sign (b ∷ bs) = is_sign (b ∷ bs) ≡ true
+IsOfKind Punctuation (b ∷ bs) = is_punctuation (b ∷ bs) ≡ true
 IsOfKind Str (b ∷ bs) = (b ≡ 0x22) × EndsString bs
 IsOfKind Char (b ∷ []) = ⊥
 IsOfKind Char (b ∷ c ∷ bs) = (b ≡ 0x27) × EndsCharacter c bs
@@ -62,15 +62,15 @@ goes_on (b ∷ bs) = is_ascii_alphanumeric b
 abbrev pub EndsRun : TokenKind → List ℕ → Type 0
 EndsRun Number rest = goes_on rest ≡ false
 EndsRun Local rest = goes_on rest ≡ false
-EndsRun Word rest = ⊤
+EndsRun Identifier rest = ⊤
 EndsRun Str rest = ⊤
 EndsRun Char rest = ⊤
-EndsRun Sign rest = ⊤
+EndsRun Punctuation rest = ⊤
 
 -- a byte that is no whitespace and no quote, and begins no token
 pub record IsBadByte (n : ℕ) (b : ℕ) (bs : List ℕ) : Type 0 where
   pub one : n ≡ 1
-  pub no_blank : is_blank b ≡ false
+  pub no_whitespace : is_whitespace b ≡ false
   pub no_quote : (b == 0x22 || b == 0x27) ≡ false
   pub no_token : IsLongest 0 (b ∷ bs)
 
@@ -98,7 +98,7 @@ IsWrong _ n b bs = ⊥
 pub data Reads : ℕ → List ℕ → List Token → Option Fault → Type 0 where
   ended : (at : ℕ) → Reads at [] [] None
   comment : (at : ℕ) (bs : List ℕ) → begins_comment bs ≡ true → Reads at bs [] None
-  blank : (at b : ℕ) (bs : List ℕ) (tokens : List Token) (fault : Option Fault) → is_blank b ≡ true → Reads (at + 1) bs tokens fault → Reads at (b ∷ bs) tokens fault
+  whitespace : (at b : ℕ) (bs : List ℕ) (tokens : List Token) (fault : Option Fault) → is_whitespace b ≡ true → Reads (at + 1) bs tokens fault → Reads at (b ∷ bs) tokens fault
   token : (at n : ℕ) (kind : TokenKind) (bs : List ℕ) (tokens : List Token) (fault : Option Fault) → n ≤ length bs → begins_comment bs ≡ false → IsOfKind kind (take n bs) → EndsRun kind (drop n bs) → IsLongest n bs → Reads (at + n) (drop n bs) tokens fault → Reads at bs (record { kind = kind; span = record { from = at; to = at + n } } ∷ tokens) fault
   wrong : (at n : ℕ) (number : FaultNumber) (b : ℕ) (bs : List ℕ) → begins_comment (b ∷ bs) ≡ false → IsWrong number n b bs → Reads at (b ∷ bs) [] (Some (record { number = number; span = record { from = at; to = at + n } }))
 

@@ -7,8 +7,8 @@ abbrev pub before : List ℕ → Option (List ℕ) → Option (List ℕ)
 before bytes others = option_map (λ rest. bytes ++ rest) others
 
 -- these bytes after the others, where those are known
-abbrev pub behind : Option (List ℕ) → List ℕ → Option (List ℕ)
-behind others bytes = option_map (λ front. front ++ bytes) others
+abbrev pub after : Option (List ℕ) → List ℕ → Option (List ℕ)
+after others bytes = option_map (λ prefix. prefix ++ bytes) others
 
 -- where the bytes are known, none is left
 abbrev pub IsAtEnd : Option (List ℕ) → Type 0
@@ -20,16 +20,16 @@ abbrev pub failures_after : {A E : Type 0} → ℕ → Result A E → ℕ
 failures_after count result = if is_ok result then count else count + 1
 
 -- some prefix of the text was taken
-pub record WritesFront (old : Option (List ℕ)) (text : List ℕ) (new : Option (List ℕ)) : Type 0 where
-  pub front : List ℕ
+pub record WritesPrefix (old : Option (List ℕ)) (text : List ℕ) (new : Option (List ℕ)) : Type 0 where
+  pub prefix : List ℕ
   pub rest : List ℕ
-  pub whole : text ≡ front ++ rest
-  pub taken : new ≡ behind old front
+  pub whole : text ≡ prefix ++ rest
+  pub taken : new ≡ after old prefix
 
 -- the text was taken, or where a write failed some prefix of it
 abbrev pub Writes : {A E : Type 0} → Option (List ℕ) → List ℕ → Result A E → Option (List ℕ) → Type 0
-Writes old text (Ok _) new = new ≡ behind old text
-Writes old text (Err _) new = WritesFront old text new
+Writes old text (Ok _) new = new ≡ after old text
+Writes old text (Err _) new = WritesPrefix old text new
 
 -- a writer into memory: the bytes that it took, how many it can take, and how many of its calls failed
 pub record Filled : Type 0 where

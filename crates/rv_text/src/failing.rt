@@ -1,7 +1,7 @@
 //! A reader or a writer of which one call fails.
 
 ghost use Rattle.std.specs.Prelude.{◌≡◌, ◌==◌, ◌+◌, ◌-◌, ◌^◌, ◌<◌, ◌≤◌, Some, length, take, IfOk, OnErr, IsErr};
-ghost use Rattle.rv_text.specs.Streams.{before, behind, IsAtEnd, failures_after, calls_before, after_call, fails_now, failures_to_come};
+ghost use Rattle.rv_text.specs.Streams.{before, after, IsAtEnd, failures_after, calls_before, after_call, fails_now, failures_to_come};
 
 use crate::streams::{Failed, Sink, Source};
 
@@ -88,7 +88,7 @@ impl<S: Sink> Sink for FailsAt<S> {
         requires { S.failures self.old.inner + self.old.failures < 2 ^ 64 - 1 }
         ensures within { IfOk result (λ n. n ≤ length bytes.now) }
         ensures some { IfOk result (λ n. 0 < length bytes.now → 0 < n) }
-        ensures taken { IfOk result (λ n. S.taken self.new.inner ≡ behind (S.taken self.old.inner) (take n bytes.now)) }
+        ensures taken { IfOk result (λ n. S.taken self.new.inner ≡ after (S.taken self.old.inner) (take n bytes.now)) }
         ensures failed { OnErr result (S.taken self.new.inner ≡ S.taken self.old.inner) }
         ensures count { S.failures self.new.inner + self.new.failures ≡ failures_after (S.failures self.old.inner + self.old.failures) result }
 

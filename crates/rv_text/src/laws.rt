@@ -3,9 +3,9 @@
 ghost use Rattle.std.specs.Prelude.{◌≡◌, ◌≤◌, ◌++◌, [], ℕ, List, Option, length};
 ghost use Rattle.rv_text.specs.declared.faults.Fault.{Fault};
 ghost use Rattle.rv_text.specs.declared.lexeme.Token.{Token};
-ghost use Rattle.rv_text.specs.Lexing.{LexedLine, SpansFit, pieces, tokens_of};
+ghost use Rattle.rv_text.specs.Lexing.{LexedLine, SpansFit, spelled_tokens, tokens_of};
 ghost use Rattle.rv_text.specs.Lexical.{Reads, Rise};
-ghost use Rattle.rv_text.specs.Streams.{before, behind, WritesFront};
+ghost use Rattle.rv_text.specs.Streams.{before, after, WritesPrefix};
 
 /// The tokens of every line are lexical, whatever way they are found. Read from its first byte on, the line has
 /// whitespace, and tokens each of which is a text of its kind and the longest that begins at its place, up to the line's end, a
@@ -19,23 +19,23 @@ pub fn tokens_are_lexical()
 {}
 
 /// The tokens of a line fit it: they are no more than its bytes, and their spans are ranges of it.
-#[tactic(auto, using(crate::proofs::LexicalLaw::fit, crate::specs::TokenLaws::few_tokens, crate::specs::TokenLaws::count_of_pieces))]
+#[tactic(auto, using(crate::proofs::LexicalLaw::fit, crate::specs::TokenLaws::few_tokens, crate::specs::TokenLaws::count_of_spelled_tokens))]
 pub fn tokens_fit()
     ensures few { (line : List ℕ) → length (tokens_of line).tokens ≤ length line }
     ensures fit { (line : List ℕ) → SpansFit line (tokens_of line).tokens }
-    ensures pieces { (l : LexedLine) → length (pieces l) ≡ length l.tokens }
+    ensures spelled_tokens { (l : LexedLine) → length (spelled_tokens l) ≡ length l.tokens }
 {}
 
 /// Writes in a row join: two that are taken are one of both texts, and a write of nothing changes nothing. Where one
 /// fails, what was taken is a prefix of the whole text: of a first part with more to come, of a last part after what was
 /// taken before it, and of a part with both.
-#[tactic(auto, using(crate::specs::StreamLaws::behind_behind, crate::specs::StreamLaws::behind_none, crate::specs::StreamLaws::front_first, crate::specs::StreamLaws::front_within, crate::specs::StreamLaws::front_last))]
+#[tactic(auto, using(crate::specs::StreamLaws::after_after, crate::specs::StreamLaws::after_none, crate::specs::StreamLaws::prefix_first, crate::specs::StreamLaws::prefix_within, crate::specs::StreamLaws::prefix_last))]
 pub fn writes_join()
-    ensures both { (old : Option (List ℕ)) (first second : List ℕ) → behind (behind old first) second ≡ behind old (first ++ second) }
-    ensures nothing { (old : Option (List ℕ)) → behind old [] ≡ old }
-    ensures first { (old new : Option (List ℕ)) (part more text : List ℕ) → text ≡ part ++ more → WritesFront old part new → WritesFront old text new }
-    ensures within { (old between new : Option (List ℕ)) (done part more text : List ℕ) → text ≡ (done ++ part) ++ more → between ≡ behind old done → WritesFront between part new → WritesFront old text new }
-    ensures last { (old between new : Option (List ℕ)) (done part text : List ℕ) → text ≡ done ++ part → between ≡ behind old done → WritesFront between part new → WritesFront old text new }
+    ensures both { (old : Option (List ℕ)) (first second : List ℕ) → after (after old first) second ≡ after old (first ++ second) }
+    ensures nothing { (old : Option (List ℕ)) → after old [] ≡ old }
+    ensures first { (old new : Option (List ℕ)) (part more text : List ℕ) → text ≡ part ++ more → WritesPrefix old part new → WritesPrefix old text new }
+    ensures within { (old between new : Option (List ℕ)) (done part more text : List ℕ) → text ≡ (done ++ part) ++ more → between ≡ after old done → WritesPrefix between part new → WritesPrefix old text new }
+    ensures last { (old between new : Option (List ℕ)) (done part text : List ℕ) → text ≡ done ++ part → between ≡ after old done → WritesPrefix between part new → WritesPrefix old text new }
 {}
 
 /// Reads in a row join: two are one of both texts, and a read of nothing changes nothing.

@@ -16,7 +16,7 @@ pub struct Span {
 #[derive(Clone, Copy, Debug, PartialEq, Eq)]
 pub enum TokenKind {
     /// A letter, `_`, `.` or `$`, and then letters, digits and these.
-    Word,
+    Identifier,
     /// A number: decimal without a leading zero, or `0` and octal digits, `0x` and hexadecimal ones, `0b` and binary ones.
     Number,
     /// A reference to a local label: its number, and then `b` or `f`.
@@ -26,7 +26,7 @@ pub enum TokenKind {
     /// A character between two `'`.
     Char,
     /// `<<`, `>>`, or one visible byte that begins no other token.
-    Sign,
+    Punctuation,
 }
 
 /// A token, by its kind and its place in the line.
@@ -38,9 +38,9 @@ pub struct Token {
 
 /// What some bytes begin with.
 #[derive(Clone, Copy, Debug, PartialEq, Eq)]
-pub enum Front {
+pub enum Prefix {
     /// One byte of whitespace.
-    Blank,
+    Whitespace,
     /// A comment, which runs to the end of the line.
     Comment,
     /// A token, and how many bytes it has.

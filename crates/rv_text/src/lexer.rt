@@ -3,12 +3,12 @@
 ghost use Rattle.std.specs.Prelude.{◌≡◌, ◌≤◌, ◌<◌, ◌+◌, IfOk, IfSome, length};
 ghost use Rattle.std.specs.Char.{is_ascii_alphanumeric};
 ghost use Rattle.std.specs.List.{prefix_len};
-ghost use Rattle.rv_text.specs.Bytes.{is_word_byte};
-ghost use Rattle.rv_text.specs.Lexing.{front, quoted, FitsIn, SpansFit, lexed_line, numeral, begins_comment, begins_shift};
+ghost use Rattle.rv_text.specs.Bytes.{is_identifier_byte};
+ghost use Rattle.rv_text.specs.Lexing.{prefix, quoted, FitsIn, SpansFit, lexed_line, numeral, begins_comment, begins_shift};
 
-use crate::classes::{is_blank, is_sign_byte, is_word_byte, is_word_start};
+use crate::classes::{is_identifier_byte, is_identifier_start, is_punctuation_byte, is_whitespace};
 use crate::faults::{Fault, FaultNumber};
-use crate::lexeme::{Front, MAX_LINE_LENGTH, Span, Token, TokenKind};
+use crate::lexeme::{MAX_LINE_LENGTH, Prefix, Span, Token, TokenKind};
 use crate::numerals::{is_local, number};
 use crate::strings::{char_len, string_len};
 use crate::token_list::{TextError, Tokens};
@@ -30,11 +30,11 @@ fn begins_shift(bytes: &[u8]) -> bool
 
 // How long the prefix of bytes is that may stand in a word.
 #[tactic(auto, using(crate::proofs::Runs::run_steps))]
-fn word_len(bytes: &[u8]) -> usize
-    ensures { result ≡ prefix_len is_word_byte bytes.now }
+fn identifier_len(bytes: &[u8]) -> usize
+    ensures { result ≡ prefix_len is_identifier_byte bytes.now }
 {
     let mut n = 0;
-    while n < bytes.len() && is_word_byte(bytes[n]) {
+    while n < bytes.len() && is_identifier_byte(bytes[n]) {
         n += 1;
     }
     n
@@ -55,7 +55,7 @@ fn alphanumeric_len(bytes: &[u8]) -> usize
 
 // The prefix of digits and letters: a number, a local label, or wrong.
 #[tactic(auto, using(crate::proofs::Runs::run_steps))]
-fn numeral(bytes: &[u8]) -> Front
+fn numeral(bytes: &[u8]) -> Prefix
     requires { 0 < prefix_len is_ascii_alphanumeric bytes.now }
     ensures exact { result ≡ numeral bytes.now }
     ensures fits { FitsIn (length bytes.now) result }
@@ -63,43 +63,43 @@ fn numeral(bytes: &[u8]) -> Front
     let len = alphanumeric_len(bytes);
     let run = &bytes[..len];
     if number(run).is_some() {
-        Front::Lexeme(TokenKind::Number, len)
+        Prefix::Lexeme(TokenKind::Number, len)
     } else if is_local(run) {
-        Front::Lexeme(TokenKind::Local, len)
+        Prefix::Lexeme(TokenKind::Local, len)
     } else {
-        Front::Wrong(FaultNumber::BadNumber, len)
+        Prefix::Wrong(FaultNumber::BadNumber, len)
     }
 }
 
 // A string or a character of which `len` bytes stand after its first quote; wrong up to the end of the line where it
 // has no such end. `left` is how many bytes there are with that quote.
-fn quoted(kind: TokenKind, len: Option<usize>, left: usize) -> Front
+fn quoted(kind: TokenKind, len: Option<usize>, left: usize) -> Prefix
     requires some { IfSome len (λ n. n < left) }
     requires left { 1 ≤ left }
     ensures exact { result ≡ quoted kind len left }
     ensures fits { FitsIn left result }
 {
     match len {
-        Some(n) => Front::Lexeme(kind, n + 1),
-        None => Front::Wrong(FaultNumber::BadString, left),
+        Some(n) => Prefix::Lexeme(kind, n + 1),
+        None => Prefix::Wrong(FaultNumber::BadString, left),
     }
 }
 
 // What the bytes begin with.
 #[tactic(auto, using(crate::proofs::Runs::run_steps))]
-fn front(bytes: &[u8]) -> Front
-    ensures exact { result ≡ front bytes.now }
+fn prefix(bytes: &[u8]) -> Prefix
+    ensures exact { result ≡ prefix bytes.now }
     ensures fits { FitsIn (length bytes.now) result }
 {
     let Some(first) = bytes.first().copied() else {
-        return Front::Comment;
+        return Prefix::Comment;
     };
-    if is_blank(first) {
-        Front::Blank
+    if is_whitespace(first) {
+        Prefix::Whitespace
     } else if begins_comment(bytes) {
-        Front::Comment
-    } else if is_word_start(first) {
-        Front::Lexeme(TokenKind::Word, word_len(bytes))
+        Prefix::Comment
+    } else if is_identifier_start(first) {
+        Prefix::Lexeme(TokenKind::Identifier, identifier_len(bytes))
     } else if first.is_ascii_digit() {
         numeral(bytes)
     } else if first == b'"' {
@@ -107,11 +107,11 @@ fn front(bytes: &[u8]) -> Front
     } else if first == b'\'' {
         quoted(TokenKind::Char, char_len(&bytes[1..]), bytes.len())
     } else if begins_shift(bytes) {
-        Front::Lexeme(TokenKind::Sign, 2)
-    } else if is_sign_byte(first) {
-        Front::Lexeme(TokenKind::Sign, 1)
+        Prefix::Lexeme(TokenKind::Punctuation, 2)
+    } else if is_punctuation_byte(first) {
+        Prefix::Lexeme(TokenKind::Punctuation, 1)
     } else {
-        Front::Wrong(FaultNumber::BadByte, 1)
+        Prefix::Wrong(FaultNumber::BadByte, 1)
     }
 }
 
@@ -138,15 +138,15 @@ pub fn tokens(alloc: Global, line: &[u8]) -> Result<Tokens<'_>, TextError>
     let mut found = Vec::new(alloc);
     let mut at = 0;
     while at < line.len() {
-        match front(&line[at..]) {
-            Front::Blank => at += 1,
-            Front::Comment => return Ok(Tokens::new(line, found, None)),
-            Front::Lexeme(kind, len) => {
+        match prefix(&line[at..]) {
+            Prefix::Whitespace => at += 1,
+            Prefix::Comment => return Ok(Tokens::new(line, found, None)),
+            Prefix::Lexeme(kind, len) => {
                 let span = span_at(at, len);
                 found.push(Token { kind, span })?;
                 at += len;
             }
-            Front::Wrong(number, len) => {
+            Prefix::Wrong(number, len) => {
                 let span = span_at(at, len);
                 return Ok(Tokens::new(line, found, Some(Fault { number, span })));
             }

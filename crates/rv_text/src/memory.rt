@@ -47,8 +47,8 @@ impl<'a> Source for MemSource<'a> {
         ensures succeeds { IsOk result }
     {
         let n = buffer.len().min(self.rest.len());
-        let (front, rest) = self.rest.split_at(n);
-        buffer[..n].copy_from_slice(front);
+        let (prefix, rest) = self.rest.split_at(n);
+        buffer[..n].copy_from_slice(prefix);
         self.rest = rest;
         Ok(n)
     }

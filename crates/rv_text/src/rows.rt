@@ -11,11 +11,11 @@ use std::marker::Model;
 /// A row of output text, or a part of one: at most 64 bytes, put together without taking memory and then written by
 /// one call. Contracts see the bytes.
 #[derive(Drop)]
-pub struct Row {
+pub struct OutputRow {
     bytes: ArrayVec<u8, 64>,
 }
 
-impl Model for Row {
+impl Model for OutputRow {
     ghost use Rattle.std.specs.Prelude.{ℕ, List, length, ◌≤◌};
 
     ghost Value = { List ℕ };
@@ -33,12 +33,12 @@ fn hex_digit(n: u8) -> u8
     if n < 10 { b'0' + n } else { b'a' + (n - 10) }
 }
 
-impl Row {
+impl OutputRow {
     /// A row without a byte.
     pub fn new() -> Self
         ensures { result ≡ [] }
     {
-        Row {
+        OutputRow {
             bytes: ArrayVec::new(),
         }
     }

@@ -1,7 +1,7 @@
 //! What bytes come from and go to.
 
 ghost use Rattle.std.specs.Prelude.{◌≡◌, ◌-◌, ◌^◌, ◌<◌, ◌≤◌, ℕ, List, Option, length, take, IfOk, OnErr};
-ghost use Rattle.rv_text.specs.Streams.{before, behind, IsAtEnd, failures_after, Writes};
+ghost use Rattle.rv_text.specs.Streams.{before, after, IsAtEnd, failures_after, Writes};
 
 /// A call of a reader or a writer that failed.
 #[derive(Clone, Copy, Debug, PartialEq, Eq)]
@@ -40,13 +40,13 @@ pub trait Sink {
         requires { failures self.old < 2 ^ 64 - 1 }
         ensures within { IfOk result (λ n. n ≤ length bytes.now) }
         ensures some { IfOk result (λ n. 0 < length bytes.now → 0 < n) }
-        ensures taken { IfOk result (λ n. taken self.new ≡ behind (taken self.old) (take n bytes.now)) }
+        ensures taken { IfOk result (λ n. taken self.new ≡ after (taken self.old) (take n bytes.now)) }
         ensures failed { OnErr result (taken self.new ≡ taken self.old) }
         ensures count { failures self.new ≡ failures_after (failures self.old) result };
 }
 
 /// Writes all the bytes. At the first call that fails it stops, and some prefix of the bytes was taken.
-#[tactic(auto, using(crate::proofs::StreamLemmas::behind_take_more, crate::proofs::StreamLemmas::front_taken))]
+#[tactic(auto, using(crate::proofs::StreamLemmas::after_take_more, crate::proofs::StreamLemmas::prefix_taken))]
 pub fn write_all<W: Sink>(sink: &mut W, bytes: &[u8]) -> Result<(), Failed>
     requires { W.failures sink.old < 2 ^ 64 - 1 }
     ensures text { Writes (W.taken sink.old) bytes.now result (W.taken sink.new) }

@@ -9,12 +9,12 @@ fn kinds(alloc: Global, tokens: &Tokens<'_>) -> Result<String, Fail> {
     let mut text = String::new(alloc);
     for token in tokens.tokens() {
         text.push(match token.kind {
-            TokenKind::Word => 'W',
+            TokenKind::Identifier => 'W',
             TokenKind::Number => 'N',
             TokenKind::Local => 'L',
             TokenKind::Str => '"',
             TokenKind::Char => '\'',
-            TokenKind::Sign => 'S',
+            TokenKind::Punctuation => 'S',
         })?;
     }
     match tokens.fault().map(|fault| fault.number) {
@@ -79,18 +79,18 @@ const LONGEST: &[u8] = &[b'a'; 1000];
 #[test]
 fn places_tokens(rt: HostRuntime) -> Result<(), Fail> {
     let found = tokens(rt.alloc(), b"li a0, 'ab' # x")?;
-    let word = TokenKind::Word;
+    let identifier = TokenKind::Identifier;
     let want = [
         Token {
-            kind: word,
+            kind: identifier,
             span: Span { from: 0, to: 2 },
         },
         Token {
-            kind: word,
+            kind: identifier,
             span: Span { from: 3, to: 5 },
         },
         Token {
-            kind: TokenKind::Sign,
+            kind: TokenKind::Punctuation,
             span: Span { from: 5, to: 6 },
         },
     ];

@@ -1,6 +1,6 @@
 use Rattle.std.proofs.Common.{◌≡◌, length, refl, arith}
 use Rattle.std.proofs.lemmas.Bool.Decides.{nat_tests}
-use Rattle.rv_commands.proofs.OutcomeLemmas.{takes_none, takes_all, takes_front}
+use Rattle.rv_commands.proofs.OutcomeLemmas.{takes_none, takes_all, takes_prefix}
 use Rattle.rv_commands.proofs.running.finish.Goals as goal
 
 pub returns-then-is_empty-clause-text : goal.returns-then-is_empty-clause-text
@@ -16,4 +16,4 @@ pub returns-in-Err-clause-text : goal.returns-in-Err-clause-text
 returns-in-Err-clause-text g c =
     let told = c.in-Err.ensures.text in
     let some : length c.args.piece.now ≡ 0 → ⊥ = grind (arith, nat_tests, c.if-is_empty.ensures) in
-    (refl, takes_front _ c.answer_alone.new.store _ told.0 _ _ some told.1 told.2)
+    (refl, takes_prefix _ c.answer_alone.new.store _ told.0 _ _ some told.1 told.2)

@@ -1,6 +1,6 @@
 use Rattle.std.proofs.Common.{◌+◌, map, max, sym, ap, ◌∙◌}
 use Rattle.rv_text.specs.declared.lexeme.Token.{Token}
-use Rattle.rv_text.specs.declared.lexeme.TokenKind.TheVariants.{Word}
+use Rattle.rv_text.specs.declared.lexeme.TokenKind.TheVariants.{Identifier}
 use Rattle.rv_expr.specs.Depth.{depth_from}
 use Rattle.rv_expr.specs.TokenRoles.{token_role}
 use Rattle.rv_expr.specs.Reading.{run_of}
@@ -9,7 +9,7 @@ use Rattle.rv_expr.proofs.depth.depth_after_token.Goals as goal
 
 -- a token for where there is none
 abbrev other : Token
-other = record { kind = Word; span = record { from = 0; to = 0 } }
+other = record { kind = Identifier; span = record { from = 0; to = 0 } }
 
 pub returns-clause-step : goal.returns-clause-step
 returns-clause-step c = λ to before.

@@ -1,6 +1,6 @@
 use Rattle.std.proofs.Common.{◌+◌, ◌∷◌, map, ap, ◌∙◌}
 use Rattle.rv_text.specs.declared.lexeme.Token.{Token}
-use Rattle.rv_text.specs.declared.lexeme.TokenKind.TheVariants.{Word}
+use Rattle.rv_text.specs.declared.lexeme.TokenKind.TheVariants.{Identifier}
 use Rattle.rv_expr.specs.TokenRoles.{token_role}
 use Rattle.rv_expr.specs.Reading.{run_of}
 use Rattle.rv_expr.proofs.Runs.{roles_step}
@@ -8,7 +8,7 @@ use Rattle.rv_expr.proofs.expression_tokens.expression_token_at.Goals as goal
 
 -- a token for where there is none
 abbrev other : Token
-other = record { kind = Word; span = record { from = 0; to = 0 } }
+other = record { kind = Identifier; span = record { from = 0; to = 0 } }
 
 pub returns : goal.returns
 returns c = λ to before.

@@ -2,7 +2,7 @@ use Rattle.std.proofs.Common.{◌-◌, ◌/◌, ◌%◌, [], ◌∷◌, append_a
 use Rattle.std.proofs.lemmas.List.{append-nil}
 use Rattle.rv_text.specs.Rows.{hex, hex_digit}
 use Rattle.rv_text.proofs.RowLemmas.{hex_step, hex_none}
-use Rattle.rv_text.proofs.rows.Row.+push_hex.Goals as goal
+use Rattle.rv_text.proofs.rows.OutputRow.+push_hex.Goals as goal
 
 pub returns-then-digits-eq0-clause-text : goal.returns-then-digits-eq0-clause-text
 returns-then-digits-eq0-clause-text t c = rw (c.if-digits-eq0.true, hex_none) (sym (append-nil _))

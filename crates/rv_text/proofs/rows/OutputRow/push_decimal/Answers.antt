@@ -1,6 +1,6 @@
 use Rattle.std.proofs.Common.{arith, length-append}
 use Rattle.rv_text.proofs.RowLemmas.{decimal_short}
-use Rattle.rv_text.proofs.rows.Row.push_decimal.Goals as goal
+use Rattle.rv_text.proofs.rows.OutputRow.push_decimal.Goals as goal
 
 pub returns-clause-length : goal.returns-clause-length
 returns-clause-length c =

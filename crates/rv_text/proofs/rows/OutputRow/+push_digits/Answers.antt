@@ -2,7 +2,7 @@ use Rattle.std.proofs.Common.{◌+◌, ◌/◌, ◌%◌, [], ◌∷◌, append_a
 use Rattle.std.specs.Prelude.{decimal}
 use Rattle.std.proofs.lemmas.Fmt.{decimal_step}
 use Rattle.rv_text.proofs.RowLemmas.{decimal_longer}
-use Rattle.rv_text.proofs.rows.Row.+push_digits.Goals as goal
+use Rattle.rv_text.proofs.rows.OutputRow.+push_digits.Goals as goal
 
 pub push_digits-requires : goal.push_digits-requires
 push_digits-requires t c = (omega arith, omega (arith, decimal_longer c.args.n (omega arith) (omega arith)))

@@ -3,7 +3,7 @@ use Rattle.rv_expr.specs.Tree.{Tree}
 use Rattle.rv_expr.specs.declared.reading.Pending.{Pending}
 use Rattle.rv_expr.specs.Reading.{signed}
 use Rattle.rv_expr.specs.ReaderState.{waits}
-use Rattle.rv_expr.proofs.reading.apply_signs.Given as goal
+use Rattle.rv_expr.proofs.reading.apply_unary_operators.Given as goal
 
 abbrev pub invariant-loop-last : goal.invariant-loop-last
 invariant-loop-last l =

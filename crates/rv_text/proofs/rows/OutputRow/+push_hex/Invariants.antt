@@ -1,4 +1,4 @@
-use Rattle.rv_text.proofs.rows.Row.+push_hex.Given as goal
+use Rattle.rv_text.proofs.rows.OutputRow.+push_hex.Given as goal
 
 abbrev pub decreases-push_hex : goal.decreases-push_hex
 decreases-push_hex l = l.digits
