@@ -2,7 +2,7 @@
 //!
 //! The harness (`tools/refusals`) refuses one request by its number from the start of the process. So a case sets up
 //! what the call needs, takes pads, and then makes the call: more pads bring an earlier request of the call to that
-//! number. Input: the name of the case, a blank, how many pads, a line break.
+//! number. Input: the name of the case, a space, how many pads, a line break.
 #![tactic(auto)]
 
 mod case;

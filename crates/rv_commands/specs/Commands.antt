@@ -22,7 +22,7 @@ request declared.Image = Image
 abbrev pub place_of : List ℕ → Option ℕ
 place_of slice = if nat_le (length slice) 9 then digits_number 10 slice else None
 
--- What the bytes of a command ask for, if anything. One blank stands between the parts, and nothing after the last.
+-- What the bytes of a command ask for, if anything. One space stands between the parts, and nothing after the last.
 abbrev pub request_of : List ℕ → Option Request
 request_of command =
     if bytes_eq command (codes "a") then Some (Append [])

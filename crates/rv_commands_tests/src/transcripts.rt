@@ -128,17 +128,21 @@ fn long_lines_are_answered(rt: HostRuntime) -> Result<(), Fail> {
 fn answers_are_written_in_blocks(rt: HostRuntime) -> Result<(), Fail> {
     let mut input: Vec<u8> = Vec::new(rt.alloc());
     for _ in 0..1000 {
-        input.extend_from_slice(b"a\n")?;
+        input.extend_from_slice(b"a addi a0, a0, 1\n")?;
     }
+    input.extend_from_slice(b"image\n")?;
     let mut source = MemSource::new(input.as_slice());
     let mut sink = CountedSink {
-        inner: MemSink::new(rt.alloc(), 10000)?,
+        inner: MemSink::new(rt.alloc(), 30000)?,
         calls: 0,
     };
     let done = run(rt.alloc(), &mut source, &mut sink, 0);
     assert_eq!(rt; done, Ok(()));
-    // `ok 1` to `ok 1000`: nine answers of five bytes, ninety of six, nine hundred of seven, and one of eight.
-    assert_eq!(rt; sink.inner.bytes().len(), 6893);
-    assert_eq!(rt; sink.calls, 2);
+    // `ok 1` to `ok 1000`: nine answers of five bytes, ninety of six, nine hundred of seven, and one of eight. The image has
+    // 250 rows of 58 bytes, and the rows of the sections: 22, 21, 19 and 18 bytes.
+    assert_eq!(rt; sink.inner.bytes().len(), 6893 + 250 * 58 + 80);
+    // The input is read in three pieces of at most 8 KiB, and the answers to each are written at once. The image takes four
+    // blocks of 4 KiB.
+    assert_eq!(rt; sink.calls, 7);
     Ok(())
 }

@@ -1,5 +1,5 @@
 -- Each name is read as what it names.
-use Rattle.std.proofs.Common.{MatchOption, option_map, is_some, ◌≡◌, ℕ, ◌<◌, List, [], ◌∷◌, Bool, true, false, cond, Option, Some, None, refl, sym, ap, ◌∙◌, subst, ltb, ltb-true, zero, suc, arith, below_more}
+use Rattle.std.proofs.Common.{MatchOption, option_map, is_some, ◌≡◌, ℕ, ◌<◌, List, [], ◌∷◌, Bool, true, false, cond, Option, Some, None, refl, sym, ap, ◌∙◌, subst, ltb, ltb-true, zero, suc, arith, below_more, map, Bor}
 use Rattle.std.specs.Prelude.{◌&&◌, ◌↔◌, nat_eq, IsSome}
 use Rattle.std.specs.Str.{str_eq_ignore_ascii_case, str_to_ascii_lowercase, bytes_eq}
 use Rattle.std.specs.Option.{IfSome}
@@ -8,7 +8,7 @@ use Rattle.std.proofs.lemmas.Slice.Eq.{bytes_eq-Decides}
 use Rattle.std.proofs.lemmas.List.Elements.{All-contains, Contains-append_left, Contains-append_right, Contains-push}
 use Rattle.std.proofs.lemmas.List.Sums.{AllPass-from_list_all}
 use Rattle.std.proofs.lemmas.Option.{IfSome_then}
-use Rattle.std.specs.List.{list_all, Contains}
+use Rattle.std.specs.List.{find, list_all, Contains}
 use Rattle.rv_ops.specs.declared.op.Op.{Op}
 use Rattle.rv_ops.specs.declared.op.Op.TheVariants.{Lui}
 use Rattle.rv_ops.specs.Csrs.{csr_names, csr_name, csr_named, IsNameOfCsr}
@@ -25,6 +25,24 @@ first_named-same [] m n e = refl
 first_named-same (x ∷ rows) m n e =
     ap (λ t. cond (bytes_eq (str_to_ascii_lowercase x.1) t) (Some x.0) (first_named rows m)) e
     ∙ ap (λ r. cond (bytes_eq (str_to_ascii_lowercase x.1) (str_to_ascii_lowercase n)) (Some x.0) r) (first_named-same rows m n e)
+
+mapped_twice : {R A : Type 0} (beside : R → A) (found : Option (Bor R)) → option_map (λ row. beside row.now) found ≡ option_map beside (option_map (λ row. row.now) found)
+mapped_twice beside None = refl
+mapped_twice beside (Some x) = refl
+
+-- what stands beside the name in the first row that has it
+first_named-find : {R A : Type 0} (beside : R → A) (name : R → List ℕ) (rows : List R) (text : List ℕ) → option_map beside (find (λ row. str_eq_ignore_ascii_case (name row) text) rows) ≡ first_named (map (λ row. (beside row, name row)) rows) text
+first_named-find beside name [] text = refl
+first_named-find beside name (x ∷ rows) text =
+    let rest = first_named (map (λ row. (beside row, name row)) rows) text in
+    cond_both (str_eq_ignore_ascii_case (name x) text) (Some x) (find (λ row. str_eq_ignore_ascii_case (name row) text) rows) (λ r. option_map beside r ≡ cond (str_eq_ignore_ascii_case (name x) text) (Some (beside x)) rest)
+    (λ e. sym (ap (λ t. cond t (Some (beside x)) rest) e))
+    (λ e. first_named-find beside name rows text ∙ sym (ap (λ t. cond t (Some (beside x)) rest) e))
+
+-- the same, of the row that `find` gave by reference
+pub first_named-found_row : {R A : Type 0} (beside : R → A) (name : R → List ℕ) (rows : List R) (text : List ℕ) (found : Option (Bor R)) (result : Option A) → option_map (λ row. row.now) found ≡ find (λ row. str_eq_ignore_ascii_case (name row) text) rows → result ≡ option_map (λ row. beside row.now) found → result ≡ first_named (map (λ row. (beside row, name row)) rows) text
+first_named-found_row beside name rows text found result e m =
+    m ∙ mapped_twice beside found ∙ ap (λ r. option_map beside r) e ∙ first_named-find beside name rows text
 
 -- the first row with an operation's mnemonic is its own
 pub operation_named-name : (o : Op) → operation_named (operation_name o) ≡ Some o

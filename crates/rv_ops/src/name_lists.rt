@@ -11,14 +11,10 @@ pub fn is_name(text: &str, name: &[u8]) -> bool
 }
 
 /// What stands beside the first of the texts that is the name, but for letter case.
-pub fn first_named<T: Copy>(mut rows: &[(T, &str)], name: &[u8]) -> Option<T>
+pub fn first_named<T: Copy>(rows: &[(T, &str)], name: &[u8]) -> Option<T>
     ensures { result ≡ first_named (map (λ row. (row.0, row.1.now)) rows.entry.now) name.now }
 {
-    while let [row, rest @ ..] = rows {
-        if is_name(row.1, name) {
-            return Some(row.0);
-        }
-        rows = rest;
-    }
-    None
+    rows.iter()
+        .find(|row| is_name(row.1, name))
+        .map(|row| row.0)
 }

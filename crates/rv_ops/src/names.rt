@@ -16,16 +16,12 @@ use crate::registers::REGISTERS;
 use crate::table::{TABLE, TableRow};
 
 /// The operation of the first row that has the mnemonic.
-fn first_operation(mut rows: &[TableRow], name: &[u8]) -> Option<Op>
-    ensures { result ≡ first_named (map (λ row. (row.0, row.1.now)) rows.entry.now) name.now }
+fn first_operation(rows: &[TableRow], name: &[u8]) -> Option<Op>
+    ensures { result ≡ first_named (map (λ row. (row.0, row.1.now)) rows.now) name.now }
 {
-    while let [row, rest @ ..] = rows {
-        if is_name(row.1, name) {
-            return Some(row.0);
-        }
-        rows = rest;
-    }
-    None
+    rows.iter()
+        .find(|row| is_name(row.1, name))
+        .map(|row| row.0)
 }
 
 /// The name in the first row that has the number.

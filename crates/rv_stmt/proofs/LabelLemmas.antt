@@ -27,7 +27,7 @@ label_at-drop ps k =
     let first : slice_get ps k ≡ slice_get (drop k ps) 0 = ap (slice_get ps) place ∙ slice_get-drop ps k 0 in
     ap (λ b. label_of_two_tokens (slice_get ps k) b) second ∙ ap (λ a. label_of_two_tokens a (slice_get (drop k ps) 1)) first
 
--- a label in front: the others follow it and its `:`
+-- a label at the start: the others follow it and its `:`
 record IsLabelled (ps : List SpelledToken) (label : Label) : Type 0 where
   labels : (labels_and_body ps).labels ≡ label ∷ (labels_and_body (drop 2 ps)).labels
   body : (labels_and_body ps).body ≡ (labels_and_body (drop 2 ps)).body

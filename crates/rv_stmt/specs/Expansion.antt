@@ -69,7 +69,7 @@ abbrev pub is_constant_load : Expansion → Bool
 is_constant_load ConstantLoad = true
 is_constant_load expansion = false
 
--- how many bytes an operation's word has
+-- how many bytes an operation's encoding has
 abbrev pub size_of_word : Op → ℕ
 size_of_word op = if is_full op then 4 else 2
 

@@ -11,7 +11,7 @@ use Rattle.rv_stmt.specs.declared.label.LabelName.{LabelName}
 use Rattle.rv_stmt.specs.declared.label.LabelName.TheVariants.{Symbol, Local}
 use Rattle.rv_stmt.specs.Tokens.{punctuation_at}
 
--- a word other than `.`, or the number of a local label
+-- an identifier other than `.`, or the number of a local label
 abbrev pub label_name : TokenKind → List ℕ → Option LabelName
 label_name kinds.Identifier text = if bytes_eq text (codes ".") then None else Some (Symbol text)
 label_name kinds.Number text = if is_local_number text then option_map Local (label_number text) else None
@@ -35,7 +35,7 @@ abbrev pub with_label : Option Label → List SpelledToken → Labelled → Labe
 with_label None ps rest = record { labels = []; body = ps }
 with_label (Some label) ps rest = record { labels = label ∷ rest.labels; body = rest.body }
 
--- the labels in front, each with its `:`, and what follows the last
+-- the labels at the start, each with its `:`, and what follows the last
 abbrev pub labels_and_body : List SpelledToken → Labelled
 labels_and_body [] = record { labels = []; body = [] }
 labels_and_body (p ∷ []) = record { labels = []; body = p ∷ [] }

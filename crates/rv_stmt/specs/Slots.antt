@@ -56,7 +56,7 @@ register_or_memory op r d None = memory_slot op r d
 abbrev pub memory_or_register_slot : Op → Run → Draft → Reading Draft
 memory_or_register_slot op r d = register_or_memory op r d (register_in r.tokens)
 
--- an address that `rd` reaches, in two words
+-- an address that `rd` reaches, by two instructions
 abbrev pub address_through_rd_slot : Run → Draft → Reading Draft
 address_through_rd_slot r d = with_waiting PairTarget r.span (with_rs1 d d.fields.rd) (plain r.tokens)
 

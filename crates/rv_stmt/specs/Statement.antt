@@ -56,7 +56,7 @@ unless_lexical None body = body
 abbrev pub body_of_name : Option Fault → SpelledToken → List SpelledToken → Body
 body_of_name fault p ps = unless_lexical fault (body_of_mnemonic p (runs_of p.span.to ps))
 
--- a body begins with a word
+-- a body begins with an identifier
 abbrev pub body_from : Option Fault → TokenKind → SpelledToken → List SpelledToken → Body
 body_from fault kinds.Identifier p ps = body_of_name fault p ps
 body_from fault kind p ps = unless_lexical fault (Faulty (record { number = NoStatement; span = p.span }))

@@ -21,15 +21,15 @@ is_punctuation_there punctuation (Some p) = is_punctuation punctuation p
 abbrev pub punctuation_at : List ℕ → List SpelledToken → ℕ → Bool
 punctuation_at punctuation run k = is_punctuation_there punctuation (slice_get run k)
 
--- the text of a word
+-- the text of an identifier
 abbrev pub identifier_of : TokenKind → List ℕ → Option (List ℕ)
 identifier_of Identifier text = Some text
 identifier_of kind text = None
 
--- the word at a place
+-- the identifier at a place
 abbrev pub identifier_at : List SpelledToken → ℕ → Option (List ℕ)
 identifier_at run k = option_and_then (λ p. identifier_of p.kind p.text) (slice_get run k)
 
--- the one word that the tokens are
+-- the one identifier that the tokens are
 abbrev pub one_identifier : List SpelledToken → Option (List ℕ)
 one_identifier run = if length run == 1 then identifier_at run 0 else None

@@ -37,7 +37,7 @@ pub enum Instructions {
 }
 
 impl Instructions {
-    /// How many bytes their words have: 2, 4, 6 or 8.
+    /// How many bytes their encodings have: 2, 4, 6 or 8.
     pub fn size(&self) -> u32
         ensures { result ≡ size_of_instructions self.now }
     {
@@ -48,7 +48,7 @@ impl Instructions {
     }
 }
 
-// How many bytes an operation's word has.
+// How many bytes an operation's encoding has.
 fn size_of_word(op: Op) -> u32
     ensures { result ≡ size_of_word op }
 {

@@ -12,9 +12,9 @@ pub enum Role {
     SourceImmediate,
     /// It is an address, whose displacement is the value of the instruction.
     Target,
-    /// It is an address that two words reach: `auipc` into `rs1`, then the instruction.
+    /// It is an address that two instructions reach: `auipc` into `rs1`, then the instruction.
     PairTarget,
-    /// It is a constant that the instruction loads, in one word or in two.
+    /// It is a constant that the instruction loads, by one instruction or by two.
     Constant,
 }
 

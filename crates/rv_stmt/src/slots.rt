@@ -11,7 +11,7 @@ pub enum Slot {
     Rs1,
     /// A register, into `rs2`.
     Rs2,
-    /// The register `sp`, which the word has no field for.
+    /// The register `sp`, which the encoding has no field for.
     StackPointer,
     /// An expression, or a modifier that the shape takes, into the value.
     Immediate,
@@ -25,11 +25,11 @@ pub enum Slot {
     StackMemory,
     /// `offset(register)`, or a register alone, with the offset 0.
     MemoryOrRegister,
-    /// `offset(register)`, or an address that is reached through `rd`, in two words.
+    /// `offset(register)`, or an address that is reached through `rd`, by two instructions.
     MemoryOrAddress,
-    /// An address that is reached through `rs1`, in two words.
+    /// An address that is reached through `rs1`, by two instructions.
     Address,
-    /// An address that is reached through `rd`, in two words.
+    /// An address that is reached through `rd`, by two instructions.
     AddressThroughRd,
     /// The name of a control and status register, or an expression for its number.
     Csr,
@@ -37,7 +37,7 @@ pub enum Slot {
     Predecessors,
     /// A fence's set of successors.
     Successors,
-    /// A constant of 32 bits, in one word or two.
+    /// A constant of 32 bits, by one instruction or two.
     Constant,
 }
 

@@ -100,7 +100,7 @@ impl<'a> TokenRange<'a> {
         }
     }
 
-    /// The word at a place, if one stands there.
+    /// The identifier at a place, if one stands there.
     pub fn identifier_at(&self, place: usize) -> Option<&'a [u8]>
         ensures { option_map (λ w. w.now) result ≡ identifier_at self.now place }
     {
@@ -111,7 +111,7 @@ impl<'a> TokenRange<'a> {
         }
     }
 
-    /// The one word that the tokens are, if they are one.
+    /// The one identifier that the tokens are, if they are one.
     pub fn one_identifier(&self) -> Option<&'a [u8]>
         ensures { option_map (λ w. w.now) result ≡ one_identifier self.now }
     {

@@ -65,7 +65,7 @@ impl Draft {
         }
     }
 
-    /// An address that two words reach through `rd`.
+    /// An address that two instructions reach through `rd`.
     pub fn address_through_rd_slot(self, alloc: Global, run: &Run<'_>) -> Attempt<Draft>
         ensures { IfOk result (λ r. r ≡ address_through_rd_slot run.now self) }
     {

@@ -61,7 +61,7 @@ fn push_word(alloc: Global, text: &mut String, machine: &MachineInstruction) -> 
     Ok(())
 }
 
-// The words in hexadecimal digits, with a blank between two.
+// The words in hexadecimal digits, with a space between two.
 fn words_of(alloc: Global, instructions: &Instructions) -> Result<String, Fail> {
     let mut text = String::new(alloc);
     match instructions {

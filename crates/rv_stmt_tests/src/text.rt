@@ -27,7 +27,7 @@ fn push_local(
     Ok(())
 }
 
-// The expression with its operators after their operands, each part after a blank.
+// The expression with its operators after their operands, each part after a space.
 fn push_expression(alloc: Global, text: &mut String, expr: &Expr) -> Result<(), Fail> {
     match &expr.node {
         Node::Number(number) => text.push_str(format!(in alloc; " {number}")?.as_str())?,

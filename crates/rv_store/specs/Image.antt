@@ -6,7 +6,7 @@ use Rattle.rv_text.specs.Rows.{hex}
 use Rattle.rv_store.specs.Text.{Text}
 use Rattle.rv_store.specs.LineBytes.{bytes_of_line}
 
--- a byte in a row: a blank and its digits
+-- a byte in a row: a space and its digits
 abbrev pub byte_text : ℕ → List ℕ
 byte_text byte = codes " " ++ hex 2 byte
 

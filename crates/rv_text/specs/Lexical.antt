@@ -14,12 +14,12 @@ use Rattle.rv_text.specs.Lexing.{begins_comment}
 use Rattle.rv_text.specs.Numbers.{number_of, is_local}
 use Rattle.rv_text.specs.Strings.{spelled, may_stand}
 
--- a byte with which a word may begin, and then bytes of a word
+-- a byte with which an identifier may begin, and then bytes of an identifier
 abbrev pub is_identifier : List ℕ → Bool
 is_identifier [] = false
 is_identifier (b ∷ bs) = is_identifier_start b && list_all is_identifier_byte bs
 
--- `<<`, `>>`, or a visible byte that is no quote and begins no word and no number
+-- `<<`, `>>`, or a visible byte that is no quote and begins no identifier and no number
 abbrev pub is_punctuation : List ℕ → Bool
 is_punctuation [] = false
 is_punctuation (b ∷ []) = is_punctuation_byte b && not (is_identifier_start b) && not (is_ascii_digit b)

@@ -17,7 +17,7 @@ pub(crate) fn is_identifier_start(b: u8) -> bool
     b.is_ascii_alphabetic() || b == b'_' || b == b'.' || b == b'$'
 }
 
-// What may stand in a word after its first byte.
+// What may stand in an identifier after its first byte.
 pub(crate) fn is_identifier_byte(b: u8) -> bool
     ensures { result ≡ is_identifier_byte b }
 {

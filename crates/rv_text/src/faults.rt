@@ -15,7 +15,7 @@ pub enum FaultNumber {
     BadNumber = 2,
     /// A wrong escape, a missing end, or a `'` that begins no character.
     BadString = 3,
-    /// The body of a statement begins with no word.
+    /// The body of a statement begins with no identifier.
     NoStatement = 4,
     /// No instruction and no directive has the name.
     UnknownName = 5,

@@ -28,7 +28,7 @@ fn begins_shift(bytes: &[u8]) -> bool
     matches!(bytes, [b'<', b'<', ..] | [b'>', b'>', ..])
 }
 
-// How long the prefix of bytes is that may stand in a word.
+// How long the prefix of bytes is that may stand in an identifier.
 #[tactic(auto, using(crate::proofs::Runs::run_steps))]
 fn identifier_len(bytes: &[u8]) -> usize
     ensures { result ≡ prefix_len is_identifier_byte bytes.now }

@@ -10,17 +10,17 @@ returns-in_err-answer_command-clause-err g c =
     let failed = err_from_is_err_and c.from_residual.result c.from_residual.ensures.1 in
     let rest = c.commands.rest.now in
     let at = c.in-Some.at in
-    let told = rw c.split_at.ensures.front at c.in_err-answer_command.ensures.text in
-    let loses = loses_one _ c.answer_command.new.store rest (take at rest) (drop 1 (drop at rest)) told.0 _ _ _ (cut_first rest at c.in-Some.ensures) (unbroken_before rest at c.in-Some.ensures) told.1 told.2 in
+    let answered = rw c.split_at.ensures.front at c.in_err-answer_command.ensures.text in
+    let loses = loses_one _ c.answer_command.new.store rest (take at rest) (drop 1 (drop at rest)) answered.0 _ _ _ (cut_first rest at c.in-Some.ensures) (unbroken_before rest at c.in-Some.ensures) answered.1 answered.2 in
     rw failed.1 (gathered_loses _ _ _ _ _ _ _ _ _ c.commands.invariant.gathered loses)
 
 pub commands-preserved : goal.commands-preserved
 commands-preserved g c =
     let rest = c.commands.rest.now in
     let at = c.in-Some.at in
-    let told = rw c.split_at.ensures.front at c.in_ok-answer_command.ensures.text in
+    let answered = rw c.split_at.ensures.front at c.in_ok-answer_command.ensures.text in
     let next : c.split_at-in-Some.result.1.now ≡ drop 1 (drop at rest) = rw (c.split_at-in-Some.ensures.back, c.split_at.ensures.back) refl in
-    let one = gathered_one _ c.answer_command.new.store rest (take at rest) (drop 1 (drop at rest)) told.0 _ _ _ _ (cut_first rest at c.in-Some.ensures) (unbroken_before rest at c.in-Some.ensures) told.1 told.2 in record {
+    let one = gathered_one _ c.answer_command.new.store rest (take at rest) (drop 1 (drop at rest)) answered.0 _ _ _ _ (cut_first rest at c.in-Some.ensures) (unbroken_before rest at c.in-Some.ensures) answered.1 answered.2 in record {
       gathered = rw next (gathered_then _ _ _ _ _ _ _ _ _ _ _ _ c.commands.invariant.gathered one);
       failures = grind (arith, common_steps);
     }

@@ -8,12 +8,12 @@ returns-then-is_empty-clause-text g c = takes_none _ _ _ (grind (arith, nat_test
 
 pub returns-in-Ok-clause-text : goal.returns-in-Ok-clause-text
 returns-in-Ok-clause-text g c =
-    let told = c.in-Ok.ensures.text in
+    let answered = c.in-Ok.ensures.text in
     let some : length c.args.piece.now ≡ 0 → ⊥ = grind (arith, nat_tests, c.if-is_empty.ensures) in
-    takes_all _ c.answer_alone.new.store _ told.0 _ _ some told.1 told.2
+    takes_all _ c.answer_alone.new.store _ answered.0 _ _ some answered.1 answered.2
 
 pub returns-in-Err-clause-text : goal.returns-in-Err-clause-text
 returns-in-Err-clause-text g c =
-    let told = c.in-Err.ensures.text in
+    let answered = c.in-Err.ensures.text in
     let some : length c.args.piece.now ≡ 0 → ⊥ = grind (arith, nat_tests, c.if-is_empty.ensures) in
-    (refl, takes_prefix _ c.answer_alone.new.store _ told.0 _ _ some told.1 told.2)
+    (refl, takes_prefix _ c.answer_alone.new.store _ answered.0 _ _ some answered.1 answered.2)
