@@ -1,15 +1,12 @@
 //! Rows of output text.
 
-ghost use Rattle.std.specs.Prelude.{◌≡◌, ◌+◌, ◌-◌, ◌^◌, ◌<◌, ◌≤◌, ◌++◌, ◌∷◌, [], length, decimal};
+ghost use Rattle.std.specs.Prelude.{◌≡◌, ◌+◌, ◌<◌, ◌≤◌, ◌++◌, ◌∷◌, [], length, decimal};
 ghost use Rattle.rv_text.specs.Rows.{hex, hex_digit};
-ghost use Rattle.rv_text.specs.Streams.{failures_after, Writes};
 
-use crate::streams::{Failed, Sink, write_all};
 use arrayvec::ArrayVec;
 use std::marker::Model;
 
-/// A row of output text, or a part of one: at most 64 bytes, put together without taking memory and then written by
-/// one call. Contracts see the bytes.
+/// A row of output text, or a part of one: at most 64 bytes, put together without taking memory. Contracts see the bytes.
 #[derive(Drop)]
 pub struct OutputRow {
     bytes: ArrayVec<u8, 64>,
@@ -101,14 +98,5 @@ impl OutputRow {
         ensures { result.now ≡ self.now }
     {
         self.bytes.as_slice()
-    }
-
-    /// Writes the row, up to the first failure of the writer.
-    pub fn write_to<W: Sink>(&self, sink: &mut W) -> Result<(), Failed>
-        requires { W.failures sink.old < 2 ^ 64 - 1 }
-        ensures text { Writes (W.taken sink.old) self.now result (W.taken sink.new) }
-        ensures count { W.failures sink.new ≡ failures_after (W.failures sink.old) result }
-    {
-        write_all(sink, self.bytes())
     }
 }
