@@ -17,12 +17,13 @@ fn kinds(alloc: Global, tokens: &Tokens<'_>) -> Result<String, Fail> {
             TokenKind::Punctuation => 'S',
         })?;
     }
-    match tokens.fault().map(|fault| fault.number) {
-        None => {}
-        Some(FaultNumber::BadByte) => text.push('!')?,
-        Some(FaultNumber::BadNumber) => text.push('#')?,
-        Some(FaultNumber::BadString) => text.push('?')?,
-        Some(_) => text.push('*')?,
+    if let Some(fault) = tokens.fault() {
+        text.push(match fault.number {
+            FaultNumber::BadByte => '!',
+            FaultNumber::BadNumber => '#',
+            FaultNumber::BadString => '?',
+            _ => '*',
+        })?;
     }
     Ok(text)
 }

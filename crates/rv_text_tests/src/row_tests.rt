@@ -30,9 +30,11 @@ fn gathers_blocks(rt: HostRuntime) -> Result<(), Fail> {
     ] {
         let mut sink = FailsAt::new(MemSink::new(rt.alloc(), 5000)?, m);
         let mut block = OutputBlock::new();
-        for k in 0..4 {
-            assert_eq!(rt; block.push(&mut sink, &text), Ok(()), "text {k} at {m}");
-        }
+        let first = block.push(&mut sink, &text).is_ok();
+        let second = block.push(&mut sink, &text).is_ok();
+        let third = block.push(&mut sink, &text).is_ok();
+        let fourth = block.push(&mut sink, &text).is_ok();
+        assert!(rt; first && second && third && fourth, "at {m}");
         assert_eq!(rt; sink.inner.bytes().len(), 0, "at {m}");
         assert_eq!(rt; block.push(&mut sink, &text).is_ok(), pushed, "at {m}");
         assert_eq!(rt; block.flush(&mut sink).is_ok(), written, "at {m}");
