@@ -17,6 +17,7 @@ use Rattle.rv_expr.specs.Tree.{Tree, Number, Symbol, Here, Binary}
 use Rattle.rv_stmt.specs.declared.label.LabelName.TheVariants as name
 use Rattle.rv_stmt.specs.declared.operand.Role.{Role}
 use Rattle.rv_stmt.specs.declared.operand.Role.TheVariants.{Immediate, SourceImmediate, Target, PairTarget, Constant}
+use Rattle.rv_stmt.specs.Directives.{directive_named, directive_names}
 use Rattle.rv_stmt.specs.Draft.{fields}
 use Rattle.rv_stmt.specs.declared.operand.Operand.{Operand}
 use Rattle.rv_stmt.specs.declared.operand.OperandValue.{OperandValue}
@@ -84,7 +85,7 @@ bodies_rows =
     ∷ []
 
 bodies : are_bodies bodies_rows
-unfolding operation_named operation_names other_forms
+unfolding operation_named operation_names other_forms directive_named directive_names
 bodies = refl
 
 -- an operation's own way

@@ -11,7 +11,7 @@ use Rattle.rv_stmt.specs.declared.expansion.Instructions.{Instructions}
 use Rattle.rv_stmt.specs.declared.expansion.Instructions.TheVariants.{One, Two}
 use Rattle.rv_stmt.specs.declared.expansion.MachineInstruction.{MachineInstruction}
 use Rattle.rv_stmt.specs.declared.statement.Body.{Body}
-use Rattle.rv_stmt.specs.declared.statement.Body.TheVariants.{Empty, Instr, Pseudo, Faulty}
+use Rattle.rv_stmt.specs.declared.statement.Body.TheVariants.{Instr, Pseudo}
 use Rattle.rv_stmt.specs.Draft.{fields}
 use Rattle.rv_stmt.specs.Expansion.{instructions_of, size_of_instructions}
 use Rattle.rv_stmt.specs.Forms.{other_forms, slots_of}
@@ -29,10 +29,9 @@ words_of (One i) = word_of_machine i ∷ []
 words_of (Two i j) = word_of_machine i ∷ word_of_machine j ∷ []
 
 abbrev instructions_of_body : Body → ℤ → Option Instructions
-instructions_of_body Empty v = None
 instructions_of_body (Instr i) v = Some (instructions_of i (with_value i.fields v))
 instructions_of_body (Pseudo i) v = Some (instructions_of i (with_value i.fields v))
-instructions_of_body (Faulty fault) v = None
+instructions_of_body body v = None
 
 -- what a line stands for, where its operand has the value
 abbrev instructions_of_line : List ℕ → ℤ → Option Instructions

@@ -1,3 +1,4 @@
+pub mod DataSizes
 pub mod LabelLemmas
 pub mod OperandCounts
 pub mod Ranges
@@ -5,5 +6,6 @@ pub mod RunLemmas
 pub mod Sizes
 pub mod StatementLemmas
 pub mod Wholes
+mod DirectiveExamples
 mod Examples
 mod ExpansionExamples

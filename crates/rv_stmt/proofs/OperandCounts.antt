@@ -3,7 +3,7 @@ use Rattle.std.proofs.Common.{◌≡◌, ◌≤◌, ℕ, suc, ◌+◌, Bool, tru
 use Rattle.std.specs.Prelude.{⊤}
 use Rattle.rv_text.specs.declared.faults.Fault.{Fault}
 use Rattle.rv_text.specs.declared.faults.FaultNumber.{FaultNumber}
-use Rattle.rv_text.specs.declared.faults.FaultNumber.TheVariants.{TooDeep}
+use Rattle.rv_text.specs.declared.faults.FaultNumber.TheVariants.{TooDeep, OperandCount, UnknownName}
 use Rattle.rv_text.specs.declared.lexeme.Span.{Span}
 use Rattle.rv_text.specs.declared.lexeme.TokenKind.{TokenKind}
 use Rattle.rv_text.specs.declared.lexeme.TokenKind.TheVariants as kinds
@@ -26,7 +26,16 @@ use Rattle.rv_stmt.specs.declared.runs.Run.{Run}
 use Rattle.rv_stmt.specs.declared.slots.Slot.{Slot}
 use Rattle.rv_stmt.specs.declared.slots.Slot.TheVariants as slot
 use Rattle.rv_stmt.specs.declared.statement.Body.{Body}
-use Rattle.rv_stmt.specs.declared.statement.Body.TheVariants.{Empty, Instr, Pseudo}
+use Rattle.rv_stmt.specs.declared.directives.DirectiveForm.{DirectiveForm}
+use Rattle.rv_stmt.specs.declared.directives.DirectiveKind.{DirectiveKind}
+use Rattle.rv_stmt.specs.declared.directives.DirectiveKind.TheVariants as kind
+use Rattle.rv_stmt.specs.declared.operand.Role.TheVariants as role
+use Rattle.rv_stmt.specs.declared.statement.Body.TheVariants.{Empty, Instr, Pseudo, Equ, Ignored, Faulty}
+use Rattle.rv_stmt.specs.DirectiveBodies as directives
+use Rattle.rv_stmt.specs.DirectiveBodies.{next_role, operand_in_role, with_operands, first_operand, section_in, symbol_in, definition_in, body_of_kind, body_or_fault, is_ignored}
+use Rattle.rv_stmt.specs.Directives.{directive_named}
+use Rattle.rv_stmt.specs.OperandCounts.{takes}
+use Rattle.rv_stmt.specs.Strings.{with_strings}
 use Rattle.rv_stmt.specs.declared.statement.Instruction.{Instruction}
 use Rattle.rv_stmt.specs.Draft.{with_rs1}
 use Rattle.rv_stmt.specs.Expansion.{expansion_of}
@@ -38,7 +47,7 @@ use Rattle.rv_stmt.specs.Readings.{Reading, and_then}
 use Rattle.rv_stmt.specs.Registers.{register, register_in, csr_in, set}
 use Rattle.rv_stmt.specs.Runs.{with_first, runs_from, runs_of}
 use Rattle.rv_stmt.specs.Slots.{with_waiting, with_offset, memory_slot, register_or_memory, address_through_rd_slot, csr_or_expression, slot_of, operand_of_slot, slots_read}
-use Rattle.rv_stmt.specs.Statement.{body_of_expansion, body_of_draft, body_of_form, unless_lexical, body_from, body_of, statement_of, operands_of}
+use Rattle.rv_stmt.specs.Statement.{body_of_expansion, body_of_draft, body_of_form, body_of_mnemonic, body_of_directive, is_directive_name, unless_lexical, body_from, body_of, statement_of, operands_of}
 use Rattle.rv_stmt.specs.Tokens.{is_punctuation, punctuation_at}
 use Rattle.rv_stmt.specs.Values.{is_deep, plain, immediate}
 
@@ -151,6 +160,69 @@ form_operands name runs (Ok form) =
     let d : Draft = record { fields = form.fields; operands = [] } in
     draft_operands form name (length runs) d (slots_read form.op form.slots runs d) (slots_add form.op form.slots runs d) refl
 
+-- so for directives
+
+abbrev pub AddsTo : ℕ → List Operand → Result (List Operand) Fault → Type 0
+AddsTo n os (Ok xs) = length xs ≤ length os + n
+AddsTo n os (Err fault) = ⊤
+
+operand_adds_to : (n : ℕ) (os : List Operand) (x : Result Operand Fault) (f : Operand → Result (List Operand) Fault) → ((o : Operand) → AddsTo n (os ++ (o ∷ [])) (f o)) → AddsTo (suc n) os (and_then x f)
+operand_adds_to n os (Err fault) f h = tt
+operand_adds_to n os (Ok o) f h = longer n os o (f o) (h o)
+  where
+    longer : (n : ℕ) (os : List Operand) (o : Operand) (x : Result (List Operand) Fault) → AddsTo n (os ++ (o ∷ [])) x → AddsTo (suc n) os x
+    longer n os o (Err fault) h = tt
+    longer n os o (Ok xs) h = let one = length-append os (o ∷ []) in omega (arith, h, one)
+
+pub operands_add : (role : Role) (rs : List Run) (os : List Operand) → AddsTo (length rs) os (with_operands role rs os)
+operands_add role [] os = omega arith
+operands_add role (r ∷ rs) os =
+    operand_adds_to (length rs) os (operand_in_role role r) _ (λ o. operands_add (next_role role) rs (os ++ (o ∷ [])))
+
+-- a body, where there is one, has at most so many operands
+abbrev Has : ℕ → Result Body Fault → Type 0
+Has n (Ok body) = length (operands_of body) ≤ n
+Has n (Err fault) = ⊤
+
+has_those : (n : ℕ) (x : Result (List Operand) Fault) (f : List Operand → Body) → AddsTo n [] x → ((os : List Operand) → operands_of (f os) ≡ os) → Has n (and_then x (λ os. Ok (f os)))
+has_those n (Err fault) f h same = tt
+has_those n (Ok os) f h same = let e = ap length (same os) in omega (arith, h, e)
+
+has_none : {A : Type 0} (n : ℕ) (x : Result A Fault) (f : A → Body) → ((y : A) → operands_of (f y) ≡ []) → Has n (and_then x (λ y. Ok (f y)))
+has_none n (Err fault) f none = tt
+has_none n (Ok y) f none = let e = ap length (none y) in omega (arith, e)
+
+has_definition : (name : Span) (rs : List Run) → Has (length rs) (and_then (definition_in name rs) (λ d. Ok (Equ d)))
+has_definition name [] = tt
+has_definition name (r ∷ rs) =
+    defined (symbol_in r) r.span (length rs) (with_operands role.Definition rs []) (operands_add role.Definition rs [])
+  where
+    defined : (symbol : Result (List ℕ) Fault) (span : Span) (n : ℕ) (x : Result (List Operand) Fault) → AddsTo n [] x → Has (suc n) (and_then (and_then symbol (λ symbol. and_then x (λ os. Ok (record { symbol = symbol; span = span; operands = os })))) (λ d. Ok (Equ d)))
+    defined (Err fault) span n x h = tt
+    defined (Ok symbol) span n (Err fault) h = tt
+    defined (Ok symbol) span n (Ok os) h = omega (arith, h)
+
+kind_operands : (k : DirectiveKind) (name : Span) (rs : List Run) → Has (length rs) (body_of_kind k name rs)
+kind_operands (kind.Data w) name rs = has_those (length rs) (with_operands (role.Data w) rs []) _ (operands_add (role.Data w) rs []) (λ os. refl)
+kind_operands kind.Strings name rs = has_none (length rs) (with_strings [] rs []) _ (λ bs. refl)
+kind_operands kind.TerminatedStrings name rs = has_none (length rs) (with_strings (0 ∷ []) rs []) _ (λ bs. refl)
+kind_operands kind.Fill name rs = has_those (length rs) (with_operands role.Size rs []) _ (operands_add role.Size rs []) (λ os. refl)
+kind_operands (kind.Alignment u) name rs = has_those (length rs) (with_operands (role.Alignment u) rs []) _ (operands_add (role.Alignment u) rs []) (λ os. refl)
+kind_operands (kind.Switch s) name rs = omega arith
+kind_operands kind.Section name rs = has_none (length rs) (and_then (first_operand name rs) section_in) _ (λ s. refl)
+kind_operands kind.Definition name rs = has_definition name rs
+kind_operands kind.Ignored name rs = omega arith
+
+directive_operands : (d : DirectiveForm) (name : Span) (rs : List Run) → length (operands_of (directives.body_of_form d name rs)) ≤ length rs
+directive_operands d name rs =
+    elim (takes d.count (length rs))
+    as (λ b. length (operands_of (cond b (body_or_fault (body_of_kind d.kind name rs)) (Faulty (record { number = OperandCount; span = name })))) ≤ length rs)
+    [ true ↦ read (length rs) (body_of_kind d.kind name rs) (kind_operands d.kind name rs) | false ↦ omega arith ]
+  where
+    read : (n : ℕ) (x : Result Body Fault) → Has n x → length (operands_of (body_or_fault x)) ≤ n
+    read n (Ok body) h = h
+    read n (Err fault) h = omega arith
+
 -- there are no more runs than tokens after the name, and one
 
 first_length : (p : SpelledToken) (rs : List Run) → length (with_first p rs) ≡ length rs
@@ -168,7 +240,7 @@ few_from end depth (p ∷ ps) =
     as (λ ends. length (cond ends (Rattle.rv_stmt.specs.Runs.no_tokens end ∷ runs_from p.span.to 0 ps) (with_first p rest)) ≤ length (p ∷ ps) + 1)
     [ true ↦ omega (arith, cut) | false ↦ omega (arith, joined, same) ]
 
-few_runs : (end : ℕ) (ps : List SpelledToken) → length (runs_of end ps) ≤ length ps + 1
+pub few_runs : (end : ℕ) (ps : List SpelledToken) → length (runs_of end ps) ≤ length ps + 1
 few_runs end [] = omega arith
 few_runs end (p ∷ ps) = few_from end 0 (p ∷ ps)
 
@@ -178,12 +250,29 @@ unless_operands : (fault : Option Fault) (body : Body) (n : ℕ) → length (ope
 unless_operands None body n h = h
 unless_operands (Some fault) body n h = omega arith
 
-from_operands : (fault : Option Fault) (kind : TokenKind) (p : SpelledToken) (ps : List SpelledToken) → length (operands_of (body_from fault kind p ps)) ≤ length ps + 1
-from_operands fault kinds.Identifier p ps =
+directive_name_operands : (fault : Option Fault) (p : SpelledToken) (ps : List SpelledToken) (d : Option DirectiveForm) → length (operands_of (body_of_directive fault p ps d)) ≤ length ps + 1
+directive_name_operands fault p ps None =
+    unless_operands fault (Faulty (record { number = UnknownName; span = p.span })) (length ps + 1) (omega arith)
+directive_name_operands fault p ps (Some d) =
+    let runs = runs_of p.span.to ps in
+    let h = directive_operands d p.span runs in
+    let few = few_runs p.span.to ps in
+    elim (is_ignored d.kind)
+    as (λ b. length (operands_of (cond b Ignored (unless_lexical fault (directives.body_of_form d p.span runs)))) ≤ length ps + 1)
+    [ true ↦ omega arith | false ↦ unless_operands fault (directives.body_of_form d p.span runs) (length ps + 1) (omega (arith, h, few)) ]
+
+mnemonic_operands : (fault : Option Fault) (p : SpelledToken) (ps : List SpelledToken) → length (operands_of (unless_lexical fault (body_of_mnemonic p (runs_of p.span.to ps)))) ≤ length ps + 1
+mnemonic_operands fault p ps =
     let runs = runs_of p.span.to ps in
     let h = form_operands p.span runs (form_of p.text (length runs)) in
     let few = few_runs p.span.to ps in
     unless_operands fault (body_of_form p.span runs (form_of p.text (length runs))) (length ps + 1) (omega (arith, h, few))
+
+from_operands : (fault : Option Fault) (kind : TokenKind) (p : SpelledToken) (ps : List SpelledToken) → length (operands_of (body_from fault kind p ps)) ≤ length ps + 1
+from_operands fault kinds.Identifier p ps =
+    elim (is_directive_name p.text)
+    as (λ b. length (operands_of (cond b (body_of_directive fault p ps (directive_named p.text)) (unless_lexical fault (body_of_mnemonic p (runs_of p.span.to ps))))) ≤ length ps + 1)
+    [ true ↦ directive_name_operands fault p ps (directive_named p.text) | false ↦ mnemonic_operands fault p ps ]
 from_operands fault kinds.Number p ps = unless_operands fault _ (length ps + 1) (omega arith)
 from_operands fault kinds.Local p ps = unless_operands fault _ (length ps + 1) (omega arith)
 from_operands fault kinds.Str p ps = unless_operands fault _ (length ps + 1) (omega arith)
@@ -198,7 +287,7 @@ with_label_few : (label : Option Label) (ps qs : List SpelledToken) → length (
 with_label_few None ps qs h = omega arith
 with_label_few (Some label) ps qs h = h
 
-few_in_body : (ps : List SpelledToken) → length (labels_and_body ps).body ≤ length ps
+pub few_in_body : (ps : List SpelledToken) → length (labels_and_body ps).body ≤ length ps
 few_in_body [] = omega arith
 few_in_body (p ∷ []) = omega arith
 few_in_body (p ∷ q ∷ ps) =

@@ -1,5 +1,5 @@
 -- How many bytes the instructions of a line have.
-use Rattle.std.proofs.Common.{◌≡◌, true, false, refl}
+use Rattle.std.proofs.Common.{◌≡◌, false, refl}
 use Rattle.std.proofs.lemmas.Bool.{true≢false}
 use Rattle.rv_code.specs.declared.instruction.Fields.{Fields}
 use Rattle.rv_ops.specs.declared.op.Op.{Op}

@@ -1,6 +1,6 @@
 -- The ways in which the instructions of a mnemonic are written. (docs/LANGUAGE.md, Instructions)
 use denote.Enum.Declared.{tag_of}
-use Rattle.std.specs.Prelude.{ℕ, ℤ, pos, Bool, true, false, ◌==◌, ◌&&◌, nat_lt, nat_le, List, [], ◌∷◌, ◌++◌, map, length, Option, Some, None, Result, Ok, Err, slice_index_or, if◌then◌else◌}
+use Rattle.std.specs.Prelude.{ℕ, ℤ, pos, Bool, true, false, ◌&&◌, nat_lt, List, [], ◌∷◌, ◌++◌, map, length, Option, Some, None, Result, Ok, Err, slice_index_or, if◌then◌else◌}
 use Rattle.std.specs.Str.{str_eq_ignore_ascii_case}
 use Rattle.rv_text.specs.declared.faults.FaultNumber.{FaultNumber}
 use Rattle.rv_text.specs.declared.faults.FaultNumber.TheVariants as faults
@@ -10,12 +10,13 @@ use Rattle.rv_ops.specs.declared.op.Op.{Op}
 use Rattle.rv_ops.specs.declared.op.Shape.{Shape}
 use Rattle.rv_ops.specs.declared.op.Shape.TheVariants.{Upper}
 use Rattle.rv_ops.specs.contracts.op.Shape.{the_type as shape_type}
-use Rattle.rv_stmt.specs.declared.form.OperandCount.{OperandCount}
-use Rattle.rv_stmt.specs.declared.form.OperandCount.TheVariants.{Exactly, AtLeast}
+use Rattle.rv_stmt.specs.declared.operand_count.OperandCount.{OperandCount}
+use Rattle.rv_stmt.specs.declared.operand_count.OperandCount.TheVariants.{Exactly}
 use Rattle.rv_stmt.specs.declared.forms.TheConstants.{FORMS}
 use Rattle.rv_stmt.specs.declared.slots.Slot.{Slot}
 use Rattle.rv_stmt.specs.declared.slots.TheConstants.{OPERANDS}
 use Rattle.rv_stmt.specs.Draft.{fields}
+use Rattle.rv_stmt.specs.OperandCounts.{takes}
 
 -- the operands of a shape, in the order in which they are written: the table is in the order of the shapes
 unfoldable pub slots_of : Shape → List Slot
@@ -61,11 +62,6 @@ forms_named (row ∷ rows) name =
 -- all the ways of a mnemonic
 abbrev pub forms_of : List ℕ → List Form
 forms_of name = own_forms (operation_named name) ++ forms_named other_forms name
-
--- so many operands are enough and not too many
-abbrev pub takes : OperandCount → ℕ → Bool
-takes (Exactly n) count = count == n
-takes (AtLeast n) count = nat_le n count
 
 -- how many operands a way takes: one for each slot
 abbrev pub operand_count : Form → OperandCount

@@ -63,7 +63,7 @@ pub fn expansion_of(mut operands: &[Operand]) -> Expansion
         match operand.role {
             Role::PairTarget => return Expansion::AddressPair,
             Role::Constant => return Expansion::ConstantLoad,
-            Role::Immediate | Role::SourceImmediate | Role::Target => operands = rest,
+            _ => operands = rest,
         }
     }
     Expansion::Itself

@@ -2,9 +2,10 @@
 
 ghost use Rattle.std.specs.Prelude.{◌≡◌, map, IsTrue, IfSome, IsSome};
 ghost use Rattle.std.specs.List.{list_all};
-ghost use Rattle.rv_stmt.specs.Forms.{slots_of, own_form, forms_named, named_form, has_registers, other_forms, takes, operand_count, first_of_count, form_of};
+ghost use Rattle.rv_stmt.specs.Forms.{slots_of, own_form, forms_named, named_form, has_registers, other_forms, operand_count, first_of_count, form_of};
 
 use crate::forms::{FORMS, FormRow};
+use crate::operand_count::OperandCount;
 use crate::reading::Reading;
 use crate::slots::{OPERANDS, Slot};
 use rv_code::Fields;
@@ -28,27 +29,6 @@ impl Model for Form {
     ghost Value = { FormValue };
 
     ghost view = { λ f. record { own = f.own; op = f.op; fields = f.fields; slots = f.slots.now } };
-}
-
-/// How many operands may stand after a name.
-#[derive(Clone, Copy, Debug, PartialEq, Eq)]
-pub enum OperandCount {
-    /// So many.
-    Exactly(usize),
-    /// So many or more.
-    AtLeast(usize),
-}
-
-impl OperandCount {
-    /// Whether so many operands may stand there.
-    pub fn takes(self, count: usize) -> bool
-        ensures { result ≡ takes self count }
-    {
-        match self {
-            OperandCount::Exactly(number) => count == number,
-            OperandCount::AtLeast(least) => count >= least,
-        }
-    }
 }
 
 impl Form {

@@ -1,11 +1,13 @@
 //! What holds of the definitions.
 
-ghost use Rattle.std.specs.Prelude.{◌≡◌, ◌≤◌, ℕ, ℤ, List, ◌+ℤ◌, ◌*ℤ◌, ◌≤ℤ◌, pos, negsuc, false, length};
+ghost use Rattle.std.specs.Prelude.{◌≡◌, ◌≤◌, ◌*◌, ℕ, ℤ, List, ◌+ℤ◌, ◌*ℤ◌, ◌≤ℤ◌, pos, negsuc, false, length};
 ghost use Rattle.rv_code.specs.declared.instruction.Fields.{Fields};
 ghost use Rattle.rv_stmt.specs.declared.statement.Instruction.{Instruction};
 ghost use Rattle.rv_stmt.specs.Expansion.{expansion_of, instructions_of, size_of_instructions, is_constant_load};
-ghost use Rattle.rv_stmt.specs.Statement.{statement_of, operands_of};
+ghost use Rattle.rv_stmt.specs.Statement.{statement_of, operands_of, data_size_of};
 ghost use Rattle.rv_stmt.specs.ValueParts.{word_bits, high_part, low_part};
+
+use rv_text::tokens_fit;
 
 /// The two parts of a value are the value modulo 2^32, and the lower one is an immediate: `lui` and `addi` load the value,
 /// and `auipc` and an instruction reach an address that is so far away.
@@ -28,3 +30,10 @@ pub fn values_keep_sizes()
 pub fn operands_are_few()
     ensures { (line : List ℕ) → length (operands_of (statement_of line).body) ≤ length line }
 {}
+
+/// The data of a line are at most four bytes for each of its own bytes: 4,000 in a line of 1,000.
+pub fn data_are_few()
+    ensures { (line : List ℕ) → data_size_of (statement_of line).body ≤ 4 * length line }
+{
+    tokens_fit();
+}

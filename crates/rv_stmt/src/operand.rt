@@ -1,7 +1,40 @@
 //! The operands whose values expressions give.
 
+ghost use Rattle.std.specs.Prelude.{◌≡◌};
+ghost use Rattle.rv_stmt.specs.Data.{width_bytes};
+
 use rv_expr::{Expr, LabelReference};
 use rv_text::Span;
+
+/// How many bytes a value takes among data.
+#[derive(Clone, Copy, Debug, PartialEq, Eq)]
+pub enum DataWidth {
+    Byte,
+    Half,
+    Word,
+}
+
+impl DataWidth {
+    /// The number of bytes: 1, 2 or 4.
+    pub fn bytes(self) -> u32
+        ensures { result ≡ width_bytes self }
+    {
+        match self {
+            DataWidth::Byte => 1,
+            DataWidth::Half => 2,
+            DataWidth::Word => 4,
+        }
+    }
+}
+
+/// What the operand of an alignment is.
+#[derive(Clone, Copy, Debug, PartialEq, Eq)]
+pub enum AlignmentUnit {
+    /// The number of bytes, a power of two.
+    Bytes,
+    /// The exponent of that power.
+    Exponent,
+}
 
 /// What the value of an operand is for.
 #[derive(Clone, Copy, Debug, PartialEq, Eq)]
@@ -16,6 +49,16 @@ pub enum Role {
     PairTarget,
     /// It is a constant that the instruction loads, by one instruction or by two.
     Constant,
+    /// It is a value among data.
+    Data(DataWidth),
+    /// It is a constant: how many bytes are filled.
+    Size,
+    /// It is the byte that they are filled with.
+    FillByte,
+    /// It is a constant, to a multiple of which the place is rounded up.
+    Alignment(AlignmentUnit),
+    /// It is the value of a symbol.
+    Definition,
 }
 
 /// What gives the value of an operand: an expression, or a modifier, which takes a part of a value.

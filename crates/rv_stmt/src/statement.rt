@@ -1,8 +1,13 @@
 //! Statements: the labels of a line and its body.
 
 ghost use Rattle.std.specs.Prelude.{◌≡◌, ◌<◌, ◌^◌, Ok, length, IfOk};
-ghost use Rattle.rv_stmt.specs.Statement.{body_of_draft, body_of_form, body_of_mnemonic, unless_lexical, body_of_name, body_of, statement_of_lexed, operands_of};
+ghost use Rattle.rv_stmt.specs.DirectiveBodies.{is_ignored};
+ghost use Rattle.rv_stmt.specs.Directives.{directive_named};
+ghost use Rattle.rv_stmt.specs.Statement.{body_of_draft, body_of_form, body_of_mnemonic, unless_lexical, body_of_directive, is_directive_name, body_of_name, body_of, statement_of_lexed, operands_of, name_of};
 
+use crate::directive::{Data, DataContent, Definition, Directive};
+use crate::directive_bodies;
+use crate::directives::{DirectiveKind, directive_named};
 use crate::draft::Draft;
 use crate::expansion::{Expansion, expansion_of};
 use crate::form::{Form, form_of};
@@ -10,6 +15,7 @@ use crate::label::Label;
 use crate::labels::labels;
 use crate::operand::Operand;
 use crate::runs::{Run, runs};
+use crate::section::Sect;
 use crate::token_range::{Lexeme, TokenRange};
 use rv_code::Fields;
 use rv_ops::Op;
@@ -28,7 +34,7 @@ pub struct Instruction {
     pub operands: Sequence<Operand>,
 }
 
-/// What follows the labels of a line. Directives are not read yet: their names are unknown.
+/// What follows the labels of a line.
 #[derive(Drop)]
 pub enum Body {
     /// Nothing.
@@ -38,6 +44,18 @@ pub enum Body {
     /// One or two instructions, by another mnemonic, with operands left out, in a further way, or with an address that
     /// takes two.
     Pseudo(Instruction),
+    /// Data.
+    Emit(Data),
+    /// Equal bytes: the operands are their number and, where it is not 0, the byte.
+    Fill(Directive),
+    /// The place rounded up: the operand says to a multiple of what.
+    Align(Directive),
+    /// The section that the lines after this one are put into.
+    Switch(Sect),
+    /// A symbol defined by an expression.
+    Equ(Definition),
+    /// A directive without effect.
+    Ignored,
     /// What is wrong with the line.
     Faulty(Fault),
 }
@@ -56,8 +74,23 @@ impl Body {
         ensures { result.now ≡ operands_of self.now }
     {
         match self {
-            Body::Empty | Body::Faulty(_) => &[],
             Body::Instr(instruction) | Body::Pseudo(instruction) => instruction.operands.as_slice(),
+            Body::Emit(data) => data.operands(),
+            Body::Fill(directive) | Body::Align(directive) => directive.operands.as_slice(),
+            Body::Equ(definition) => definition.operands.as_slice(),
+            Body::Empty | Body::Switch(_) | Body::Ignored | Body::Faulty(_) => &[],
+        }
+    }
+
+    /// Where the name stands of what gives bytes.
+    pub fn name(&self) -> Option<Span>
+        ensures { result ≡ name_of self.now }
+    {
+        match self {
+            Body::Instr(instruction) | Body::Pseudo(instruction) => Some(instruction.name),
+            Body::Emit(data) => Some(data.name),
+            Body::Fill(directive) | Body::Align(directive) => Some(directive.name),
+            Body::Empty | Body::Switch(_) | Body::Equ(_) | Body::Ignored | Body::Faulty(_) => None,
         }
     }
 }
@@ -109,23 +142,6 @@ fn body_of_mnemonic(alloc: Global, name: &Lexeme<'_>, runs: &[Run<'_>]) -> Resul
     }
 }
 
-// The body of a name and the tokens after it, which a lexical fault may end: the name decides whether that fault counts,
-// and it does after the mnemonics of instructions and after unknown names.
-fn body_of_name(
-    alloc: Global,
-    lexical: Option<Fault>,
-    name: &Lexeme<'_>,
-    after: &TokenRange<'_>,
-) -> Result<Body, AllocError>
-    ensures { IfOk result (λ b. b ≡ body_of_name lexical name.now after.now) }
-{
-    if let Some(fault) = lexical {
-        return Ok(Body::Faulty(fault));
-    }
-    let runs = runs(alloc, after, name.span.to)?;
-    body_of_mnemonic(alloc, name, runs.as_slice())
-}
-
 // The lexical fault, if there is one, or else the body.
 fn unless_lexical(lexical: Option<Fault>, body: Body) -> Body
     ensures { result ≡ unless_lexical lexical body }
@@ -134,6 +150,62 @@ fn unless_lexical(lexical: Option<Fault>, body: Body) -> Body
         Some(fault) => Body::Faulty(fault),
         None => body,
     }
+}
+
+// Whether a name is that of a directive.
+fn is_directive_name(name: &[u8]) -> bool
+    ensures { result ≡ is_directive_name name.now }
+{
+    match name.first() {
+        Some(byte) => *byte == b'.',
+        None => false,
+    }
+}
+
+// The body of a directive's name and the tokens after it, which a lexical fault may end. The rest of an ignored directive
+// is not read, so the fault does not count there.
+fn body_of_directive(
+    alloc: Global,
+    lexical: Option<Fault>,
+    name: &Lexeme<'_>,
+    after: &TokenRange<'_>,
+) -> Result<Body, AllocError>
+    ensures { IfOk result (λ b. b ≡ body_of_directive lexical name.now after.now (directive_named name.now.text)) }
+{
+    let Some(form) = directive_named(name.text) else {
+        let fault = Fault {
+            number: FaultNumber::UnknownName,
+            span: name.span,
+        };
+        return Ok(unless_lexical(lexical, Body::Faulty(fault)));
+    };
+    if form.kind == DirectiveKind::Ignored {
+        return Ok(Body::Ignored);
+    }
+    if let Some(fault) = lexical {
+        return Ok(Body::Faulty(fault));
+    }
+    let runs = runs(alloc, after, name.span.to)?;
+    directive_bodies::body_of_form(alloc, form, name.span, runs.as_slice())
+}
+
+// The body of a name and the tokens after it, which a lexical fault may end.
+fn body_of_name(
+    alloc: Global,
+    lexical: Option<Fault>,
+    name: &Lexeme<'_>,
+    after: &TokenRange<'_>,
+) -> Result<Body, AllocError>
+    ensures { IfOk result (λ b. b ≡ body_of_name lexical name.now after.now) }
+{
+    if is_directive_name(name.text) {
+        return body_of_directive(alloc, lexical, name, after);
+    }
+    if let Some(fault) = lexical {
+        return Ok(Body::Faulty(fault));
+    }
+    let runs = runs(alloc, after, name.span.to)?;
+    body_of_mnemonic(alloc, name, runs.as_slice())
 }
 
 // The body that some tokens are, which a lexical fault may end.

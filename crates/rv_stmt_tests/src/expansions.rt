@@ -102,7 +102,7 @@ fn words_of_row(alloc: Global, row: &str) -> Result<String, Fail> {
             let size = instructions.size();
             Ok(format!(in alloc; "{words}, {size} bytes")?)
         }
-        Body::Empty | Body::Faulty(_) => Err(Fail::new("a line without an instruction")),
+        _ => Err(Fail::new("a line without an instruction")),
     }
 }
 

@@ -256,3 +256,99 @@ fn depth_of_parentheses(rt: HostRuntime) -> Result<(), Fail> {
 fn refusal_has_a_number(rt: HostRuntime) {
     assert_eq!(rt; StmtError::Memory.number(), 1);
 }
+
+// Data and strings.
+const DATA: &str =
+    r#".byte 1, -1, 'A' => data 0-5 [Data(Byte) 6-7 1] [Data(Byte) 9-11 1 Neg] [Data(Byte) 13-16 65]
+x: .2BYTE x, 1b => x@0-1 data 3-9 [Data(Half) 10-11 x] [Data(Half) 13-15 1b]
+.half (1, 2), 3 => fault 9 6-12
+.short 0x1234 => data 0-6 [Data(Half) 7-13 4660]
+.word . - x => data 0-5 [Data(Word) 6-11 . x Sub]
+.long a0 => data 0-5 [Data(Word) 6-8 a0]
+.4byte 1 => data 0-6 [Data(Word) 7-8 1]
+.word %hi(x) => fault 9 6-12
+.half 1, => fault 9 8-8
+.word => fault 6 0-5
+.byte "a" => fault 9 6-9
+.asciz "hi\n" => bytes 0-6 104 105 10 0
+.ascii "", "'\"", "\1234\t" => bytes 0-6 39 34 83 52 9
+.string "a", "" => bytes 0-7 97 0 0
+.string "a" "b" => fault 9 8-15
+.ascii 1 => fault 9 7-8
+.ascii 'a' => fault 9 7-10
+.ascii => fault 6 0-6
+.ascii "a => fault 3 7-9
+.ascii "a\400" => fault 3 7-14"#;
+
+#[test]
+fn data(rt: HostRuntime) -> Result<(), Fail> {
+    lines_are(&rt, rt.alloc(), DATA)
+}
+
+// Fills, alignments and definitions.
+const FILLS_AND_DEFINITIONS: &str = r".space 4, 300 => fill 0-6 [Size 7-8 4] [FillByte 10-13 300]
+.skip N => fill 0-5 [Size 6-7 N]
+.zero 8 => fill 0-5 [Size 6-7 8]
+.zero 8, 1 => fault 6 0-5
+.space => fault 6 0-6
+.space 1, 2, 3 => fault 6 0-6
+.space +, ( => fault 9 7-8
+.align 2 => align 0-6 [Alignment(Exponent) 7-8 2]
+.p2align n => align 0-8 [Alignment(Exponent) 9-10 n]
+.balign 4 => align 0-7 [Alignment(Bytes) 8-9 4]
+.align 2, 0 => fault 6 0-6
+.equ N, 5000 => equ N@5-6 [Definition 8-12 5000]
+.SET addi, b - a => equ addi@5-9 [Definition 11-16 b a Sub]
+.equ ., 1 => fault 9 5-6
+.equ 1, 1 => fault 9 5-6
+.equ x y, 1 => fault 9 5-8
+.equ N, 1 + => fault 9 8-11
+.equ N, %lo(x) => fault 9 8-14
+.equ N => fault 6 0-4
+.equ N, 1, 2 => fault 6 0-4";
+
+#[test]
+fn fills_and_definitions(rt: HostRuntime) -> Result<(), Fail> {
+    lines_are(&rt, rt.alloc(), FILLS_AND_DEFINITIONS)
+}
+
+// Sections, ignored directives and unknown names.
+const SECTIONS_AND_OTHERS: &str = r#".text => switch Text
+.rodata => switch Rodata
+.Data => switch Rwdata
+.bss => switch Bss
+.text 1 => fault 6 0-5
+.section .textual => switch Text
+.section .sdata2,"aw" => switch Rwdata
+.section .srodata => switch Rodata
+.section .rodata.str1.4, "aMS", @progbits, 1 => switch Rodata
+.section .sbss2 => switch Bss
+.section .note => fault 9 9-14
+.section .TEXT => fault 9 9-14
+.section .text.hot-x => fault 9 9-20
+.section ,.text => fault 9 8-8
+.section => fault 6 0-8
+.section .data, 1 + => switch Rwdata
+.section .data, 08 => fault 2 16-18
+.text.init => fault 5 0-10
+.sdata => fault 5 0-6
+.file "a.c" => ignored
+.cfi_startproc => ignored
+.Cfi_def_cfa_offset 16 => ignored
+.loc 1 2 3 => ignored
+.type get, @function => ignored
+.size get, .-get => ignored
+.ident 'a => ignored
+.file"abc => ignored
+x: .globl 08, ( => x@0-1 ignored
+'a .file => fault 3 0-8
+.file : 'a => .file@0-5 fault 3 8-10
+.frob => fault 5 0-5
+.frob 'a => fault 3 6-8
+.cfi => fault 5 0-4
+.comm b,4,4 => fault 5 0-5"#;
+
+#[test]
+fn sections_and_others(rt: HostRuntime) -> Result<(), Fail> {
+    lines_are(&rt, rt.alloc(), SECTIONS_AND_OTHERS)
+}

@@ -2,7 +2,10 @@
 
 use rv_expr::{Direction, Expr, LabelReference, Name, Node};
 use rv_ops::name_of;
-use rv_stmt::{Body, Instruction, Label, LabelName, Operand, OperandValue, Stmt};
+use rv_stmt::{
+    Body, Data, DataContent, Definition, Directive, Instruction, Label, LabelName, Operand,
+    OperandValue, Stmt,
+};
 use std::alloc::Global;
 use std::test::Fail;
 
@@ -129,27 +132,90 @@ fn push_label(alloc: Global, text: &mut String, label: &Label) -> Result<(), Fai
     Ok(())
 }
 
-/// The statement as text.
-pub fn text_of(alloc: Global, stmt: &Stmt) -> Result<String, Fail> {
-    let mut text = String::new(alloc);
-    for label in stmt.labels.as_slice() {
-        push_label(alloc, &mut text, label)?;
+// The kind, the span of the name, and the operands or bytes.
+fn push_data(alloc: Global, text: &mut String, data: &Data) -> Result<(), Fail> {
+    let (from, to) = (data.name.from, data.name.to);
+    match &data.content {
+        DataContent::Values(operands) => {
+            text.push_str(format!(in alloc; "data {from}-{to}")?.as_str())?;
+            for operand in operands.as_slice() {
+                push_operand(alloc, text, operand)?;
+            }
+        }
+        DataContent::Bytes(bytes) => {
+            text.push_str(format!(in alloc; "bytes {from}-{to}")?.as_str())?;
+            for byte in bytes.as_slice() {
+                text.push_str(format!(in alloc; " {byte}")?.as_str())?;
+            }
+        }
     }
-    match &stmt.body {
+    Ok(())
+}
+
+// The span of the name, and the operands.
+fn push_directive(alloc: Global, text: &mut String, directive: &Directive) -> Result<(), Fail> {
+    let (from, to) = (directive.name.from, directive.name.to);
+    text.push_str(format!(in alloc; "{from}-{to}")?.as_str())?;
+    for operand in directive.operands.as_slice() {
+        push_operand(alloc, text, operand)?;
+    }
+    Ok(())
+}
+
+// The symbol with its span, and the operand.
+fn push_definition(alloc: Global, text: &mut String, definition: &Definition) -> Result<(), Fail> {
+    push_name(text, &definition.symbol)?;
+    let (from, to) = (definition.span.from, definition.span.to);
+    text.push_str(format!(in alloc; "@{from}-{to}")?.as_str())?;
+    for operand in definition.operands.as_slice() {
+        push_operand(alloc, text, operand)?;
+    }
+    Ok(())
+}
+
+fn push_body(alloc: Global, text: &mut String, body: &Body) -> Result<(), Fail> {
+    match body {
         Body::Empty => text.push_str("empty")?,
         Body::Instr(instruction) => {
             text.push_str("one ")?;
-            push_instruction(alloc, &mut text, instruction)?;
+            push_instruction(alloc, text, instruction)?;
         }
         Body::Pseudo(instruction) => {
             text.push_str("pseudo ")?;
-            push_instruction(alloc, &mut text, instruction)?;
+            push_instruction(alloc, text, instruction)?;
         }
+        Body::Emit(data) => push_data(alloc, text, data)?,
+        Body::Fill(directive) => {
+            text.push_str("fill ")?;
+            push_directive(alloc, text, directive)?;
+        }
+        Body::Align(directive) => {
+            text.push_str("align ")?;
+            push_directive(alloc, text, directive)?;
+        }
+        Body::Switch(section) => {
+            text.push_str(format!(in alloc; "switch {section:?}")?.as_str())?;
+        }
+        Body::Equ(definition) => {
+            text.push_str("equ ")?;
+            push_definition(alloc, text, definition)?;
+        }
+        Body::Ignored => text.push_str("ignored")?,
         Body::Faulty(fault) => {
             let number = fault.number.number();
             let (from, to) = (fault.span.from, fault.span.to);
             text.push_str(format!(in alloc; "fault {number} {from}-{to}")?.as_str())?;
         }
     }
+    Ok(())
+}
+
+/// The statement as text.
+pub fn text_of(alloc: Global, stmt: &Stmt) -> Result<String, Fail> {
+    let mut text = String::new(alloc);
+    for label in stmt.labels.as_slice() {
+        push_label(alloc, &mut text, label)?;
+    }
+    push_body(alloc, &mut text, &stmt.body)?;
     Ok(text)
 }

@@ -1,5 +1,5 @@
 -- The tokens of a line are lexical.
-use Rattle.std.proofs.Common.{◌≡◌, ℕ, zero, suc, ◌+◌, ◌-◌, ◌≤◌, List, [], ◌∷◌, length, take, drop, Option, ap, ◌∙◌, arith, length-drop}
+use Rattle.std.proofs.Common.{◌≡◌, ℕ, zero, suc, ◌+◌, ◌-◌, ◌≤◌, List, [], ◌∷◌, length, take, drop, map, Option, ap, ◌∙◌, arith, length-drop, length-take-le}
 use Rattle.std.specs.List.{AllByRecursion}
 use Rattle.std.proofs.lemmas.List.Elements.{All-from_recursion}
 use Rattle.rv_text.specs.declared.faults.Fault.{Fault}
@@ -7,7 +7,7 @@ use Rattle.rv_text.specs.declared.lexeme.Token.{Token}
 use Rattle.rv_text.specs.declared.lexeme.TokenKind.{TokenKind}
 use Rattle.rv_text.specs.declared.lexeme.Prefix.{Prefix}
 use Rattle.rv_text.specs.declared.lexeme.Prefix.TheVariants.{Whitespace, Comment, Lexeme, Wrong}
-use Rattle.rv_text.specs.Lexing.{Lexed, SpansFit, prefix, with_rest, tokens_from, tokens_of}
+use Rattle.rv_text.specs.Lexing.{Lexed, SpansFit, bytes_of_tokens, lexed_line, prefix, spelled_tokens, text_at, with_rest, tokens_from, tokens_of}
 use Rattle.rv_text.specs.Lexical.{IsOfKind, Reads, ended, comment, whitespace, token, wrong, Rise}
 use Rattle.rv_text.proofs.Steps.{tokens_from-taken}
 use Rattle.rv_text.proofs.LexicalLemmas.{Stands, prefix_stands}
@@ -76,3 +76,15 @@ fit_from line at (t ∷ ts) rise = ((omega (arith, rise.1), rise_end t.span.to (
 
 pub fit : (line : List ℕ) → SpansFit line (tokens_of line).tokens
 fit line = All-from_recursion _ (tokens_of line).tokens (fit_from line 0 (tokens_of line).tokens (rises line))
+
+bytes_from : (line : List ℕ) (at : ℕ) (ts : List Token) → Rise at (length line) ts → at + bytes_of_tokens (map (λ t. record { kind = t.kind; text = text_at line t.span; span = t.span }) ts) ≤ length line
+bytes_from line at [] rise = omega (arith, rise)
+bytes_from line at (t ∷ ts) rise =
+    let rest = bytes_from line t.span.to ts rise.2 in
+    let inside = rise_end t.span.to (length line) ts rise.2 in
+    let after = length-drop t.span.from line in
+    let own : length (text_at line t.span) ≡ t.span.to - t.span.from = length-take-le (t.span.to - t.span.from) (drop t.span.from line) (omega (arith, after, inside)) in
+    omega (arith, rise.0, rise.1, rest, own)
+
+pub few_bytes : (line : List ℕ) → bytes_of_tokens (spelled_tokens (lexed_line line)) ≤ length line
+few_bytes line = let h = bytes_from line 0 (tokens_of line).tokens (rises line) in omega (arith, h)

@@ -1,3 +1,4 @@
+pub mod ContentSteps
 pub mod DigitSteps
 pub mod RowLemmas
 pub mod Runs

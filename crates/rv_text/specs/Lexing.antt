@@ -116,3 +116,8 @@ pub record SpelledToken : Type 0 where
 -- the tokens of a line with their texts
 abbrev pub spelled_tokens : LexedLine → List SpelledToken
 spelled_tokens l = map (λ t. record { kind = t.kind; text = text_at l.line t.span; span = t.span }) l.tokens
+
+-- how many bytes the texts of tokens have together
+abbrev pub bytes_of_tokens : List SpelledToken → ℕ
+bytes_of_tokens [] = 0
+bytes_of_tokens (p ∷ ps) = length p.text + bytes_of_tokens ps

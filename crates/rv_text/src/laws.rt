@@ -3,7 +3,7 @@
 ghost use Rattle.std.specs.Prelude.{◌≡◌, ◌≤◌, ◌++◌, [], ℕ, List, Option, length};
 ghost use Rattle.rv_text.specs.declared.faults.Fault.{Fault};
 ghost use Rattle.rv_text.specs.declared.lexeme.Token.{Token};
-ghost use Rattle.rv_text.specs.Lexing.{LexedLine, SpansFit, spelled_tokens, tokens_of};
+ghost use Rattle.rv_text.specs.Lexing.{LexedLine, SpansFit, bytes_of_tokens, lexed_line, spelled_tokens, tokens_of};
 ghost use Rattle.rv_text.specs.Lexical.{Reads, Rise};
 ghost use Rattle.rv_text.specs.Streams.{before, after, WritesPrefix};
 
@@ -18,11 +18,13 @@ pub fn tokens_are_lexical()
     ensures rise { (line : List ℕ) → Rise 0 (length line) (tokens_of line).tokens }
 {}
 
-/// The tokens of a line fit it: they are no more than its bytes, and their spans are ranges of it.
-#[tactic(auto, using(crate::proofs::LexicalLaw::fit, crate::specs::TokenLaws::few_tokens, crate::specs::TokenLaws::count_of_spelled_tokens))]
+/// The tokens of a line fit it: they are no more than its bytes, their spans are ranges of it, and their texts together have
+/// no more bytes than it.
+#[tactic(auto, using(crate::proofs::LexicalLaw::fit, crate::proofs::LexicalLaw::few_bytes, crate::specs::TokenLaws::few_tokens, crate::specs::TokenLaws::count_of_spelled_tokens))]
 pub fn tokens_fit()
     ensures few { (line : List ℕ) → length (tokens_of line).tokens ≤ length line }
     ensures fit { (line : List ℕ) → SpansFit line (tokens_of line).tokens }
+    ensures bytes { (line : List ℕ) → bytes_of_tokens (spelled_tokens (lexed_line line)) ≤ length line }
     ensures spelled_tokens { (l : LexedLine) → length (spelled_tokens l) ≡ length l.tokens }
 {}
 

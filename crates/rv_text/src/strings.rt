@@ -1,8 +1,8 @@
 //! Strings and characters.
 
-ghost use Rattle.std.specs.Prelude.{◌≡◌, ◌≤◌, ◌<◌, IfSome, length, min};
+ghost use Rattle.std.specs.Prelude.{◌≡◌, ◌≤◌, ◌<◌, [], ◌∷◌, IfSome, IfNone, length, min};
 ghost use Rattle.std.specs.List.{prefix_len};
-ghost use Rattle.rv_text.specs.Strings.{letter_escape, is_octal, octal_escape, escape, spelled, string_len, char_len, may_stand, escaped_at};
+ghost use Rattle.rv_text.specs.Strings.{letter_escape, is_octal, octal_escape, escape, spelled, string_len, char_len, may_stand, escaped_at, content_from};
 
 use crate::numerals::digits;
 
@@ -131,9 +131,15 @@ pub(crate) fn char_len(bytes: &[u8]) -> Option<usize>
 }
 
 /// The byte whose spelling begins at the place `at` of a string or a character, quotes and all, and the place after it.
-/// None at the closing quote, which is the byte that the slice begins with, past the end, and at a wrong escape.
+/// None at the closing quote, which is the byte that the slice begins with, past the end, and at a wrong escape. From place
+/// 1 on, these bytes in order are the content of a string.
+#[tactic(auto, using(crate::proofs::ContentSteps::content_end))]
 pub fn escaped(slice: &[u8], at: usize) -> Option<(u8, usize)>
-    ensures { result ≡ escaped_at slice.now at }
+    ensures value { result ≡ escaped_at slice.now at }
+    ensures rises { IfSome result (λ r. at < r.1) }
+    ensures within { IfSome result (λ r. r.1 ≤ length slice.now) }
+    ensures content { IfSome result (λ r. content_from slice.now at ≡ r.0 ∷ content_from slice.now r.1) }
+    ensures end { IfNone result (content_from slice.now at ≡ []) }
 {
     if at >= slice.len() || slice[at] == slice[0] {
         return None;
