@@ -1,5 +1,6 @@
 //! The cases, and what can come of one.
 
+use crate::tree_case::TreeCall;
 use std::alloc::Global;
 
 /// Which call is made.
@@ -9,8 +10,13 @@ pub enum Case {
     Sink,
     Expression,
     Statement,
+    Directive,
+    Values,
+    Code,
+    LineAlone,
     Insert,
     Delete,
+    Tree(TreeCall),
 }
 
 /// What came of the call.
@@ -34,8 +40,16 @@ pub fn read_case(input: &[u8]) -> Option<(Case, u32)> {
         (b"sink ", Case::Sink),
         (b"expression ", Case::Expression),
         (b"statement ", Case::Statement),
+        (b"directive ", Case::Directive),
+        (b"values ", Case::Values),
+        (b"code ", Case::Code),
+        (b"line_alone ", Case::LineAlone),
         (b"insert ", Case::Insert),
         (b"delete ", Case::Delete),
+        (b"tree_insert ", Case::Tree(TreeCall::Insert)),
+        (b"tree_delete ", Case::Tree(TreeCall::Delete)),
+        (b"tree_replace ", Case::Tree(TreeCall::Replace)),
+        (b"tree_rewrite ", Case::Tree(TreeCall::Rewrite)),
     ] {
         if let Some(digits) = line.strip_prefix(name) {
             let pads = rv_text::digits(10, digits)?;

@@ -6,16 +6,20 @@
 #![tactic(auto)]
 
 mod case;
+mod fix_case;
 mod statement_case;
 mod store_case;
 mod text_case;
+mod tree_case;
 
 use case::{Case, Outcome, read_case};
-use statement_case::{expression_refused, statement_refused};
+use fix_case::{code_refused, line_alone_refused, values_refused};
+use statement_case::{Line, expression_refused, statement_refused};
 use std::io;
 use std::io::Read;
 use store_case::{Edit, edit_refused};
 use text_case::{sink_refused, tokens_refused};
+use tree_case::tree_call_refused;
 
 // What is printed for an outcome.
 fn verdict(outcome: Outcome) -> &'static str {
@@ -39,9 +43,14 @@ fn main(rt: HostRuntime) -> io::Result<()> {
         Case::Tokens => tokens_refused(rt.alloc(), pads),
         Case::Sink => sink_refused(rt.alloc(), pads),
         Case::Expression => expression_refused(rt.alloc(), pads),
-        Case::Statement => statement_refused(rt.alloc(), pads),
+        Case::Statement => statement_refused(rt.alloc(), pads, Line::Instruction),
+        Case::Directive => statement_refused(rt.alloc(), pads, Line::Directive),
+        Case::Values => values_refused(rt.alloc(), pads),
+        Case::Code => code_refused(rt.alloc(), pads),
+        Case::LineAlone => line_alone_refused(rt.alloc(), pads),
         Case::Insert => edit_refused(rt.alloc(), pads, Edit::Insert),
         Case::Delete => edit_refused(rt.alloc(), pads, Edit::Delete),
+        Case::Tree(call) => tree_call_refused(rt.alloc(), pads, call),
     };
     println!(rt; "{}", verdict(outcome))?;
     Ok(())

@@ -5,7 +5,8 @@ ghost use Rattle.std.specs.Prelude.{◌≤◌, length};
 use crate::case::{Outcome, pad};
 use rv_expr::{BinaryOp, Expr, Node, ReadFault, UnaryOp, read};
 use rv_stmt::{
-    Body, Instruction, Label, LabelName, Operand, OperandValue, Role, Stmt, StmtError, read_line,
+    Body, Data, DataContent, Instruction, Label, LabelName, Operand, OperandValue, Role, Stmt,
+    StmtError, read_line,
 };
 use rv_text::{Span, Tally, tokens};
 use std::alloc::Global;
@@ -134,18 +135,64 @@ fn is_statement(found: &Result<Stmt, StmtError>) -> bool {
     }
 }
 
+// Whether these are the bytes of the strings `"hello, "` and `"world"`, each with its zero.
+fn are_strings(found: &Data) -> bool {
+    match &found.content {
+        DataContent::Bytes(bytes) => bytes.as_slice() == b"hello, \0world\0".as_slice(),
+        DataContent::Values(_) => false,
+    }
+}
+
+// Whether this is the statement `.asciz "hello, ", "world"`.
+fn is_directive(found: &Result<Stmt, StmtError>) -> bool {
+    match found {
+        Ok(statement) => match &statement.body {
+            Body::Emit(data) => statement.labels.as_slice().is_empty() && are_strings(data),
+            _ => false,
+        },
+        Err(_) => false,
+    }
+}
+
+/// The lines that are read.
+#[derive(Clone, Copy, Debug, PartialEq, Eq)]
+pub enum Line {
+    /// An instruction with labels.
+    Instruction,
+    /// A directive with strings.
+    Directive,
+}
+
+impl Line {
+    fn text(self) -> &'static [u8]
+        ensures { length result.now ≤ 1000 }
+    {
+        match self {
+            Line::Instruction => b"start: 1: lw a0, x + 4(a1)",
+            Line::Directive => b".asciz \"hello, \", \"world\"",
+        }
+    }
+
+    // Whether its statement was read.
+    fn is_read(self, found: &Result<Stmt, StmtError>) -> bool {
+        match self {
+            Line::Instruction => is_statement(found),
+            Line::Directive => is_directive(found),
+        }
+    }
+}
+
 /// `read_line` of a line.
-pub fn statement_refused(alloc: Global, pads: u32) -> Outcome {
+pub fn statement_refused(alloc: Global, pads: u32, line: Line) -> Outcome {
     if !pad(alloc, pads) {
         return Outcome::Unprepared;
     }
-    let line = b"start: 1: lw a0, x + 4(a1)";
-    let first = read_line(alloc, line, &mut Tally::new());
-    if is_statement(&first) {
+    let first = read_line(alloc, line.text(), &mut Tally::new());
+    if line.is_read(&first) {
         return Outcome::Made;
     }
-    let again = read_line(alloc, line, &mut Tally::new());
-    if first.is_err() && is_statement(&again) {
+    let again = read_line(alloc, line.text(), &mut Tally::new());
+    if first.is_err() && line.is_read(&again) {
         Outcome::Refused
     } else {
         Outcome::Wrong

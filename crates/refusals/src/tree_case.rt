@@ -1,0 +1,118 @@
+//! Calls of `rv_tree`.
+
+use crate::case::{Outcome, pad};
+use rv_tree::{Pass, SumTree, TreeError};
+use rv_tree_tests::extent::{Block, Extent};
+use std::alloc::{AllocError, Global};
+
+/// A call on a tree.
+#[derive(Clone, Copy, Debug, PartialEq, Eq)]
+pub enum TreeCall {
+    Insert,
+    Delete,
+    Replace,
+    Rewrite,
+}
+
+const BEFORE: &[u64] = &[10, 20, 30, 40, 50];
+
+// Adds to each block the bytes before it, and takes memory for the sum.
+#[derive(Drop)]
+struct Accumulate {
+    alloc: Global,
+}
+
+impl Pass<Block> for Accumulate {
+    ghost accepts = { λ p b xs. Unit {0} };
+
+    ghost gives = { λ p b x y q. Unit {0} };
+
+    ghost refuses = { λ p b x q. Unit {0} };
+
+    ghost keeps = { λ p b s. ⊥ };
+
+    fn visit(&mut self, before: &Extent, item: &Block) -> Result<Option<Block>, AllocError> {
+        let size = Box::new(self.alloc, item.size.wrapping_add(before.size))?;
+        Ok(Some(Block { size: *size }))
+    }
+
+    fn skips(&self, before: &Extent, sum: &Extent) -> bool {
+        false
+    }
+
+    ghost accepts_rest = { λ p q b x y xs c g. tt };
+
+    ghost kept = { λ p b xs n v a k. absurd k };
+}
+
+fn make_tree(alloc: Global) -> Result<SumTree<Block>, TreeError> {
+    let mut tree = SumTree::new(alloc);
+    for size in BEFORE {
+        tree = tree.inserted(tree.len() + 1, Block { size: *size })?;
+    }
+    Ok(tree)
+}
+
+// The insertion and the deletion put a tree out of balance.
+fn make(alloc: Global, tree: &SumTree<Block>, call: TreeCall) -> Result<SumTree<Block>, TreeError> {
+    match call {
+        TreeCall::Insert => tree.inserted(6, Block { size: 60 }),
+        TreeCall::Delete => tree.deleted(1),
+        TreeCall::Replace => tree.replaced(4, Block { size: 44 }),
+        TreeCall::Rewrite => tree.rewritten(&mut Accumulate { alloc }),
+    }
+}
+
+// The sizes of the blocks after a call.
+fn sizes_after(call: TreeCall) -> &'static [u64] {
+    match call {
+        TreeCall::Insert => &[10, 20, 30, 40, 50, 60],
+        TreeCall::Delete => &[20, 30, 40, 50],
+        TreeCall::Replace => &[10, 20, 30, 44, 50],
+        TreeCall::Rewrite => &[10, 30, 70, 150, 310],
+    }
+}
+
+// Whether these are the sizes of the blocks, and the sums those of the first blocks.
+fn has_blocks(tree: &SumTree<Block>, sizes: &[u64]) -> bool {
+    let mut sum = 0u64;
+    for k in 0..tree.len() {
+        match (tree.get(k + 1), sizes.get(k as usize)) {
+            (Some(block), Some(size)) if block.size == *size && tree.prefix(k).size == sum => {
+                sum = sum.wrapping_add(*size);
+            }
+            _ => return false,
+        }
+    }
+    tree.len() as usize == sizes.len() && tree.total().size == sum
+}
+
+// Whether the call was made.
+fn is_made(found: &Result<SumTree<Block>, TreeError>, call: TreeCall) -> bool {
+    match found {
+        Ok(tree) => has_blocks(tree, sizes_after(call)),
+        Err(_) => false,
+    }
+}
+
+/// A call on a tree of five blocks, and once more where it is refused.
+pub fn tree_call_refused(alloc: Global, pads: u32, call: TreeCall) -> Outcome {
+    let Ok(tree) = make_tree(alloc) else {
+        return Outcome::Unprepared;
+    };
+    if !pad(alloc, pads) {
+        return Outcome::Unprepared;
+    }
+    let first = make(alloc, &tree, call);
+    if !has_blocks(&tree, BEFORE) {
+        return Outcome::Wrong;
+    }
+    if is_made(&first, call) {
+        return Outcome::Made;
+    }
+    let again = make(alloc, &tree, call);
+    match first {
+        Err(TreeError::Memory) if is_made(&again, call) => Outcome::Refused,
+        _ => Outcome::Wrong,
+    }
+}

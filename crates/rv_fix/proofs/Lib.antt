@@ -1,0 +1,4 @@
+pub mod Examples
+pub mod Paddings
+pub mod Sizes
+pub mod Zeros

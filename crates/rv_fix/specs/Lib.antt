@@ -1,0 +1,10 @@
+pub mod Alone
+pub mod Code
+pub mod Data
+pub mod Displacements
+pub mod Filling
+pub mod Padding
+pub mod Payloads
+pub mod Refusals
+pub mod Reports
+pub mod Values

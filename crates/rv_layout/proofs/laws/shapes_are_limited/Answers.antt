@@ -1,0 +1,5 @@
+use Rattle.rv_layout.proofs.Limited.{limited}
+use Rattle.rv_layout.proofs.laws.shapes_are_limited.Goals as goal
+
+pub returns : goal.returns
+returns c = limited

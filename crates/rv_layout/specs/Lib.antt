@@ -1,0 +1,10 @@
+pub mod Sections
+pub mod Rounding
+pub mod Places
+pub mod Shapes
+pub mod Advances
+pub mod Effects
+pub mod RoundingLaws
+pub mod AdvanceLaws
+pub mod EffectLaws
+pub mod LayoutLaws

@@ -1,0 +1,25 @@
+//! Where the lines of a text lie: the shape of each line, and the sections, offsets, bases and addresses that follow.
+#![tactic(auto)]
+
+mod advance;
+mod alignment;
+mod constants;
+mod consts;
+mod effect;
+mod laws;
+mod layout;
+mod measured;
+mod places;
+mod sections;
+mod shapes;
+mod sizes;
+
+pub use alignment::Alignment;
+pub use consts::Consts;
+pub use laws::{layouts_join, layouts_tell_places, shapes_are_limited, size_operands_are_few};
+pub use layout::Layout;
+pub use measured::Measured;
+pub use places::{bases, place};
+pub use sections::{SECTIONS, section_number};
+pub use shapes::measure;
+pub use sizes::alignment_by_role;

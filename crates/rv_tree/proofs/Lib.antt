@@ -1,0 +1,4 @@
+mod Examples
+pub mod Exits
+pub mod Fewest
+pub mod Prefixes

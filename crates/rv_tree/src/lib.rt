@@ -1,0 +1,20 @@
+//! A persistent list of items that knows the sum of its first items: an edit shares all nodes with the list before it
+//! but those of one path.
+#![tactic(auto)]
+
+mod balance;
+mod edits;
+mod error;
+mod limits;
+mod look_up;
+mod node;
+mod passes;
+mod rewriting;
+mod sums;
+mod tree;
+
+pub use error::TreeError;
+pub use limits::{MAX_HEIGHT, MAX_ITEMS};
+pub use passes::Pass;
+pub use sums::{Joined, Summed};
+pub use tree::SumTree;

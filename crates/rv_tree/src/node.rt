@@ -1,0 +1,120 @@
+//! The nodes of a tree. Items stand in its leaves, and each other node has two sides whose heights are at most 1 apart.
+
+ghost use Rattle.std.specs.Prelude.{◌≡◌, ◌+◌, ◌≤◌, max, length, [], ◌∷◌, ◌++◌};
+ghost use Rattle.rv_tree.specs.Sums.{total, AllSums};
+ghost use Rattle.rv_tree.specs.Shape.{IsBalanced, fewest};
+
+use crate::limits::{MAX_HEIGHT, MAX_ITEMS};
+use crate::sums::{Joined, Summed};
+use std::marker::Model;
+use std::rc::Rc;
+
+/// A node with all nodes below it.
+#[cycle(subtree)]
+#[derive(Drop)]
+pub(crate) struct Subtree<T: Summed> {
+    pub(crate) node: Node<T>,
+}
+
+#[cycle(subtree)]
+#[derive(Drop)]
+pub(crate) enum Node<T: Summed> {
+    Leaf(T),
+    Fork {
+        left: Rc<Subtree<T>>,
+        right: Rc<Subtree<T>>,
+        // How many items there are.
+        len: u32,
+        // How many nodes the longest path has.
+        height: u32,
+        // The sum of all items.
+        sum: T::Sum,
+    },
+}
+
+impl<T: Summed> Model for Subtree<T> {
+    ghost use Rattle.rv_tree.specs.Contents.{Contents};
+
+    ghost Value = { Contents T };
+
+    ghost use Rattle.rv_tree.specs.Shape.{contents, IsSound};
+
+    ghost view = { λ t. contents t.node };
+
+    ghost invariant = { λ t. IsSound T.Sum.IsValue T.Sum.empty T.Sum.op T.sum_of t.node };
+
+    ghost size = { λ c. c.height };
+
+    ghost use Rattle.std.proofs.Common.{arith};
+
+    ghost size_decreases = { λ t h. Prim.grind arith };
+}
+
+impl<T: Summed> Subtree<T> {
+    pub(crate) fn leaf(item: T) -> Subtree<T>
+        ensures items { result.items ≡ item ∷ [] }
+        ensures height { result.height ≡ 1 }
+    {
+        item.sum().known();
+        Subtree {
+            node: Node::Leaf(item),
+        }
+    }
+
+    // How many items there are.
+    pub(crate) fn len(&self) -> u32
+        ensures { result ≡ length self.now.items }
+    {
+        match &self.node {
+            Node::Leaf(_) => 1,
+            Node::Fork { len, .. } => *len,
+        }
+    }
+
+    // How many nodes the longest path has.
+    pub(crate) fn height(&self) -> u32
+        ensures value { result ≡ self.now.height }
+        ensures positive { 1 ≤ result }
+        ensures low { result ≤ length self.now.items }
+        ensures full { fewest self.now.height ≤ length self.now.items }
+        ensures bounded { length self.now.items ≤ MAX_ITEMS → self.now.height ≤ MAX_HEIGHT }
+    {
+        match &self.node {
+            Node::Leaf(_) => 1,
+            Node::Fork { height, .. } => *height,
+        }
+    }
+
+    // The sum of all items.
+    pub(crate) fn sum(&self) -> T::Sum
+        ensures value { result ≡ total T.Sum.empty T.Sum.op T.sum_of self.now.items }
+        ensures sums { AllSums T.Sum.IsValue T.sum_of self.now.items }
+    {
+        match &self.node {
+            Node::Leaf(item) => item.sum().join(&T::Sum::unit()),
+            Node::Fork { sum, .. } => sum.join(&T::Sum::unit()),
+        }
+    }
+
+    pub(crate) fn fork(left: Rc<Subtree<T>>, right: Rc<Subtree<T>>) -> Subtree<T>
+        requires balanced { IsBalanced left.value.height right.value.height }
+        requires few { length left.value.items + length right.value.items ≤ MAX_ITEMS }
+        ensures items { result.items ≡ left.value.items ++ right.value.items }
+        ensures height { result.height ≡ max left.value.height right.value.height + 1 }
+    {
+        let first: &Subtree<T> = &left;
+        let second: &Subtree<T> = &right;
+        let len = first.len() + second.len();
+        let height = first.height().max(second.height()) + 1;
+        let sum = first.sum().join(&second.sum());
+        Subtree {
+            node: Node::Fork {
+                left,
+                right,
+                len,
+                height,
+                sum,
+            },
+        }
+    }
+}

@@ -1,0 +1,4 @@
+pub mod Accumulate
+pub mod Counted
+pub mod Extents
+pub mod SetAt
