@@ -1,6 +1,6 @@
 //! The words that lines stand for, and the parts of values, against LLVM 14.0.6.
 
-use rv_code::{Fields, Ins, Word, encode};
+use rv_code::{Fields, Word, word_of};
 use rv_stmt::{
     Body, Instruction, Instructions, MachineInstruction, expansion_of, high_part, instructions_of,
     low_part, read_line, word_bits,
@@ -51,10 +51,7 @@ c.addi a0, 1 @ 1 = 0505, 2 bytes
 c.nop @ 0 = 0001, 2 bytes";
 
 fn push_word(alloc: Global, text: &mut String, machine: &MachineInstruction) -> Result<(), Fail> {
-    let Some(ins) = Ins::try_new(machine.op, machine.fields) else {
-        return Err(Fail::new("fields that the operation does not take"));
-    };
-    match encode(&ins) {
+    match word_of(machine.op, &machine.fields) {
         Word::Full(number) => text.push_str(format!(in alloc; "{number:08x}")?.as_str())?,
         Word::Half(number) => text.push_str(format!(in alloc; "{number:04x}")?.as_str())?,
     }

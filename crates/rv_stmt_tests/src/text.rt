@@ -10,10 +10,10 @@ use std::alloc::Global;
 use std::test::Fail;
 
 fn push_name(text: &mut String, name: &Name) -> Result<(), Fail> {
-    for byte in name.bytes() {
-        text.push(char::from(*byte))?;
+    match str::from_utf8(name.bytes()) {
+        Ok(name) => Ok(text.push_str(name)?),
+        Err(_) => Err(Fail::new("a name that is no text")),
     }
-    Ok(())
 }
 
 fn push_local(
@@ -23,10 +23,11 @@ fn push_local(
     direction: Direction,
 ) -> Result<(), Fail> {
     let letter = match direction {
-        Direction::Back => 'b',
-        Direction::Forward => 'f',
+        Direction::Back => "b",
+        Direction::Forward => "f",
     };
-    text.push_str(format!(in alloc; "{number}{letter}")?.as_str())?;
+    text.push_str(format!(in alloc; "{number}")?.as_str())?;
+    text.push_str(letter)?;
     Ok(())
 }
 
