@@ -1,5 +1,6 @@
 //! The cases, and what can come of one.
 
+use crate::store_case::Edit;
 use crate::tree_case::TreeCall;
 use std::alloc::Global;
 
@@ -14,8 +15,7 @@ pub enum Case {
     Values,
     Code,
     LineAlone,
-    Insert,
-    Delete,
+    Edit(Edit),
     Tree(TreeCall),
 }
 
@@ -44,8 +44,11 @@ pub fn read_case(input: &[u8]) -> Option<(Case, u32)> {
         (b"values ", Case::Values),
         (b"code ", Case::Code),
         (b"line_alone ", Case::LineAlone),
-        (b"insert ", Case::Insert),
-        (b"delete ", Case::Delete),
+        (b"insert ", Case::Edit(Edit::Insert)),
+        (b"delete ", Case::Edit(Edit::Delete)),
+        (b"replace ", Case::Edit(Edit::Replace)),
+        (b"blank ", Case::Edit(Edit::Blank)),
+        (b"comment ", Case::Edit(Edit::Comment)),
         (b"tree_insert ", Case::Tree(TreeCall::Insert)),
         (b"tree_delete ", Case::Tree(TreeCall::Delete)),
         (b"tree_replace ", Case::Tree(TreeCall::Replace)),

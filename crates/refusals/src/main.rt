@@ -17,7 +17,7 @@ use fix_case::{code_refused, line_alone_refused, values_refused};
 use statement_case::{Line, expression_refused, statement_refused};
 use std::io;
 use std::io::Read;
-use store_case::{Edit, edit_refused};
+use store_case::edit_refused;
 use text_case::{sink_refused, tokens_refused};
 use tree_case::tree_call_refused;
 
@@ -48,8 +48,7 @@ fn main(rt: HostRuntime) -> io::Result<()> {
         Case::Values => values_refused(rt.alloc(), pads),
         Case::Code => code_refused(rt.alloc(), pads),
         Case::LineAlone => line_alone_refused(rt.alloc(), pads),
-        Case::Insert => edit_refused(rt.alloc(), pads, Edit::Insert),
-        Case::Delete => edit_refused(rt.alloc(), pads, Edit::Delete),
+        Case::Edit(edit) => edit_refused(rt.alloc(), pads, edit),
         Case::Tree(call) => tree_call_refused(rt.alloc(), pads, call),
     };
     println!(rt; "{}", verdict(outcome))?;

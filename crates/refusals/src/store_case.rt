@@ -3,51 +3,182 @@
 ghost use Rattle.std.specs.Prelude.{◌≡◌, IfOk};
 
 use crate::case::{Outcome, pad};
+use rv_fix::Coded;
 use rv_store::{Changed, EditError, Store, write_image};
-use rv_text::{MemSink, Tally};
+use rv_text::{Fault, FaultNumber, MemSink, Span, Tally};
 use std::alloc::Global;
 
-const LINES_BEFORE: &[&str] = &["addi a0, a0, 1", "# no bytes", "sub a0, a1, a2", ""];
+// A line, where it lies, its bytes, and the fault of its body.
+#[derive(Clone, Copy, Debug)]
+struct Row {
+    line: &'static str,
+    address: u32,
+    code: &'static [u8],
+    fault: Option<Fault>,
+}
 
-const LINES_AFTER_INSERT: &[&str] = &[
-    "addi a0, a0, 1",
-    "addi a0, a0, -1",
-    "# no bytes",
-    "sub a0, a1, a2",
-    "",
-];
+// A text, and its image.
+#[derive(Clone, Copy, Debug)]
+struct Shown {
+    rows: &'static [Row],
+    image: &'static str,
+}
 
-const LINES_AFTER_DELETE: &[&str] = &["# no bytes", "sub a0, a1, a2", ""];
+const STEP: Row = Row {
+    line: ".equ step, 4",
+    address: 0,
+    code: &[],
+    fault: None,
+};
 
-const BEFORE: &str = ".text 0x00000000 8
-00000000: 13 05 15 00 33 85 c5 40
+const ADD: Row = Row {
+    line: "loop: 1: addi a0, a0, step",
+    address: 0,
+    code: &[0x13, 0x05, 0x45, 0x00],
+    fault: None,
+};
+
+const JUMP: Row = Row {
+    line: "j 1b",
+    address: 4,
+    code: &[0x6f, 0xf0, 0xdf, 0xff],
+    fault: None,
+};
+
+const BLANK: Row = Row {
+    line: "",
+    address: 8,
+    code: &[],
+    fault: None,
+};
+
+const COMMENT: Row = Row {
+    line: "#",
+    address: 8,
+    code: &[],
+    fault: None,
+};
+
+const IMAGE_BEFORE: &str = ".text 0x00000000 8
+00000000: 13 05 45 00 6f f0 df ff
 .rodata 0x00001000 0
 .data 0x00001000 0
 .bss 0x00001000 0
 ";
 
-const AFTER_INSERT: &str = ".text 0x00000000 12
-00000000: 13 05 15 00 13 05 f5 ff 33 85 c5 40
-.rodata 0x00001000 0
-.data 0x00001000 0
-.bss 0x00001000 0
-";
+const BEFORE: Shown = Shown {
+    rows: &[STEP, ADD, JUMP],
+    image: IMAGE_BEFORE,
+};
 
-const AFTER_DELETE: &str = ".text 0x00000000 4
-00000000: 33 85 c5 40
+// Three words are more than a line keeps without memory.
+const AFTER_INSERT: Shown = Shown {
+    rows: &[
+        STEP,
+        ADD,
+        Row {
+            line: ".word step, loop, 1b",
+            address: 4,
+            code: &[4, 0, 0, 0, 0, 0, 0, 0, 0, 0, 0, 0],
+            fault: None,
+        },
+        Row {
+            line: "j 1b",
+            address: 16,
+            code: &[0x6f, 0xf0, 0x1f, 0xff],
+            fault: None,
+        },
+    ],
+    image: ".text 0x00000000 20
+00000000: 13 05 45 00 04 00 00 00 00 00 00 00 00 00 00 00
+00000010: 6f f0 1f ff
 .rodata 0x00001000 0
 .data 0x00001000 0
 .bss 0x00001000 0
-";
+",
+};
+
+const AFTER_DELETE: Shown = Shown {
+    rows: &[
+        Row {
+            line: "loop: 1: addi a0, a0, step",
+            address: 0,
+            code: &[0, 0, 0, 0],
+            fault: Some(Fault {
+                number: FaultNumber::Undefined,
+                span: Span { from: 22, to: 26 },
+            }),
+        },
+        JUMP,
+    ],
+    image: ".text 0x00000000 8
+00000000: 00 00 00 00 6f f0 df ff
+.rodata 0x00001000 0
+.data 0x00001000 0
+.bss 0x00001000 0
+",
+};
+
+const AFTER_REPLACE: Shown = Shown {
+    rows: &[
+        Row {
+            line: ".equ step, loop + 8",
+            address: 0,
+            code: &[],
+            fault: None,
+        },
+        Row {
+            line: "loop: 1: addi a0, a0, step",
+            address: 0,
+            code: &[0x13, 0x05, 0x85, 0x00],
+            fault: None,
+        },
+        JUMP,
+    ],
+    image: ".text 0x00000000 8
+00000000: 13 05 85 00 6f f0 df ff
+.rodata 0x00001000 0
+.data 0x00001000 0
+.bss 0x00001000 0
+",
+};
+
+const AFTER_BLANK: Shown = Shown {
+    rows: &[STEP, ADD, JUMP, BLANK],
+    image: IMAGE_BEFORE,
+};
+
+const AFTER_COMMENT: Shown = Shown {
+    rows: &[STEP, ADD, JUMP, COMMENT],
+    image: IMAGE_BEFORE,
+};
 
 /// An edit that is tried.
 #[derive(Clone, Copy, Debug, PartialEq, Eq)]
 pub enum Edit {
     Insert,
     Delete,
+    Replace,
+    /// A line of no bytes after the others.
+    Blank,
+    /// A line of one byte after the others: one request more than a blank one makes, for the byte.
+    Comment,
 }
 
-// A store of four lines, and writers with room for its images.
+impl Edit {
+    // What the edit makes of the text.
+    fn shown_after(self) -> Shown {
+        match self {
+            Edit::Insert => AFTER_INSERT,
+            Edit::Delete => AFTER_DELETE,
+            Edit::Replace => AFTER_REPLACE,
+            Edit::Blank => AFTER_BLANK,
+            Edit::Comment => AFTER_COMMENT,
+        }
+    }
+}
+
+// A store of three lines, and writers with room for its images.
 #[derive(Drop)]
 struct Trial {
     store: Store,
@@ -59,10 +190,9 @@ fn make_trial(alloc: Global) -> Result<Trial, EditError>
     ensures { IfOk result (λ trial. (trial.first.failures ≡ 0) × (trial.second.failures ≡ 0)) }
 {
     let mut store = Store::new(alloc, 0)?;
-    let _ = store.insert(1, b"addi a0, a0, 1", &mut Tally::new())?;
-    let _ = store.insert(2, b"# no bytes", &mut Tally::new())?;
-    let _ = store.insert(3, b"sub a0, a1, a2", &mut Tally::new())?;
-    let _ = store.insert(4, b"", &mut Tally::new())?;
+    let _ = store.insert(1, b".equ step, 4", &mut Tally::new())?;
+    let _ = store.insert(2, b"loop: 1: addi a0, a0, step", &mut Tally::new())?;
+    let _ = store.insert(3, b"j 1b", &mut Tally::new())?;
     let first = MemSink::new(alloc, 1024)?;
     let second = MemSink::new(alloc, 1024)?;
     Ok(Trial {
@@ -74,30 +204,55 @@ fn make_trial(alloc: Global) -> Result<Trial, EditError>
 
 fn make(store: &mut Store, edit: Edit) -> Result<Changed, EditError> {
     match edit {
-        Edit::Insert => store.insert(2, b"addi a0, a0, -1", &mut Tally::new()),
+        Edit::Insert => store.insert(3, b".word step, loop, 1b", &mut Tally::new()),
         Edit::Delete => store.delete(1, &mut Tally::new()),
+        Edit::Replace => store.replace(1, b".equ step, loop + 8", &mut Tally::new()),
+        Edit::Blank => store.insert(4, b"", &mut Tally::new()),
+        Edit::Comment => store.insert(4, b"#", &mut Tally::new()),
+    }
+}
+
+// Whether this is the code of the line.
+fn has_code(found: &Coded, row: &Row) -> bool {
+    for (place, byte) in row.code.iter().enumerate() {
+        if found.payload.byte(place) != Some(*byte) {
+            return false;
+        }
+    }
+    found.payload.len() == row.code.len() && found.fault == row.fault
+}
+
+// Whether this is line number `k` of the store.
+fn has_row(store: &Store, k: u32, row: &Row) -> bool {
+    match (store.line(k), store.address(k), store.coded(k)) {
+        (Some(line), Some(address), Some(coded)) => {
+            line == row.line.as_bytes() && address == row.address && has_code(coded, row)
+        }
+        _ => false,
     }
 }
 
 // Whether these are the lines of the store.
-fn has_lines(store: &Store, lines: &[&str]) -> bool {
+fn has_rows(store: &Store, rows: &[Row]) -> bool {
     for k in 0..store.len() as u32 {
-        match (store.line(k + 1), lines.get(k as usize)) {
-            (Some(found), Some(line)) if found == line.as_bytes() => {}
+        match rows.get(k as usize) {
+            Some(row) if has_row(store, k + 1, row) => {}
             _ => return false,
         }
     }
-    store.len() == lines.len()
+    store.len() == rows.len()
 }
 
-// Whether the store has these lines and this image.
-fn shows(store: &Store, sink: &mut MemSink, lines: &[&str], image: &str) -> bool
+// Whether the store is this text with this image.
+fn shows(store: &Store, sink: &mut MemSink, shown: &Shown) -> bool
     requires { sink.old.failures ≡ 0 }
 {
-    has_lines(store, lines) && write_image(store, sink).is_ok() && sink.bytes() == image.as_bytes()
+    has_rows(store, shown.rows)
+        && write_image(store, sink).is_ok()
+        && sink.bytes() == shown.image.as_bytes()
 }
 
-/// An edit in the midst of four lines, and once more where it is refused.
+/// An edit of three lines, and once more where it is refused.
 pub fn edit_refused(alloc: Global, pads: u32, edit: Edit) -> Outcome {
     let Ok(
         Trial {
@@ -112,16 +267,13 @@ pub fn edit_refused(alloc: Global, pads: u32, edit: Edit) -> Outcome {
     if !pad(alloc, pads) {
         return Outcome::Unprepared;
     }
-    let (lines, image) = match edit {
-        Edit::Insert => (LINES_AFTER_INSERT, AFTER_INSERT),
-        Edit::Delete => (LINES_AFTER_DELETE, AFTER_DELETE),
-    };
+    let after = edit.shown_after();
     match make(&mut store, edit) {
-        Ok(_) if shows(&store, &mut first, lines, image) => Outcome::Made,
+        Ok(_) if shows(&store, &mut first, &after) => Outcome::Made,
         Err(EditError::Memory)
-            if shows(&store, &mut first, LINES_BEFORE, BEFORE)
+            if shows(&store, &mut first, &BEFORE)
                 && make(&mut store, edit).is_ok()
-                && shows(&store, &mut second, lines, image) => { Outcome::Refused }
+                && shows(&store, &mut second, &after) => { Outcome::Refused }
         _ => Outcome::Wrong,
     }
 }

@@ -72,7 +72,8 @@ const TRANSCRIPTS: [(&str, &str, &str); 18] = [
     ),
 ];
 
-fn check_output<T: Abort, R: Source + Drop>(
+/// The input, as this reader gives it, has this output.
+pub fn check_output<T: Abort, R: Source + Drop>(
     rt: &T,
     alloc: Global,
     input: &str,

@@ -1,4 +1,5 @@
 pub mod Examples
+pub mod Limited
 pub mod Paddings
 pub mod Sizes
 pub mod Zeros

@@ -37,7 +37,7 @@ length_word : (o : Op) (f : Fields) → length (bytes_of_word (word_of o f)) ≡
 unfolding word_of
 length_word o f = sized (is_full o) (encoding_of o f)
 
-length_instructions : (is : Instructions) → length (bytes_of_instructions is) ≡ size_of_instructions is
+pub length_instructions : (is : Instructions) → length (bytes_of_instructions is) ≡ size_of_instructions is
 length_instructions (One i) = length_word i.op i.fields
 length_instructions (Two i j) =
     let a = length_word i.op i.fields in
@@ -63,7 +63,7 @@ length_of_filled i es f e = length_ok i (filled (limits_of (shape_of i.op)) i.op
 
 -- Data
 
-length_low : (r : Role) (v : ℤ) → length (low_bytes (data_width r) v) ≡ data_width r
+pub length_low : (r : Role) (v : ℤ) → length (low_bytes (data_width r) v) ≡ data_width r
 length_low (role.Data Byte) v = refl
 length_low (role.Data HalfWidth) v = refl
 length_low (role.Data Word) v = refl

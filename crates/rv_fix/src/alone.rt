@@ -1,7 +1,7 @@
 //! A line by itself, at an address.
 
 ghost use Rattle.std.specs.Prelude.{◌≡◌, ◌≤◌, ◌^◌, false, length, IfOk, IfErr};
-ghost use Rattle.rv_stmt.specs.Statement.{statement_of, data_size_of};
+ghost use Rattle.rv_stmt.specs.Statement.{statement_of, data_size_of, operands_of};
 ghost use Rattle.rv_fix.specs.Alone.{nothing_defined, no_constants, uses_names, code_of_body_at, code_at};
 ghost use Rattle.rv_fix.specs.Refusals.{Refuses};
 
@@ -12,7 +12,7 @@ use crate::names_in::uses_names;
 use crate::valuation::operand_values;
 use rv_expr::{Direction, LabelReference, Names, ValueFault};
 use rv_layout::{Consts, Measured, measure};
-use rv_stmt::{Stmt, data_are_few, read_line};
+use rv_stmt::{Stmt, data_are_few, operands_are_few, read_line};
 use rv_text::Tally;
 use std::alloc::Global;
 
@@ -50,7 +50,8 @@ impl Consts for NothingDefined {
 
 // The code of a statement at an address, where no name is defined.
 fn code_of_body_at(alloc: Global, stmt: &Stmt, address: u32) -> Result<Coded, FixError>
-    requires { data_size_of stmt.now.body ≤ 2 ^ 16 }
+    requires data { data_size_of stmt.now.body ≤ 2 ^ 16 }
+    requires operands { length (operands_of stmt.now.body) ≤ 1000 }
     ensures { IfOk result (λ c. c ≡ code_of_body_at address stmt.now.body) }
 {
     let mut tally = Tally::new();
@@ -80,5 +81,6 @@ pub fn assemble_at(alloc: Global, line: &[u8], address: u32) -> Result<Coded, As
         return Err(AssembleError::Names);
     }
     data_are_few();
+    operands_are_few();
     Ok(code_of_body_at(alloc, &stmt, address)?)
 }

@@ -1,6 +1,6 @@
 //! Encodes lines.
 
-ghost use Rattle.std.specs.Prelude.{◌≡◌, ◌+◌, ◌≤◌, ◌^◌, [], IfOk};
+ghost use Rattle.std.specs.Prelude.{◌≡◌, ◌-◌, ◌<◌, ◌+◌, ◌^◌, [], IfOk};
 ghost use Rattle.rv_stmt.specs.Data.{values_size};
 ghost use Rattle.rv_fix.specs.Code.{code_or_zeros, code_of_instruction, code_of_data, code_of_count, code_of_fill, code_of_alignment, code_of_definition, code_of_body};
 ghost use Rattle.rv_fix.specs.Data.{with_values};
@@ -175,7 +175,7 @@ pub fn encode_line<C: Count>(
     values: &Values,
     counter: &mut C,
 ) -> Result<Coded, FixError>
-    requires { C.encoded_count counter.old ≤ 2 ^ 63 }
+    requires { C.encoded_count counter.old < 2 ^ 64 - 1 }
     ensures code { IfOk result (λ c. c ≡ code_of_body stmt.now.body values.now) }
     ensures encoded { C.encoded_count counter.new ≡ C.encoded_count counter.old + 1 }
     ensures parsed { C.parsed_count counter.new ≡ C.parsed_count counter.old }

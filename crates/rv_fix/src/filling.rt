@@ -6,7 +6,7 @@ ghost use Rattle.rv_stmt.specs.Readings.{and_then};
 ghost use Rattle.rv_fix.specs.Filling.{unless_fault, limited, with_value, with_source, with_number, filled};
 ghost use Rattle.rv_fix.specs.Reports.{ranged, made_of};
 
-use crate::displacement::signed_word;
+use crate::displacements::signed_word;
 use crate::reports::{at_span, ranged, value_at};
 use crate::values::Entry;
 use rv_code::Fields;

@@ -1,6 +1,6 @@
 //! What holds of the definitions.
 
-ghost use Rattle.std.specs.Prelude.{◌≡◌, ℕ, List, ◌∷◌, false, length, Ok};
+ghost use Rattle.std.specs.Prelude.{◌≡◌, ◌≤◌, ◌^◌, ℕ, Bool, List, ◌∷◌, false, length, Ok};
 ghost use Rattle.rv_ops.specs.Table.{shape_of, limits_of};
 ghost use Rattle.rv_code.specs.declared.instruction.Fields.{Fields};
 ghost use Rattle.rv_stmt.specs.declared.directive.DataContent.{DataContent};
@@ -8,10 +8,14 @@ ghost use Rattle.rv_stmt.specs.declared.operand.Operand.{Operand};
 ghost use Rattle.rv_stmt.specs.declared.statement.Instruction.{Instruction};
 ghost use Rattle.rv_stmt.specs.Data.{data_size};
 ghost use Rattle.rv_stmt.specs.Expansion.{expansion_of, instructions_of, is_constant_load, size_of_instructions};
-ghost use Rattle.rv_stmt.specs.Statement.{operands_of_content};
-ghost use Rattle.rv_fix.specs.Code.{code_of_instruction, code_of_data, code_of_fill};
+ghost use Rattle.rv_stmt.specs.declared.statement.Body.{Body};
+ghost use Rattle.rv_stmt.specs.Statement.{operands_of_content, data_size_of};
+ghost use Rattle.rv_layout.specs.declared.measured.Measured.{Measured};
+ghost use Rattle.rv_fix.specs.Code.{code_of_instruction, code_of_data, code_of_fill, code_of};
 ghost use Rattle.rv_fix.specs.Data.{fill_count};
 ghost use Rattle.rv_fix.specs.Filling.{filled};
+ghost use Rattle.rv_fix.specs.Limits.{is_alignment};
+ghost use Rattle.rv_fix.specs.Padding.{padding};
 ghost use Rattle.rv_fix.specs.Values.{Entry};
 
 use rv_stmt::values_keep_sizes;
@@ -32,3 +36,11 @@ pub fn faults_keep_sizes()
 {
     values_keep_sizes();
 }
+
+/// The code of a line that is no alignment has at most 65,536 bytes, whatever values its operands have, if its data have at
+/// most so many. Padding has as many bytes as it is made with.
+pub fn codes_are_limited()
+    ensures code { (shape : Measured) (b : Body) (es : List Entry) → data_size_of b ≤ 2 ^ 16 → is_alignment b ≡ false
+        → length (code_of shape b es).payload ≤ 2 ^ 16 }
+    ensures padding { (in_text : Bool) (n : ℕ) → length (padding in_text n) ≡ n }
+{}

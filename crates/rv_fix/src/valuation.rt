@@ -6,7 +6,7 @@ ghost use Rattle.rv_layout.specs.Shapes.{exponent_by_role};
 ghost use Rattle.rv_fix.specs.Values.{given_to, operand_value, bytes_to_alignment, counted_from, entry_of, operand_values_of};
 
 use crate::constants::ForConstants;
-use crate::displacement::displacement;
+use crate::displacements::displacement;
 use crate::error::FixError;
 use crate::values::{Entry, Values};
 use rv_expr::{Names, value};
@@ -163,7 +163,7 @@ pub fn operand_values<N: Names, C: Count>(
     address: u32,
     counter: &mut C,
 ) -> Result<Values, FixError>
-    requires { C.valued_count counter.old ≤ 2 ^ 63 }
+    requires { C.valued_count counter.old + length (operands_of stmt.now.body) < 2 ^ 64 }
     ensures values { IfOk result (λ v. v ≡ operand_values_of (N.environment names.now address) address stmt.now.body) }
     ensures least { C.valued_count counter.old ≤ C.valued_count counter.new }
     ensures most { C.valued_count counter.new ≤ C.valued_count counter.old + length (operands_of stmt.now.body) }

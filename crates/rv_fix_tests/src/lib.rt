@@ -2,6 +2,7 @@
 //! and the values of operands with worked examples.
 #![tactic(auto)]
 
+pub mod code_text;
 #[cfg(test)]
 mod codes;
 #[cfg(test)]

@@ -1,6 +1,6 @@
 //! Codes made from their parts, and when two are the same.
 
-use crate::codes::text_of;
+use crate::code_text::text_of;
 use rv_fix::{Coded, assemble_at};
 use rv_text::{Fault, FaultNumber, Span};
 use std::alloc::Global;

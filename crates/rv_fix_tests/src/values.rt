@@ -2,7 +2,7 @@
 
 ghost use Rattle.std.specs.Prelude.{Ok, pos};
 
-use crate::codes::text_of;
+use crate::code_text::text_of;
 use rv_expr::{Direction, LabelReference, Names, ValueFault};
 use rv_fix::{Coded, Values, encode_line, operand_values};
 use rv_stmt::{Stmt, read_line};

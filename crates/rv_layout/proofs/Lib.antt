@@ -1,6 +1,4 @@
 pub mod AdvanceRows
-pub mod BaseBounds
-pub mod Exact
 pub mod Limited
 pub mod ShapeExamples
 mod Examples

@@ -1,6 +1,6 @@
 //! The operands that have to be constants.
 
-ghost use Rattle.std.specs.Prelude.{◌≡◌, ◌≤◌, ◌+◌, ◌^◌, Some, None, IfSome};
+ghost use Rattle.std.specs.Prelude.{◌≡◌, ◌-◌, ◌<◌, ◌≤◌, ◌+◌, ◌^◌, Some, None, IfSome};
 ghost use Rattle.rv_layout.specs.Shapes.{constants, is_size, size_operand, value_of_constant, at_span, constant_of_operand};
 
 use crate::consts::Consts;
@@ -73,8 +73,9 @@ fn value_of_constant<C: Consts, N: Count>(
     consts: &C,
     count: &mut N,
 ) -> Result<i64, ValueFault>
-    requires { N.valued_count count.old ≤ 2 ^ 63 }
+    requires { N.valued_count count.old < 2 ^ 64 - 1 }
     ensures value { result ≡ value_of_constant (constants (C.constant_of consts.now)) operand.now }
+    ensures least { N.valued_count count.old ≤ N.valued_count count.new }
     ensures valued { N.valued_count count.new ≤ N.valued_count count.old + 1 }
     ensures parsed { N.parsed_count count.new ≡ N.parsed_count count.old }
     ensures encoded { N.encoded_count count.new ≡ N.encoded_count count.old }
@@ -104,8 +105,9 @@ pub(crate) fn constant_of_operand<C: Consts, N: Count>(
     consts: &C,
     count: &mut N,
 ) -> Result<i64, Fault>
-    requires { N.valued_count count.old ≤ 2 ^ 63 }
+    requires { N.valued_count count.old < 2 ^ 64 - 1 }
     ensures value { result ≡ constant_of_operand (constants (C.constant_of consts.now)) operand.now }
+    ensures least { N.valued_count count.old ≤ N.valued_count count.new }
     ensures valued { N.valued_count count.new ≤ N.valued_count count.old + 1 }
     ensures parsed { N.parsed_count count.new ≡ N.parsed_count count.old }
     ensures encoded { N.encoded_count count.new ≡ N.encoded_count count.old }

@@ -1,6 +1,6 @@
 //! The shapes of lines.
 
-ghost use Rattle.std.specs.Prelude.{◌≡◌, ◌≤◌, ◌+◌, ◌^◌};
+ghost use Rattle.std.specs.Prelude.{◌≡◌, ◌-◌, ◌<◌, ◌≤◌, ◌+◌, ◌^◌};
 ghost use Rattle.rv_stmt.specs.Statement.{data_size_of};
 ghost use Rattle.rv_layout.specs.Shapes.{constants, size_operand, bytes_or_range, align_or_range, shape_of_instructions, shape_of_fill, shape_of_alignment, shape_of, count_of_operand, size_operands};
 
@@ -40,8 +40,9 @@ fn shape_of_instructions<C: Consts, N: Count>(
     consts: &C,
     count: &mut N,
 ) -> Measured
-    requires { N.valued_count count.old ≤ 2 ^ 63 }
+    requires { N.valued_count count.old < 2 ^ 64 - 1 }
     ensures shape { result ≡ shape_of_instructions (constants (C.constant_of consts.now)) instruction.now (size_operand instruction.now.operands) }
+    ensures least { N.valued_count count.old ≤ N.valued_count count.new }
     ensures valued { N.valued_count count.new ≤ N.valued_count count.old + count_of_operand (size_operand instruction.now.operands) }
     ensures parsed { N.parsed_count count.new ≡ N.parsed_count count.old }
     ensures encoded { N.encoded_count count.new ≡ N.encoded_count count.old }
@@ -57,8 +58,9 @@ fn shape_of_instructions<C: Consts, N: Count>(
 
 // The shape of equal bytes.
 fn shape_of_fill<C: Consts, N: Count>(directive: &Directive, consts: &C, count: &mut N) -> Measured
-    requires { N.valued_count count.old ≤ 2 ^ 63 }
+    requires { N.valued_count count.old < 2 ^ 64 - 1 }
     ensures shape { result ≡ shape_of_fill (constants (C.constant_of consts.now)) (size_operand directive.now.operands) }
+    ensures least { N.valued_count count.old ≤ N.valued_count count.new }
     ensures valued { N.valued_count count.new ≤ N.valued_count count.old + count_of_operand (size_operand directive.now.operands) }
     ensures parsed { N.parsed_count count.new ≡ N.parsed_count count.old }
     ensures encoded { N.encoded_count count.new ≡ N.encoded_count count.old }
@@ -78,8 +80,9 @@ fn shape_of_alignment<C: Consts, N: Count>(
     consts: &C,
     count: &mut N,
 ) -> Measured
-    requires { N.valued_count count.old ≤ 2 ^ 63 }
+    requires { N.valued_count count.old < 2 ^ 64 - 1 }
     ensures shape { result ≡ shape_of_alignment (constants (C.constant_of consts.now)) (size_operand directive.now.operands) }
+    ensures least { N.valued_count count.old ≤ N.valued_count count.new }
     ensures valued { N.valued_count count.new ≤ N.valued_count count.old + count_of_operand (size_operand directive.now.operands) }
     ensures parsed { N.parsed_count count.new ≡ N.parsed_count count.old }
     ensures encoded { N.encoded_count count.new ≡ N.encoded_count count.old }
@@ -98,8 +101,9 @@ fn shape_of_alignment<C: Consts, N: Count>(
 /// where there is none.
 pub fn measure<C: Consts, N: Count>(stmt: &Stmt, consts: &C, count: &mut N) -> Measured
     requires data { data_size_of stmt.now.body ≤ 2 ^ 16 }
-    requires counts { N.valued_count count.old ≤ 2 ^ 63 }
+    requires counts { N.valued_count count.old < 2 ^ 64 - 1 }
     ensures shape { result ≡ shape_of (C.constant_of consts.now) stmt.now.body }
+    ensures least { N.valued_count count.old ≤ N.valued_count count.new }
     ensures valued { N.valued_count count.new ≤ N.valued_count count.old + size_operands stmt.now.body }
     ensures parsed { N.parsed_count count.new ≡ N.parsed_count count.old }
     ensures encoded { N.encoded_count count.new ≡ N.encoded_count count.old }

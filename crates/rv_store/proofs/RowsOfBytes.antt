@@ -1,8 +1,8 @@
 -- Sixteen bytes at a time, and the rows that they make.
 use Rattle.std.proofs.Common.{◌≡◌, ℕ, zero, suc, ◌+◌, ◌-◌, ◌*◌, ◌<◌, ◌≤◌, List, [], ◌++◌, length, take, drop, refl, sym, ap, ◌∙◌, arith, append_assoc, add-one}
-use Rattle.std.proofs.lemmas.List.{take_all, drop_all, append-nil, drop-drop}
+use Rattle.std.proofs.lemmas.List.{take_all, drop_all, append-nil, drop-drop, length-take, length-drop}
 use Rattle.std.proofs.Math.Seq.{take-append_seam, drop-append_seam}
-use Rattle.std.specs.Prelude.{Option}
+use Rattle.std.specs.Prelude.{Option, min}
 use Rattle.rv_text.specs.Streams.{WritesPrefix}
 use Rattle.rv_text.specs.Blocks.{Waits}
 use Rattle.rv_text.specs.BlockLaws.{waits_then, waits_lost, lost_first}
@@ -69,3 +69,49 @@ rows_gathered start bytes row k t0 t1 t2 p0 p1 p2 e a b =
 pub all_rows : (start : ℕ) (bytes : List ℕ) (k : ℕ) (t0 t1 : Option (List ℕ)) (p0 p1 : List ℕ) → k ≡ row_count (length bytes) → Waits t0 p0 (first_rows start bytes k) t1 p1 → Waits t0 p0 (byte_rows start bytes) t1 p1
 unfolding byte_rows
 all_rows start bytes k t0 t1 p0 p1 e a = rw e at a
+
+-- Some rows are gathered, whose bytes come first; the next row is taken, and the others are left.
+pub record Gathered (start : ℕ) (bytes : List ℕ) (t0 : Option (List ℕ)) (p0 : List ℕ) (t1 : Option (List ℕ)) (p1 : List ℕ) (address : ℕ) (row left : List ℕ) : Type 0 where
+  pub count : ℕ
+  pub place : address ≡ start + 16 * count
+  pub taken : row ≡ take 16 (drop (16 * count) bytes)
+  pub others : left ≡ drop (16 * (count + 1)) bytes
+  pub few : 16 * count ≤ length bytes + 15
+  pub waits : Waits t0 p0 (first_rows start bytes count) t1 p1
+
+-- a row with bytes begins before the end
+more_rows : (bytes row : List ℕ) (k : ℕ) → row ≡ take 16 (drop (16 * k) bytes) → 0 < length row → 16 * k < length bytes
+more_rows bytes row k e some =
+    let size : length row ≡ min 16 (length bytes - 16 * k) =
+    ap length e ∙ length-take 16 (drop (16 * k) bytes) ∙ ap (min 16) (length-drop (16 * k) bytes) in
+    omega (arith, size, some)
+
+-- a row without bytes comes after the end
+no_more_rows : (bytes row : List ℕ) (k : ℕ) → row ≡ take 16 (drop (16 * k) bytes) → length row ≡ 0 → length bytes ≤ 16 * k
+no_more_rows bytes row k e none =
+    let size : length row ≡ min 16 (length bytes - 16 * k) =
+    ap length e ∙ length-take 16 (drop (16 * k) bytes) ∙ ap (min 16) (length-drop (16 * k) bytes) in
+    omega (arith, size, none)
+
+-- a write fails within the row in hand
+pub gathered_lost : (start : ℕ) (bytes : List ℕ) (t0 t1 t2 : Option (List ℕ)) (p0 p1 : List ℕ) (address : ℕ) (row left : List ℕ) → Gathered start bytes t0 p0 t1 p1 address row left → 0 < length row → WritesPrefix t1 (p1 ++ byte_row address row) t2 → WritesPrefix t0 (p0 ++ byte_rows start bytes) t2
+gathered_lost start bytes t0 t1 t2 p0 p1 address row left g some w =
+    let before = more_rows bytes row g.count g.taken some in
+    prefix_of_rows start bytes row g.count t0 t1 t2 p0 p1 (omega (arith, before)) g.taken g.waits (rw g.place at w)
+
+-- the row in hand is gathered
+pub gathered_more : (start : ℕ) (bytes : List ℕ) (t0 t1 t2 : Option (List ℕ)) (p0 p1 p2 : List ℕ) (address : ℕ) (row left next rest : List ℕ) → Gathered start bytes t0 p0 t1 p1 address row left → 0 < length row → Waits t1 p1 (byte_row address row) t2 p2 → next ≡ take 16 left → rest ≡ drop 16 left → Gathered start bytes t0 p0 t2 p2 (address + 16) next rest
+gathered_more start bytes t0 t1 t2 p0 p1 p2 address row left next rest g some w n r = record {
+  count = g.count + 1;
+  place = omega (arith, g.place);
+  taken = n ∙ ap (take 16) g.others;
+  others = rest_of_rows (g.count + 1) bytes left rest g.others r;
+  few = omega (arith, more_rows bytes row g.count g.taken some);
+  waits = rows_gathered start bytes row g.count t0 t1 t2 p0 p1 p2 g.taken g.waits (rw g.place at w);
+}
+
+-- no row is left
+pub gathered_all : (start : ℕ) (bytes : List ℕ) (t0 t1 : Option (List ℕ)) (p0 p1 : List ℕ) (address : ℕ) (row left : List ℕ) → Gathered start bytes t0 p0 t1 p1 address row left → length row ≡ 0 → Waits t0 p0 (byte_rows start bytes) t1 p1
+gathered_all start bytes t0 t1 p0 p1 address row left g none =
+    let past = no_more_rows bytes row g.count g.taken none in
+    all_rows start bytes g.count t0 t1 p0 p1 (omega (arith, past, g.few)) g.waits

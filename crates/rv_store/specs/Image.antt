@@ -1,10 +1,13 @@
 -- The text of an image: for each section a row with its name, its base and its size, and after it the rows of its
 -- bytes, sixteen to a row.
-use Rattle.std.specs.Prelude.{ℕ, zero, suc, ◌+◌, ◌/◌, ◌*◌, List, [], ◌++◌, length, take, drop, codes, decimal}
+use Rattle.std.specs.Prelude.{ℕ, zero, suc, ◌+◌, ◌/◌, ◌*◌, ◌==◌, Bool, true, false, List, [], ◌∷◌, ◌++◌, length, take, drop, slice_index_or, codes, decimal, if◌then◌else◌}
 use Rattle.std.specs.List.{flat_map}
 use Rattle.rv_text.specs.Rows.{hex}
+use Rattle.rv_layout.specs.Sections.{sections, section_number}
+use Rattle.rv_store.specs.Codes.{code_at}
+use Rattle.rv_store.specs.Layout.{section_at, section_base_at, section_end_at}
+use Rattle.rv_store.specs.Program.{Program, program_of}
 use Rattle.rv_store.specs.Text.{Text}
-use Rattle.rv_store.specs.LineBytes.{bytes_of_line}
 
 -- a byte in a row: a space and its digits
 abbrev pub byte_text : ℕ → List ℕ
@@ -33,27 +36,44 @@ unfoldable pub section_row : List ℕ → ℕ → ℕ → List ℕ
 section_row name base size =
     name ++ (codes " 0x" ++ (hex 8 base ++ (codes " " ++ (decimal size ++ codes "\n"))))
 
--- the least multiple of 4096 not below the place, where the next section begins
-abbrev pub next_base : ℕ → ℕ
-next_base place = (place + 4095) / 4096 * 4096
+-- the sections in the order of their numbers: the name of each, and whether its bytes are shown
+unfoldable pub section_rows : List (List ℕ × Bool)
+section_rows = (codes ".text", true) ∷ (codes ".rodata", true) ∷ (codes ".data", true) ∷ (codes ".bss", false) ∷ []
 
--- `.text` with its bytes
-unfoldable pub text_section : ℕ → List ℕ → List ℕ
-text_section base bytes = section_row (codes ".text") base (length bytes) ++ byte_rows base bytes
+unfoldable pub section_name : (t : ℕ) → List ℕ
+section_name t = (slice_index_or section_rows t ([], false)).0
 
--- the sections after `.text`
-unfoldable pub empty_sections : ℕ → List ℕ
-empty_sections base =
-    section_row (codes ".rodata") base 0 ++ (section_row (codes ".data") base 0 ++ section_row (codes ".bss") base 0)
+unfoldable pub shows_bytes : (t : ℕ) → Bool
+shows_bytes t = (slice_index_or section_rows t ([], false)).1
 
--- All lines are in `.text`, so the other sections are empty.
-unfoldable pub image_of : ℕ → List ℕ → List ℕ
-image_of base bytes = text_section base bytes ++ empty_sections (next_base (base + length bytes))
+-- section number t with its base, the offset at which it ends, and its bytes
+unfoldable pub section_text : (t base end : ℕ) → List ℕ → List ℕ
+section_text t base end bytes =
+    section_row (section_name t) base end ++ (if shows_bytes t then byte_rows base bytes else [])
 
--- the bytes of all lines, joined
-abbrev pub bytes_of_lines : List (List ℕ) → List ℕ
-bytes_of_lines lines = flat_map bytes_of_line lines
+-- the first sections, where each has this base, this end and these bytes
+abbrev pub first_sections : (base end : ℕ → ℕ) → (bytes : ℕ → List ℕ) → (n : ℕ) → List ℕ
+first_sections base end bytes zero = []
+first_sections base end bytes (suc t) =
+    first_sections base end bytes t ++ section_text t (base t) (end t) (bytes t)
+
+unfoldable pub image_of : (base end : ℕ → ℕ) → (bytes : ℕ → List ℕ) → List ℕ
+image_of base end bytes = first_sections base end bytes sections
+
+-- the bytes that the first k lines have in section number t
+abbrev pub section_bytes : (base : ℕ) → Program → (t k : ℕ) → List ℕ
+section_bytes base program t zero = []
+section_bytes base program t (suc k) =
+    section_bytes base program t k
+    ++ (if section_number (section_at program (suc k)) == t then (code_at base program (suc k)).payload else [])
+
+abbrev pub image_of_program : (base : ℕ) → Program → List ℕ
+image_of_program base program =
+    image_of
+    (section_base_at base program)
+    (section_end_at program)
+    (λ t. section_bytes base program t (length program))
 
 -- the image of a text
 unfoldable pub image_text : Text → List ℕ
-image_text text = image_of text.base (bytes_of_lines text.lines)
+image_text text = image_of_program text.base (program_of text.lines)

@@ -1,13 +1,17 @@
--- What is kept beside the lines of a text.
-use Rattle.std.specs.Prelude.{◌≡◌, ℕ, ◌≤◌, true, List, length, map, Option}
+-- What a store holds of a text.
+use Rattle.std.specs.Prelude.{◌≡◌, ℕ, ◌≤◌, true, List, length}
 use Rattle.std.specs.List.{AllPass}
-use Rattle.rv_code.specs.declared.word.Word.{Word}
+use Rattle.rv_store.specs.declared.item.Item.{Item}
+use Rattle.rv_store.specs.declared.survey.Survey.{Survey}
+use Rattle.rv_store.specs.Items.{AreItems}
+use Rattle.rv_store.specs.Program.{program_of}
+use Rattle.rv_store.specs.Surveys.{IsSurvey}
 use Rattle.rv_store.specs.Text.{is_base, is_line}
-use Rattle.rv_store.specs.LineBytes.{word_of_line}
 
--- the base is a right one, each line is one and has its word, if it has one, and there are few lines
-pub record IsStored (base : ℕ) (lines : List (List ℕ)) (words : List (Option Word)) : Type 0 where
+-- the base is a right one, the lines are few and each is one, and what is kept is what the definitions give for them
+pub record IsStored (base : ℕ) (lines names : List (List ℕ)) (survey : Survey) (items : List Item) : Type 0 where
   pub based : is_base base ≡ true
   pub lined : AllPass is_line lines
-  pub coded : words ≡ map word_of_line lines
   pub few : length lines ≤ 16384
+  pub surveyed : IsSurvey base (program_of lines) names survey
+  pub assembled : AreItems base lines items

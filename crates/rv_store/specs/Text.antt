@@ -1,5 +1,5 @@
 -- A text as a list of lines, what an edit makes of it, and when an edit is refused. The limits are the project's own.
-use Rattle.std.specs.Prelude.{◌≡◌, ℕ, ◌+◌, ◌-◌, ◌%◌, Bool, not, ◌&&◌, ◌||◌, ◌==◌, nat_lt, nat_le, List, length, insert, remove, Option, Some, None, Result, Ok, Err, unwrap_or, if◌then◌else◌}
+use Rattle.std.specs.Prelude.{◌≡◌, ℕ, ◌+◌, ◌-◌, ◌%◌, Bool, not, ◌&&◌, ◌||◌, ◌==◌, nat_lt, nat_le, List, length, insert, remove, set, Option, Some, None, Result, Ok, Err, unwrap_or, if◌then◌else◌}
 use Rattle.std.specs.List.{list_any}
 use Rattle.rv_store.specs.declared.edit_error.EditError.{EditError}
 use Rattle.rv_store.specs.declared.edit_error.EditError.TheVariants.{Base, Place, Line, TooMany, Memory}
@@ -17,6 +17,7 @@ is_base base = base % 4096 == 0 && nat_le base 0x80000000
 pub data Edit : Type 0 where
   Insert : (place : ℕ) (line : List ℕ) → Edit
   Delete : (place : ℕ) → Edit
+  Replace : (place : ℕ) (line : List ℕ) → Edit
 
 -- a line has at most 1,000 bytes, and none of them is a line break
 abbrev pub is_line : List ℕ → Bool
@@ -29,11 +30,15 @@ refusal_of lines (Insert place line) =
     else (if not (is_line line) then Some Line
     else (if nat_le 16384 (length lines) then Some TooMany else None))
 refusal_of lines (Delete place) = if place == 0 || nat_lt (length lines) place then Some Place else None
+refusal_of lines (Replace place line) =
+    if place == 0 || nat_lt (length lines) place then Some Place
+    else (if not (is_line line) then Some Line else None)
 
--- the lines with one put in or taken out
+-- the lines with one put in, taken out or put in the place of another
 abbrev pub lines_after : List (List ℕ) → Edit → List (List ℕ)
 lines_after lines (Insert place line) = insert lines (place - 1) line
 lines_after lines (Delete place) = remove lines (place - 1)
+lines_after lines (Replace place line) = set lines (place - 1) line
 
 -- the text after an edit that is not refused
 abbrev pub text_after : Text → Edit → Text
@@ -52,3 +57,7 @@ refusal_number Memory = 5
 abbrev pub Edits : {A : Type 0} → Text → Edit → Result A EditError → Text → Type 0
 Edits old edit (Ok _) new = (refusal_of old.lines edit ≡ None) × (new ≡ text_after old edit)
 Edits old edit (Err e) new = (e ≡ unwrap_or (refusal_of old.lines edit) Memory) × (new ≡ old)
+
+-- what is asked of line k of a text: nothing where there is no such line
+abbrev pub at_line : {A : Type 0} → List (List ℕ) → (k : ℕ) → A → Option A
+at_line lines k answer = if nat_le 1 k && nat_le k (length lines) then Some answer else None

@@ -4,6 +4,8 @@ ghost use Rattle.std.specs.Prelude.{◌≡◌};
 ghost use Rattle.rv_store.specs.declared.edit_error.EditError.TheVariants.{Memory};
 ghost use Rattle.rv_store.specs.Text.{refusal_number};
 
+use rv_fix::FixError;
+use rv_stmt::StmtError;
 use rv_text::TextError;
 use std::alloc::{AllocError, AllocFailed};
 use thiserror::Error;
@@ -63,6 +65,22 @@ impl From<TextError> for EditError {
     ghost from_gives = { λ _ e. e ≡ Memory };
 
     fn from(_: TextError) -> Self {
+        EditError::Memory
+    }
+}
+
+impl From<StmtError> for EditError {
+    ghost from_gives = { λ _ e. e ≡ Memory };
+
+    fn from(_: StmtError) -> Self {
+        EditError::Memory
+    }
+}
+
+impl From<FixError> for EditError {
+    ghost from_gives = { λ _ e. e ≡ Memory };
+
+    fn from(_: FixError) -> Self {
         EditError::Memory
     }
 }

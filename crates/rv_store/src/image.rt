@@ -1,17 +1,29 @@
 //! The image of a text.
 
-ghost use Rattle.std.specs.Prelude.{◌≡◌, ◌-◌, ◌+◌, ◌^◌, ◌<◌, ◌≤◌, length};
-ghost use Rattle.std.specs.List.{flat_map};
+ghost use Rattle.std.specs.Prelude.{◌≡◌, ℕ, List, ◌-◌, ◌+◌, ◌^◌, ◌<◌, ◌≤◌, length};
+ghost use Rattle.std.specs.List.{AllPass};
 ghost use Rattle.rv_text.specs.Blocks.{Gathers};
 ghost use Rattle.rv_text.specs.Streams.{failures_after, Writes};
-ghost use Rattle.rv_store.specs.LineBytes.{bytes_of_code};
+ghost use Rattle.rv_layout.specs.declared.effect.Effect.{Effect};
+ghost use Rattle.rv_layout.specs.Effects.{layout_of, offset_reached, base_by_layout};
+ghost use Rattle.rv_layout.specs.Places.{sum_below, IsBase};
+ghost use Rattle.rv_layout.specs.Sections.{sections};
+ghost use Rattle.rv_store.specs.declared.item.Item.{Item};
+ghost use Rattle.rv_store.specs.declared.places.LinePlace.{LinePlace};
 ghost use Rattle.rv_store.specs.declared.limits.TheConstants.{MAX_LINES};
-ghost use Rattle.rv_store.specs.Image.{byte_row, byte_rows, section_row, text_section, empty_sections, image_of, image_text};
+ghost use Rattle.rv_store.specs.Image.{byte_row, byte_rows, section_row, section_name, shows_bytes, section_text, image_of, image_text};
+ghost use Rattle.rv_store.specs.SectionCodes.{lines_of, codes_of, bytes_in_section, AreCodes, IsKept};
+ghost use Rattle.rv_store.specs.Layout.{shapes_of};
+ghost use Rattle.rv_store.specs.Program.{program_of};
+ghost use Rattle.rv_store.specs.Rows.{ArePlaces};
+ghost use Rattle.rv_store.specs.Text.{is_line};
 
-use crate::store::Store;
-use crate::word_bytes::WordBytes;
-use crate::words::total_size;
-use rv_code::Word;
+use crate::item::Item;
+use crate::places::LinePlace;
+use crate::section_bytes::SectionBytes;
+use rv_fix::codes_are_limited;
+use rv_layout::{Layout, SECTIONS, bases, layouts_tell_places, shapes_are_limited};
+use rv_stmt::data_are_few;
 use rv_text::{Failed, OutputBlock, OutputRow, Sink};
 use thiserror::Error;
 
@@ -40,8 +52,27 @@ impl From<Failed> for ListError {
     }
 }
 
+// The sections in the order of their numbers. The columns: the name in the image, and whether the bytes are shown there.
+const SECTION_ROWS: [(&str, bool); SECTIONS] = [
+    (".text", true),
+    (".rodata", true),
+    (".data", true),
+    (".bss", false),
+];
+
+// The name of a section, and whether its bytes are shown.
+#[tactic(auto, unfolding(crate::specs::Image::section_rows, crate::specs::Image::section_name, crate::specs::Image::shows_bytes))]
+fn section_head(section: usize) -> (&'static str, bool)
+    requires { section < sections }
+    ensures name { result.0.now ≡ section_name section }
+    ensures short { length result.0.now ≤ 10 }
+    ensures shown { result.1 ≡ shows_bytes section }
+{
+    SECTION_ROWS[section]
+}
+
 // Adds a row of up to sixteen bytes.
-fn push_byte_row<W: Sink>(
+pub(crate) fn push_byte_row<W: Sink>(
     block: &mut OutputBlock,
     sink: &mut W,
     address: u32,
@@ -63,31 +94,31 @@ fn push_byte_row<W: Sink>(
     block.push(sink, row.bytes())
 }
 
-// Adds the rows of the words' bytes, from the address `start` on.
+// Adds the rows of the bytes, from the address `start` on.
 fn push_byte_rows<W: Sink>(
     block: &mut OutputBlock,
     sink: &mut W,
     start: u32,
-    size: u32,
-    words: &[Option<Word>],
+    mut bytes: SectionBytes<'_>,
 ) -> Result<(), Failed>
-    requires size { size ≡ length (flat_map bytes_of_code words.now) }
-    requires place { start + size ≤ 2 ^ 31 + 2 ^ 30 }
+    requires place { start + length bytes ≤ 2 ^ 32 - 16 }
     requires failures { W.failures sink.old < 2 ^ 64 - 1 }
-    ensures text { Gathers (W.taken sink.old) block.old (byte_rows start (flat_map bytes_of_code words.now)) result (W.taken sink.new) block.new }
+    ensures text { Gathers (W.taken sink.old) block.old (byte_rows start bytes.entry) result (W.taken sink.new) block.new }
     ensures count { W.failures sink.new ≡ failures_after (W.failures sink.old) result }
 {
-    let mut bytes = WordBytes::new(words);
-    for k in 0..size.div_ceil(16) {
-        let row = bytes.next_row();
-        push_byte_row(block, sink, start + 16 * k, row.as_slice())?;
+    let mut address = start;
+    let mut row = bytes.next_row();
+    'rows: while !row.is_empty() {
+        push_byte_row(block, sink, address, row.as_slice())?;
+        address += 16;
+        row = bytes.next_row();
     }
     Ok(())
 }
 
 // Adds the row of a section.
 #[tactic(auto, unfolding(crate::specs::Image::section_row))]
-fn push_section_row<W: Sink>(
+pub(crate) fn push_section_row<W: Sink>(
     block: &mut OutputBlock,
     sink: &mut W,
     name: &[u8],
@@ -109,65 +140,95 @@ fn push_section_row<W: Sink>(
     block.push(sink, row.bytes())
 }
 
-// Adds `.text`: its row and the rows of its bytes.
-fn push_text_section<W: Sink>(
+// Adds a section: its row, and where they are shown the rows of its bytes.
+fn push_section<W: Sink>(
     block: &mut OutputBlock,
     sink: &mut W,
+    section: usize,
     base: u32,
     size: u32,
-    words: &[Option<Word>],
+    bytes: SectionBytes<'_>,
 ) -> Result<(), Failed>
-    requires size { size ≡ length (flat_map bytes_of_code words.now) }
-    requires place { base + size ≤ 2 ^ 31 + 2 ^ 30 }
+    requires section { section < sections }
+    requires place { base + length bytes ≤ 2 ^ 32 - 16 }
     requires failures { W.failures sink.old < 2 ^ 64 - 1 }
-    ensures text { Gathers (W.taken sink.old) block.old (text_section base (flat_map bytes_of_code words.now)) result (W.taken sink.new) block.new }
+    ensures text { Gathers (W.taken sink.old) block.old (section_text section base size bytes.entry) result (W.taken sink.new) block.new }
     ensures count { W.failures sink.new ≡ failures_after (W.failures sink.old) result }
 {
-    push_section_row(block, sink, b".text", base, size)?;
-    push_byte_rows(block, sink, base, size, words)
+    let (name, shown) = section_head(section);
+    push_section_row(block, sink, name.as_bytes(), base, size)?;
+    if shown {
+        push_byte_rows(block, sink, base, bytes)
+    } else {
+        Ok(())
+    }
 }
 
-// Adds the sections after `.text`, which are empty.
-fn push_empty_sections<W: Sink>(
+// Adds all sections. `total` is the layout of all lines.
+fn push_image<W: Sink>(
     block: &mut OutputBlock,
     sink: &mut W,
     base: u32,
+    total: &Layout,
+    items: &[Item],
+    places: &[LinePlace],
 ) -> Result<(), Failed>
-    requires { W.failures sink.old < 2 ^ 64 - 1 }
-    ensures text { Gathers (W.taken sink.old) block.old (empty_sections base) result (W.taken sink.new) block.new }
-    ensures count { W.failures sink.new ≡ failures_after (W.failures sink.old) result }
-{
-    push_section_row(block, sink, b".rodata", base, 0)?;
-    push_section_row(block, sink, b".data", base, 0)?;
-    push_section_row(block, sink, b".bss", base, 0)
-}
-
-// Adds the image of the words' bytes.
-fn push_sections<W: Sink>(
-    block: &mut OutputBlock,
-    sink: &mut W,
-    base: u32,
-    words: &[Option<Word>],
-) -> Result<(), Failed>
-    requires base { base ≤ 2 ^ 31 }
-    requires words { length words.now ≤ MAX_LINES }
+    requires base { IsBase base }
+    requires ends { sum_below (offset_reached total.now) sections ≤ 2 ^ 30 }
+    requires within { (t : ℕ) → t < sections → base_by_layout base total.now t + length (bytes_in_section t (codes_of items.now) places.now) ≤ 2 ^ 32 - 16 }
     requires failures { W.failures sink.old < 2 ^ 64 - 1 }
-    ensures text { Gathers (W.taken sink.old) block.old (image_of base (flat_map bytes_of_code words.now)) result (W.taken sink.new) block.new }
+    ensures text { Gathers (W.taken sink.old) block.old
+        (image_of (base_by_layout base total.now) (offset_reached total.now) (λ t. bytes_in_section t (codes_of items.now) places.now))
+        result (W.taken sink.new) block.new }
     ensures count { W.failures sink.new ≡ failures_after (W.failures sink.old) result }
 {
-    let size = total_size(words);
-    push_text_section(block, sink, base, size, words)?;
-    push_empty_sections(block, sink, (base + size + 4095) / 4096 * 4096)
+    let bases = bases(total, base);
+    for section in 0..SECTIONS {
+        let bytes = SectionBytes::new(section, items, places);
+        let size = total.offset(section) as u32;
+        push_section(block, sink, section, bases[section], size, bytes)?;
+    }
+    Ok(())
 }
 
-/// Writes the image of the text, up to the first failure of the writer. Takes no memory.
-pub fn write_image<W: Sink>(store: &Store, sink: &mut W) -> Result<(), ListError>
-    requires { W.failures sink.old < 2 ^ 64 - 1 }
-    ensures text { Writes (W.taken sink.old) (image_text store.now) result (W.taken sink.new) }
+// What is kept of a text gives its image, and the bytes that are shown there have addresses of 32 bits.
+fn kept_gives_image()
+    ensures ends { (base : ℕ) (total : Effect) (items : List Item) (places : List LinePlace) → IsKept base total items places
+        → sum_below (offset_reached total) sections ≤ 2 ^ 30 }
+    ensures within { (base : ℕ) (total : Effect) (items : List Item) (places : List LinePlace) → IsKept base total items places
+        → (t : ℕ) → t < sections → base_by_layout base total t + length (bytes_in_section t (codes_of items) places) ≤ 2 ^ 32 - 16 }
+    ensures image { (base : ℕ) (total : Effect) (items : List Item) (places : List LinePlace) → IsKept base total items places
+        → image_of (base_by_layout base total) (offset_reached total) (λ t. bytes_in_section t (codes_of items) places)
+        ≡ image_text (record { base = base; lines = lines_of items }) }
+{
+    data_are_few();
+    shapes_are_limited();
+    codes_are_limited();
+    layouts_tell_places();
+}
+
+/// Writes the image of a text by its rows, up to the first failure of the writer: `total` is the layout of all lines, `items`
+/// have their codes, and `places` are where they lie. Takes no memory.
+pub(crate) fn write_image_of<W: Sink>(
+    base: u32,
+    total: &Layout,
+    items: &[Item],
+    places: &[LinePlace],
+    sink: &mut W,
+) -> Result<(), ListError>
+    requires base { IsBase base }
+    requires few { length items.now ≤ MAX_LINES }
+    requires lines { AllPass is_line (lines_of items.now) }
+    requires total { total.now ≡ layout_of (shapes_of (program_of (lines_of items.now))) }
+    requires codes { AreCodes base (program_of (lines_of items.now)) (codes_of items.now) }
+    requires places { ArePlaces base (program_of (lines_of items.now)) places.now }
+    requires failures { W.failures sink.old < 2 ^ 64 - 1 }
+    ensures text { Writes (W.taken sink.old) (image_text (record { base = base; lines = lines_of items.now })) result (W.taken sink.new) }
     ensures count { W.failures sink.new ≡ failures_after (W.failures sink.old) result }
 {
+    kept_gives_image();
     let mut block = OutputBlock::new();
-    push_sections(&mut block, sink, store.base(), store.words())?;
+    push_image(&mut block, sink, base, total, items, places)?;
     block.flush(sink)?;
     Ok(())
 }

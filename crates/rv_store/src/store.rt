@@ -1,28 +1,43 @@
 //! The store.
 
-ghost use Rattle.std.specs.Prelude.{◌≡◌, ◌+◌, ◌-◌, ◌^◌, ◌<◌, ◌≤◌, ◌==◌, [], length, map, None, if◌then◌else◌, IfOk, IfErr, IfSome, slice_get, true, false};
+ghost use Rattle.std.specs.Prelude.{◌≡◌, ◌+◌, ◌*◌, ◌-◌, ◌^◌, ◌<◌, ◌≤◌, ◌==◌, [], length, map, insert, None, if◌then◌else◌, IfOk, IfErr, IfSome, OnOk, OnErr, slice_get, true, false};
+ghost use Rattle.std.specs.List.{AllPass};
 ghost use Rattle.std.specs.Option.{option_map};
-ghost use Rattle.rv_store.specs.LineBytes.{word_of_line};
-ghost use Rattle.rv_store.specs.Text.{is_base, is_line, Insert, Delete, refusal_of, Edits};
+ghost use Rattle.rv_text.specs.Streams.{failures_after, Writes};
+ghost use Rattle.rv_store.specs.Codes.{code_at};
+ghost use Rattle.rv_store.specs.Image.{image_text};
+ghost use Rattle.rv_store.specs.Layout.{address_at};
+ghost use Rattle.rv_store.specs.Program.{program_of};
+ghost use Rattle.rv_store.specs.Symbols.{symbol_of};
+ghost use Rattle.rv_store.specs.Text.{is_base, is_line, at_line, Insert, Delete, Replace, Edits};
 
 use crate::base::base_ok;
 use crate::changed::Changed;
+use crate::definition::DefinitionPlace;
 use crate::edit_error::EditError;
+use crate::image::{ListError, write_image_of};
+use crate::item::{Item, renewed_all};
 use crate::limits::MAX_LINES;
-use crate::line_code::word_of_line;
-use crate::words::{words_with, words_without};
-use rv_code::Word;
-use rv_text::{Count, MAX_LINE_LENGTH};
-use std::alloc::Global;
+use crate::line::Line;
+use crate::names::{NameTable, entry_of};
+use crate::refusals::{delete_refused, insert_refused, replace_refused};
+use crate::survey::Survey;
+use crate::symbols::SymValue;
+use crate::text_rows::address_in;
+use rv_expr::ValueFault;
+use rv_fix::Coded;
+use rv_text::{Count, Sink};
+use std::alloc::{AllocError, Global};
 use std::marker::Model;
 
-/// A text, with the word of each line that has one.
+/// A text, line by line, with the code of each line.
 #[derive(Drop)]
 pub struct Store {
     alloc: Global,
     base: u32,
-    lines: Vec<Vec<u8>>,
-    words: Vec<Option<Word>>,
+    names: NameTable,
+    survey: Survey,
+    items: Vec<Item>,
 }
 
 impl Model for Store {
@@ -32,42 +47,29 @@ impl Model for Store {
 
     ghost Value = { Text };
 
-    ghost view = { λ s. record { base = s.base; lines = map (λ v. v.items) s.lines.items } };
+    ghost view = { λ s. record { base = s.base; lines = map (λ i. i.line) s.items.items } };
 
-    ghost invariant = { λ s. IsStored s.base (map (λ v. v.items) s.lines.items) s.words.items };
+    ghost invariant = { λ s. IsStored s.base (map (λ i. i.line) s.items.items) s.names s.survey s.items.items };
 }
 
-// Whether these bytes can be a line.
-fn is_line(bytes: &[u8]) -> bool
-    ensures { result ≡ is_line bytes.now }
+// The lines of the items, in a list with room for one more.
+fn shared_lines(alloc: Global, items: &[Item]) -> Result<Vec<Line>, AllocError>
+    requires { length items.now ≤ MAX_LINES }
+    ensures { IfOk result (λ lines. lines.items ≡ map (λ i. i.line) items.now) }
 {
-    !bytes.contains(&b'\n') && bytes.len() <= MAX_LINE_LENGTH
+    let mut lines = Vec::with_capacity(alloc, items.len() + 1)?;
+    for item in items {
+        lines.push(item.line.share()?)?;
+    }
+    Ok(lines)
 }
 
-// Why a line is not put in, if it isn't.
-fn insert_refused(lines: &[Vec<u8>], k: u32, line: &[u8]) -> Option<EditError>
-    ensures { result ≡ refusal_of (map (λ l. l.items) lines.now) (Insert k line.now) }
+// What a row by lines holds for line number `k`, from 1 on.
+fn of_line<T>(row: &[T], k: u32) -> Option<&T>
+    ensures { option_map (λ x. x.now) result ≡ (if k == 0 then None else slice_get row.now (k - 1)) }
 {
-    if k == 0 || k as usize > lines.len() + 1 {
-        return Some(EditError::Place);
-    }
-    if !is_line(line) {
-        return Some(EditError::Line);
-    }
-    if lines.len() >= MAX_LINES {
-        return Some(EditError::TooMany);
-    }
-    None
-}
-
-// Why a line is not taken out, if it isn't.
-fn delete_refused(lines: &[Vec<u8>], k: u32) -> Option<EditError>
-    ensures { result ≡ refusal_of (map (λ l. l.items) lines.now) (Delete k) }
-{
-    if k == 0 || k as usize > lines.len() {
-        return Some(EditError::Place);
-    }
-    None
+    let at = (k as usize).checked_sub(1)?;
+    row.get(at)
 }
 
 impl Store {
@@ -83,25 +85,10 @@ impl Store {
         Ok(Store {
             alloc,
             base,
-            lines: Vec::new(alloc),
-            words: Vec::new(alloc),
+            names: NameTable::new(alloc),
+            survey: Survey::empty(alloc),
+            items: Vec::new(alloc),
         })
-    }
-
-    /// Where `.text` begins.
-    pub fn base(&self) -> u32
-        ensures value { result ≡ self.now.base }
-        ensures right { is_base result ≡ true }
-    {
-        self.base
-    }
-
-    /// The word of each line that has one.
-    pub(crate) fn words(&self) -> &[Option<Word>]
-        ensures words { result.now ≡ map word_of_line self.now.lines }
-        ensures few { length result.now ≤ MAX_LINES }
-    {
-        self.words.as_slice()
     }
 
     /// How many lines there are.
@@ -109,7 +96,7 @@ impl Store {
         ensures value { result ≡ length self.now.lines }
         ensures few { result ≤ MAX_LINES }
     {
-        self.lines.len()
+        self.items.len()
     }
 
     /// Line number `k`, from 1 on, if there is one: at most `MAX_LINE_LENGTH` bytes, none of them 0x0A.
@@ -117,9 +104,78 @@ impl Store {
         ensures value { option_map (λ l. l.now) result ≡ (if k == 0 then None else slice_get self.now.lines (k - 1)) }
         ensures line { IfSome result (λ l. is_line l.now ≡ true) }
     {
-        let at = (k as usize).checked_sub(1)?;
-        let line = self.lines.get(at)?;
-        Some(line.as_slice())
+        match of_line(&self.items, k) {
+            Some(item) => Some(item.line.text()),
+            None => None,
+        }
+    }
+
+    /// The address of line number `k`, if there is such a line.
+    pub fn address(&self, k: u32) -> Option<u32>
+        ensures { result ≡ at_line self.now.lines k (address_at self.now.base (program_of self.now.lines) k) }
+    {
+        match of_line(&self.survey.places, k) {
+            Some(place) => Some(place.address),
+            None => None,
+        }
+    }
+
+    /// The code of line number `k`, if there is such a line: its bytes, and the fault of its body.
+    pub fn coded(&self, k: u32) -> Option<&Coded>
+        ensures { option_map (λ c. c.now) result ≡ at_line self.now.lines k (code_at self.now.base (program_of self.now.lines) k) }
+    {
+        match of_line(&self.items, k) {
+            Some(item) => Some(&item.code),
+            None => None,
+        }
+    }
+
+    /// What a symbol is, if it is defined: a label with its address, or that of an `.equ` with its value, which a faulty one
+    /// has not.
+    pub fn symbol(&self, name: &[u8]) -> Option<SymValue>
+        ensures { result ≡ symbol_of self.now.base (program_of self.now.lines) name.now }
+    {
+        match entry_of(
+            &self.names,
+            &self.survey.definitions,
+            DefinitionPlace::Nowhere,
+            name,
+        ) {
+            DefinitionPlace::Nowhere => None,
+            DefinitionPlace::Label(line, _) => {
+                Some(SymValue::Label(address_in(&self.survey.places, line)))
+            }
+            DefinitionPlace::Equ(_) => {
+                let value = entry_of(
+                    &self.names,
+                    &self.survey.equ_values,
+                    Err(ValueFault::LaterEqu),
+                    name,
+                );
+                Some(SymValue::Equ(value.ok()))
+            }
+        }
+    }
+
+    // Makes these lines the text. Where there is no memory for that, the text stays.
+    fn assemble<C: Count>(&mut self, lines: &[Line], counter: &mut C) -> Result<(), EditError>
+        requires few { length lines.now ≤ MAX_LINES }
+        requires lines { AllPass is_line lines.now }
+        requires valued { C.valued_count counter.old ≤ 2 ^ 63 }
+        requires encoded { C.encoded_count counter.old ≤ 2 ^ 63 }
+        ensures ok { OnOk result (self.new ≡ record { base = self.old.base; lines = lines.now }) }
+        ensures err { OnErr result (self.new ≡ self.old) }
+        ensures memory { IfErr result (λ e. e ≡ EditError.Memory) }
+        ensures parsed { C.parsed_count counter.new ≡ C.parsed_count counter.old }
+        ensures valued { (C.valued_count counter.old ≤ C.valued_count counter.new) × (C.valued_count counter.new ≤ C.valued_count counter.old + 1004 * length lines.now) }
+        ensures encoded { (C.encoded_count counter.old ≤ C.encoded_count counter.new) × (C.encoded_count counter.new ≤ C.encoded_count counter.old + length lines.now) }
+    {
+        let survey = Survey::of(self.alloc, self.base, lines, &mut self.names, counter)?;
+        let rows = survey.rows(self.base, lines, &self.names);
+        let items = renewed_all(self.alloc, &rows, counter)?;
+        self.survey = survey;
+        self.items = items;
+        Ok(())
     }
 
     /// Makes `line` the line number `k`, from 1 to one more than there are; the lines from `k` on move down by one.
@@ -128,7 +184,6 @@ impl Store {
     /// than `MAX_LINE_LENGTH`, `TooMany` where there are `MAX_LINES` lines, and `Memory`. A refused edit changes nothing.
     ///
     /// The counter's numbers have to be at most 2^63; none of them falls, and less than 2^32 is added to each.
-    #[tactic(auto, using(crate::proofs::Lists::map_insert))]
     pub fn insert<C: Count>(
         &mut self,
         k: u32,
@@ -143,16 +198,14 @@ impl Store {
         ensures valued { (C.valued_count counter.old ≤ C.valued_count counter.new) × (C.valued_count counter.new < C.valued_count counter.old + 2 ^ 32) }
         ensures encoded { (C.encoded_count counter.old ≤ C.encoded_count counter.new) × (C.encoded_count counter.new < C.encoded_count counter.old + 2 ^ 32) }
     {
-        if let Some(e) = insert_refused(&self.lines, k, line) {
+        if let Some(e) = insert_refused(self.items.len(), k, line) {
             return Err(e);
         }
-        let at = k as usize - 1;
         let changed = Changed::of(self.alloc, k)?;
-        let owned = Vec::from_slice(self.alloc, line)?;
-        let word = word_of_line(self.alloc, line, counter)?;
-        let words = words_with(self.alloc, &self.words, at, word)?;
-        self.lines.insert(at, owned)?;
-        self.words = words;
+        let entered = Line::read(self.alloc, line, counter)?;
+        let mut lines = shared_lines(self.alloc, &self.items)?;
+        lines.insert(k as usize - 1, entered)?;
+        self.assemble(&lines, counter)?;
         Ok(changed)
     }
 
@@ -160,7 +213,6 @@ impl Store {
     ///
     /// Refused, in this order, with `Place` where there is no line `k`, and `Memory`. A refused edit changes nothing. The
     /// counter is as for `insert`.
-    #[tactic(auto, using(crate::proofs::Lists::map_remove))]
     pub fn delete<C: Count>(&mut self, k: u32, counter: &mut C) -> Result<Changed, EditError>
         requires parsed { C.parsed_count counter.old ≤ 2 ^ 63 }
         requires valued { C.valued_count counter.old ≤ 2 ^ 63 }
@@ -170,13 +222,56 @@ impl Store {
         ensures valued { (C.valued_count counter.old ≤ C.valued_count counter.new) × (C.valued_count counter.new < C.valued_count counter.old + 2 ^ 32) }
         ensures encoded { (C.encoded_count counter.old ≤ C.encoded_count counter.new) × (C.encoded_count counter.new < C.encoded_count counter.old + 2 ^ 32) }
     {
-        if let Some(e) = delete_refused(&self.lines, k) {
+        if let Some(e) = delete_refused(self.items.len(), k) {
             return Err(e);
         }
-        let at = k as usize - 1;
-        let words = words_without(self.alloc, &self.words, at)?;
-        let _ = self.lines.remove(at);
-        self.words = words;
+        let mut lines = shared_lines(self.alloc, &self.items)?;
+        let _ = lines.remove(k as usize - 1);
+        self.assemble(&lines, counter)?;
         Ok(Changed::none(self.alloc))
     }
+
+    /// Puts `line` in the place of line number `k`, from 1 on.
+    ///
+    /// Refused, in this order, with `Place` where there is no line `k`, `Line` where the line holds 0x0A or is longer than
+    /// `MAX_LINE_LENGTH`, and `Memory`. A refused edit changes nothing. The counter is as for `insert`.
+    pub fn replace<C: Count>(
+        &mut self,
+        k: u32,
+        line: &[u8],
+        counter: &mut C,
+    ) -> Result<Changed, EditError>
+        requires parsed { C.parsed_count counter.old ≤ 2 ^ 63 }
+        requires valued { C.valued_count counter.old ≤ 2 ^ 63 }
+        requires encoded { C.encoded_count counter.old ≤ 2 ^ 63 }
+        ensures edit { Edits self.old (Replace k line.now) result self.new }
+        ensures parsed { (C.parsed_count counter.old ≤ C.parsed_count counter.new) × (C.parsed_count counter.new < C.parsed_count counter.old + 2 ^ 32) }
+        ensures valued { (C.valued_count counter.old ≤ C.valued_count counter.new) × (C.valued_count counter.new < C.valued_count counter.old + 2 ^ 32) }
+        ensures encoded { (C.encoded_count counter.old ≤ C.encoded_count counter.new) × (C.encoded_count counter.new < C.encoded_count counter.old + 2 ^ 32) }
+    {
+        if let Some(e) = replace_refused(self.items.len(), k, line) {
+            return Err(e);
+        }
+        let changed = Changed::of(self.alloc, k)?;
+        let entered = Line::read(self.alloc, line, counter)?;
+        let mut lines = shared_lines(self.alloc, &self.items)?;
+        lines[k as usize - 1] = entered;
+        self.assemble(&lines, counter)?;
+        Ok(changed)
+    }
+}
+
+/// Writes the image of the text, up to the first failure of the writer. Takes no memory.
+pub fn write_image<W: Sink>(store: &Store, sink: &mut W) -> Result<(), ListError>
+    requires { W.failures sink.old < 2 ^ 64 - 1 }
+    ensures text { Writes (W.taken sink.old) (image_text store.now) result (W.taken sink.new) }
+    ensures count { W.failures sink.new ≡ failures_after (W.failures sink.old) result }
+{
+    write_image_of(
+        store.base,
+        &store.survey.total,
+        &store.items,
+        &store.survey.places,
+        sink,
+    )
 }

@@ -1,7 +1,7 @@
-use Rattle.std.proofs.Common.{◌≡◌, ◌+◌, ap, ◌∙◌, arith}
+use Rattle.std.proofs.Common.{◌≡◌, ◌+◌, refl, ap, ◌∙◌, arith}
 use Rattle.std.proofs.lemmas.Result.{err_from_is_err_and}
 use Rattle.std.proofs.lemmas.Grind.{common_steps}
-use Rattle.rv_commands.proofs.OutcomeLemmas.{progress_more, ends_by_failure, ends_beyond, ends_in_chunk, ends_well, ends_in_last}
+use Rattle.rv_commands.proofs.OutcomeLemmas.{progress_start, progress_more, ends_by_failure, ends_beyond, ends_in_chunk, ends_well, ends_in_last}
 use Rattle.rv_commands.proofs.running.run.Goals as goal
 
 pub returns-in_default-read_chunk-clause-err : goal.returns-in_default-read_chunk-clause-err
@@ -50,3 +50,11 @@ pub returns-clause-err : goal.returns-clause-err
 returns-clause-err g c =
     let none : c.in-Ok-read_chunk-2.beyond ≡ 0 = omega arith in
     ends_in_last c.finish-2.result _ _ _ _ _ _ _ _ _ _ _ _ _ _ _ _ c.as_slice-2.ensures.value none c.reading.invariant.few c.reading.invariant.progress c.in-Ok-read_chunk-2.ensures.ok c.finish-2.ensures.text
+
+pub reading-init : goal.reading-init
+reading-init g c = record {
+  progress = rw (c.in-Ok.ensures.ok.1, c.new-pending.ensures.items) (progress_start c.args.base (g.R.Source.left c.args.source.now) (g.W.Sink.taken c.args.sink.now));
+  few = omega arith;
+  reads = refl;
+  writes = refl;
+}

@@ -1,6 +1,6 @@
 use Rattle.rv_layout.specs.LayoutLaws.{layout_of-push}
 use Rattle.rv_layout.specs.Places.{before}
-use Rattle.rv_layout.proofs.Exact.{reached-section, reached-offset, reached-end, reached_together, before-within, base-layout, address-layout}
+use Rattle.rv_layout.specs.PlaceLaws.{reached-section, reached-offset, reached-end, reached_together, before-within, base-layout, address-layout}
 use Rattle.rv_layout.proofs.laws.layouts_tell_places.Goals as goal
 
 pub returns : goal.returns

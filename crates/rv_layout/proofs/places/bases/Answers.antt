@@ -3,7 +3,7 @@ use Rattle.std.proofs.lemmas.List.{length-set}
 use Rattle.rv_layout.specs.Rounding.{round_up}
 use Rattle.rv_layout.specs.Sections.{sections}
 use Rattle.rv_layout.specs.Effects.{base_by_layout, offset_reached}
-use Rattle.rv_layout.proofs.BaseBounds.{row-more, base_from-fits}
+use Rattle.rv_layout.specs.BaseLaws.{row-more, base_from-fits}
 use Rattle.rv_layout.proofs.places.bases.Goals as goal
 
 pub next_base-next-requires : goal.next_base-next-requires

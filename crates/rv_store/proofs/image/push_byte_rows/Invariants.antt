@@ -1,14 +1,13 @@
-use Rattle.std.proofs.Common.{◌≡◌, ◌*◌, drop}
-use Rattle.std.specs.List.{flat_map}
-use Rattle.rv_text.specs.Blocks.{Waits}
-use Rattle.rv_store.specs.LineBytes.{bytes_of_code}
-use Rattle.rv_store.specs.Image.{first_rows}
+use Rattle.std.proofs.Common.{◌≡◌, ◌+◌, length}
+use Rattle.rv_store.proofs.RowsOfBytes.{Gathered}
 use Rattle.rv_store.proofs.image.push_byte_rows.Given as goal
 
--- the rows so far are gathered, and the bytes of the others are left
-abbrev pub invariant-loop-k : goal.invariant-loop-k
-invariant-loop-k g l = record {
-  left : l.bytes ≡ drop (16 * l.k) (flat_map bytes_of_code l.words);
-  waits : Waits (g.W.Sink.taken l.fn.sink) l.fn.block (first_rows l.start (flat_map bytes_of_code l.words) l.k) (g.W.Sink.taken l.sink) l.block;
+-- the rows before the one in hand are gathered
+abbrev pub invariant-rows : goal.invariant-rows
+invariant-rows g l = record {
+  gathered : Gathered l.start l.fn.bytes (g.W.Sink.taken l.fn.sink) l.fn.block (g.W.Sink.taken l.sink) l.block l.address l.row.items l.bytes;
   failures : g.W.Sink.failures l.sink ≡ g.W.Sink.failures l.fn.sink;
 }
+
+abbrev pub decreases-rows : goal.decreases-rows
+decreases-rows g l = length l.row.items + length l.bytes

@@ -1,0 +1,41 @@
+-- The lines with what is kept of them, one by one.
+use Rattle.std.proofs.Common.{◌≡◌, ℕ, suc, ◌+◌, ◌-◌, ◌<◌, List, [], ◌∷◌, ◌++◌, length, map, get_or, take, arith, ap, sym, ◌∙◌, refl}
+use Rattle.std.proofs.lemmas.List.{map-append, take_more, take_all}
+use Rattle.rv_store.specs.declared.item.Item.{Item}
+use Rattle.rv_store.specs.Codes.{values_at, code_at}
+use Rattle.rv_store.specs.Items.{IsItem, AreFirstItems, AreItems}
+use Rattle.rv_store.specs.Layout.{shape_at}
+use Rattle.rv_store.specs.Program.{program_of, for_lines}
+
+-- a row by lines that a part of each item makes
+one_more : {A : Type 0} (part : Item → A) (f : ℕ → A) (k : ℕ) (items : List Item) (item : Item) → map part items ≡ for_lines f k → part item ≡ f (k + 1) → map part (items ++ item ∷ []) ≡ for_lines f (k + 1)
+one_more part f k items item are is =
+    let next : k + 1 ≡ suc k = omega arith in
+    map-append part items (item ∷ []) ∙ ap (λ xs. xs ++ part item ∷ []) are
+    ∙ ap (λ x. for_lines f k ++ x ∷ []) (is ∙ ap f next) ∙ sym (ap (for_lines f) next)
+
+-- no item
+pub no_items : (base : ℕ) (text : List (List ℕ)) → AreFirstItems base text 0 []
+no_items base text = record { lines = refl; shapes = refl; values = refl; codes = refl }
+
+-- one item more
+pub one_item_more : (base : ℕ) (text : List (List ℕ)) (k : ℕ) (items : List Item) (item : Item) → k < length text → AreFirstItems base text k items → IsItem base text (k + 1) item → AreFirstItems base text (k + 1) (items ++ item ∷ [])
+one_item_more base text k items item within are is =
+    let place : k + 1 - 1 ≡ k = omega arith in
+    record {
+      lines =
+          map-append (λ i. i.line) items (item ∷ []) ∙ ap (λ xs. xs ++ item.line ∷ []) are.lines
+          ∙ ap (λ x. take k text ++ x ∷ []) (is.line ∙ ap (λ j. get_or text j []) place) ∙ sym (take_more text k [] within);
+      shapes = one_more (λ i. i.shape) (shape_at (program_of text)) k items item are.shapes is.shape;
+      values = one_more (λ i. i.values.value) (values_at base (program_of text)) k items item are.values is.values;
+      codes = one_more (λ i. i.code.value) (code_at base (program_of text)) k items item are.codes is.code;
+    }
+
+-- all items
+pub all_items : (base : ℕ) (text : List (List ℕ)) (k : ℕ) (items : List Item) → k ≡ length text → AreFirstItems base text k items → AreItems base text items
+all_items base text k items all are = record {
+  lines = are.lines ∙ take_all k text (omega (arith, all));
+  shapes = are.shapes ∙ ap (for_lines (shape_at (program_of text))) all;
+  values = are.values ∙ ap (for_lines (values_at base (program_of text))) all;
+  codes = are.codes ∙ ap (for_lines (code_at base (program_of text))) all;
+}

@@ -1,0 +1,76 @@
+-- What a store answers, by what it holds.
+use Rattle.std.proofs.Common.{◌≡◌, ℕ, zero, suc, ◌-◌, ◌<◌, ◌≤◌, ◌==◌, List, length, map, get_or, arith, ap, sym, ◌∙◌, refl, ◌⊎◌, inl, inr, Some, None, slice_get, if◌then◌else◌}
+use Rattle.std.specs.Prelude.{Bool, true, false, nat_le, ◌&&◌}
+use Rattle.std.specs.Option.{option_map}
+use Rattle.std.proofs.lemmas.Bool.{cases_lt, ne_eqb}
+use Rattle.std.proofs.lemmas.Bool.Decides.{nat_tests}
+use Rattle.std.proofs.lemmas.Grind.{common_steps}
+use Rattle.std.proofs.lemmas.Option.{slice_get-get_or, slice_get_past, slice_get-map}
+use Rattle.rv_store.specs.declared.survey.Survey.{Survey}
+use Rattle.rv_store.specs.Program.{Program, for_lines}
+use Rattle.rv_store.specs.Rows.{Grows}
+use Rattle.rv_store.specs.Surveys.{IsSurvey}
+use Rattle.rv_store.specs.Text.{at_line}
+use Rattle.rv_store.proofs.NameRows.{row-grown, grows-length}
+use Rattle.rv_store.proofs.Programs.{length-for_lines, at-for_lines}
+
+past_zero : (j : ℕ) → (suc j == 0) ≡ false
+past_zero j = ne_eqb (suc j) 0 (λ same. omega (arith, same))
+
+-- what a row by lines holds for line k
+pub row_at_line : {A : Type 0} (lines : List (List ℕ)) (f : ℕ → A) (row : List A) (k : ℕ) → row ≡ for_lines f (length lines) → (if k == 0 then None else slice_get row (k - 1)) ≡ at_line lines k (f k)
+row_at_line lines f row zero made = refl
+row_at_line lines f row (suc j) made = rw (past_zero j) (at (cases_lt j (length lines)))
+  where
+    place : suc j - 1 ≡ j
+    place = omega arith
+
+    count : length row ≡ length lines
+    count = ap length made ∙ length-for_lines f (length lines)
+
+    at : (j < length lines) ⊎ (length lines ≤ j) → slice_get row (suc j - 1) ≡ at_line lines (suc j) (f (suc j))
+    at (inl m) =
+        let read : slice_get row j ≡ Some (get_or row j (f (suc j))) = slice_get-get_or row j (f (suc j)) (rw count m) in
+        let is : get_or row j (f (suc j)) ≡ f (suc j) = ap (λ r. get_or r j (f (suc j))) made ∙ at-for_lines f (length lines) j (f (suc j)) m in
+        let there : slice_get row (suc j - 1) ≡ Some (f (suc j)) = ap (slice_get row) place ∙ read ∙ ap Some is in
+        grind (arith, nat_tests, common_steps)
+    at (inr m) =
+        let past : slice_get row (suc j - 1) ≡ None = ap (slice_get row) place ∙ slice_get_past row j (rw count m) in
+        grind (arith, nat_tests, common_steps)
+
+pub map_at_line : {A B : Type 0} (g : A → B) (lines : List (List ℕ)) (k : ℕ) (x : A) → option_map g (at_line lines k x) ≡ at_line lines k (g x)
+map_at_line g lines k x = at (nat_le 1 k && nat_le k (length lines))
+  where
+    at : (b : Bool) → option_map g (if b then Some x else None) ≡ (if b then Some (g x) else None)
+    at true = refl
+    at false = refl
+
+-- more numbered names change nothing
+pub survey_grown : (base : ℕ) (program : Program) (old new : List (List ℕ)) (s : Survey) → Grows old new → IsSurvey base program old s → IsSurvey base program new s
+survey_grown base program old new s grows is = record {
+  definitions = record {
+    each = row-grown old new _ _ grows is.definitions.within ∙ is.definitions.each;
+    within = let more = grows-length old new grows in omega (arith, more, is.definitions.within);
+  };
+  constants = record {
+    each = row-grown old new _ _ grows is.constants.within ∙ is.constants.each;
+    within = let more = grows-length old new grows in omega (arith, more, is.constants.within);
+  };
+  shapes = is.shapes;
+  limited = is.limited;
+  total = is.total;
+  places = is.places;
+  locals = is.locals;
+  equ_values = record {
+    each = row-grown old new _ _ grows is.equ_values.within ∙ is.equ_values.each;
+    within = let more = grows-length old new grows in omega (arith, more, is.equ_values.within);
+  };
+  paired_highs = is.paired_highs;
+}
+
+-- what the parts of a row by lines hold for line k
+pub part_at_line : {A B : Type 0} (lines : List (List ℕ)) (f : ℕ → B) (v : A → B) (items : List A) (k : ℕ) → map v items ≡ for_lines f (length lines) → option_map v (if k == 0 then None else slice_get items (k - 1)) ≡ at_line lines k (f k)
+part_at_line lines f v items zero made = refl
+part_at_line lines f v items (suc j) made =
+    let there : (if suc j == 0 then None else slice_get (map v items) (suc j - 1)) ≡ at_line lines (suc j) (f (suc j)) = row_at_line lines f (map v items) (suc j) made in
+    rw (past_zero j) (sym (slice_get-map v items (suc j - 1)) ∙ rw (past_zero j) at there)

@@ -1,0 +1,22 @@
+-- The rows of a survey, put together.
+use Rattle.std.proofs.Common.{◌≡◌, ℕ, List, length, ap, ◌∙◌}
+use Rattle.rv_layout.specs.declared.measured.Measured.{Measured}
+use Rattle.rv_layout.specs.Places.{section_of, address_of, line_size_of}
+use Rattle.rv_store.specs.declared.places.LinePlace.{LinePlace}
+use Rattle.rv_store.specs.Layout.{shape_at, place_at}
+use Rattle.rv_store.specs.Program.{Program, program_of, for_lines}
+use Rattle.rv_store.specs.Rows.{AreShapes, ArePlaces}
+use Rattle.rv_store.proofs.Programs.{length-for_lines, length-program}
+
+-- where line i lies in a text whose lines have these shapes
+abbrev place_by : ℕ → List Measured → ℕ → LinePlace
+place_by base shapes i = record { section = section_of shapes i; address = address_of base shapes i; size = line_size_of shapes i }
+
+pub length_of_shapes : (lines : List (List ℕ)) (shapes : List Measured) → AreShapes (program_of lines) shapes → length shapes ≡ length lines
+length_of_shapes lines shapes are =
+    ap length are ∙ length-for_lines (shape_at (program_of lines)) (length (program_of lines)) ∙ length-program lines
+
+pub placed : (base : ℕ) (program : Program) (shapes : List Measured) (row : List LinePlace) → AreShapes program shapes → row ≡ for_lines (λ i. record { section = section_of shapes i; address = address_of base shapes i; size = line_size_of shapes i }) (length shapes) → ArePlaces base program row
+placed base program shapes row are made =
+    made ∙ ap (λ ms. for_lines (place_by base ms) (length ms)) are
+    ∙ ap (for_lines (place_at base program)) (length-for_lines (shape_at program) (length program))

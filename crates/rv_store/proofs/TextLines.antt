@@ -1,0 +1,75 @@
+-- Lines of a text, by their numbers.
+use Rattle.std.proofs.Common.{◌≡◌, Bool, true, false, not, ◌&&◌, ◌==◌, nat_le, ℕ, zero, suc, ◌-◌, ◌<◌, ◌≤◌, List, [], ◌∷◌, ◌++◌, length, get_or, drop, reverse, arith, ap, sym, ◌∙◌, drop-cons}
+use Rattle.std.specs.List.{list_any}
+use Rattle.std.proofs.lemmas.Bool.{leb-true}
+use Rattle.std.proofs.lemmas.List.{get_or-map, drop_all, reverse-append}
+use Rattle.rv_stmt.specs.Statement.{statement_of, operands_of}
+use Rattle.rv_store.specs.declared.places.LinePlace.{LinePlace}
+use Rattle.rv_layout.specs.declared.measured.Measured.{Measured}
+use Rattle.rv_store.specs.Layout.{shape_at, place_at}
+use Rattle.rv_store.specs.Program.{program_of, no_statement, statement_at, body_at, for_lines}
+use Rattle.rv_store.specs.Rows.{AreShapes, ArePlaces}
+use Rattle.rv_store.specs.Text.{is_line}
+use Rattle.rv_store.proofs.Programs.{at-for_lines, length-for_lines, length-program}
+
+few_bytes : (line : List ℕ) → is_line line ≡ true → length line ≤ 1000
+few_bytes line right = at (not (list_any (λ b. b == 10) line)) right
+  where
+    at : (b : Bool) → (b && nat_le (length line) 1000) ≡ true → length line ≤ 1000
+    at true e = leb-true (length line) 1000 e
+    at false e = absurd (let no : false ≡ true = e in cc)
+
+-- a line's statement
+pub statement_of_line : (lines : List (List ℕ)) (i : ℕ) (line : List ℕ) → i ≤ length lines → 1 ≤ i → line ≡ get_or lines (i - 1) line → statement_at (program_of lines) i ≡ statement_of line
+statement_of_line lines i line last first is =
+    let within : i - 1 < length lines = omega (arith, last, first) in
+    get_or-map statement_of lines (i - 1) line no_statement within ∙ ap statement_of (sym is)
+
+-- a line has no more operands than bytes, and these are few
+pub few_operands_of_line : (lines : List (List ℕ)) (i : ℕ) (line : List ℕ) → 1 ≤ i → i ≤ length lines → line ≡ get_or lines (i - 1) line → length (operands_of (statement_of line).body) ≤ length line → is_line line ≡ true → length (operands_of (body_at (program_of lines) i)) ≤ 1000
+few_operands_of_line lines i line first last is few right =
+    let same : statement_at (program_of lines) i ≡ statement_of line = statement_of_line lines i line last first is in
+    let operands : length (operands_of (body_at (program_of lines) i)) ≡ length (operands_of (statement_of line).body) = ap (λ s. length (operands_of s.body)) same in
+    let bytes : length line ≤ 1000 = few_bytes line right in
+    omega (arith, operands, bytes, few)
+
+-- the row of places has one for each line
+pub length_of_places : (base : ℕ) (lines : List (List ℕ)) (row : List LinePlace) → ArePlaces base (program_of lines) row → length row ≡ length lines
+length_of_places base lines row are =
+    ap length are ∙ length-for_lines (place_at base (program_of lines)) (length (program_of lines)) ∙ length-program lines
+
+-- a line's place
+pub place_of_line : (base : ℕ) (lines : List (List ℕ)) (row : List LinePlace) (i : ℕ) (other : LinePlace) → ArePlaces base (program_of lines) row → 1 ≤ i → i ≤ length lines → get_or row (i - 1) other ≡ place_at base (program_of lines) i
+place_of_line base lines row i other are first last =
+    let within : i - 1 < length (program_of lines) = omega (arith, first, last, length-program lines) in
+    let next : suc (i - 1) ≡ i = omega (arith, first) in
+    ap (λ r. get_or r (i - 1) other) are ∙ at-for_lines (place_at base (program_of lines)) (length (program_of lines)) (i - 1) other within
+    ∙ ap (place_at base (program_of lines)) next
+
+-- the row of shapes has one for each line
+pub length_of_shapes : (lines : List (List ℕ)) (row : List Measured) → AreShapes (program_of lines) row → length row ≡ length lines
+length_of_shapes lines row are =
+    ap length are ∙ length-for_lines (shape_at (program_of lines)) (length (program_of lines)) ∙ length-program lines
+
+-- a line's shape
+pub shape_of_line : (lines : List (List ℕ)) (row : List Measured) (i : ℕ) (other : Measured) → AreShapes (program_of lines) row → 1 ≤ i → i ≤ length lines → get_or row (i - 1) other ≡ shape_at (program_of lines) i
+shape_of_line lines row i other are first last =
+    let within : i - 1 < length (program_of lines) = omega (arith, first, last, length-program lines) in
+    let next : suc (i - 1) ≡ i = omega (arith, first) in
+    ap (λ r. get_or r (i - 1) other) are ∙ at-for_lines (shape_at (program_of lines)) (length (program_of lines)) (i - 1) other within
+    ∙ ap (shape_at (program_of lines)) next
+
+-- A row that is made from the end
+
+pub none_from_end : {A : Type 0} (f : ℕ → A) (n i : ℕ) → n ≤ i → drop i (for_lines f n) ≡ []
+none_from_end f n i all = drop_all i (for_lines f n) (omega (arith, all, length-for_lines f n))
+
+pub one_from_end : {A : Type 0} (f : ℕ → A) (n i : ℕ) (x : A) (done : List A) → 1 ≤ i → i ≤ n → reverse done ≡ drop i (for_lines f n) → x ≡ f i → reverse (done ++ x ∷ []) ≡ drop (i - 1) (for_lines f n)
+one_from_end f n zero x done first last are is = absurd (let no : 1 ≤ 0 = first in omega (arith, no))
+one_from_end f n (suc j) x done first last are is =
+    let within : j < length (for_lines f n) = omega (arith, last, length-for_lines f n) in
+    let before : suc j - 1 ≡ j = omega arith in
+    reverse-append done (x ∷ []) ∙ ap (λ xs. x ∷ xs) are
+    ∙ ap (λ y. y ∷ drop (suc j) (for_lines f n)) (is ∙ sym (at-for_lines f n j x (omega (arith, last))))
+    ∙ sym (drop-cons (for_lines f n) j x within)
+    ∙ sym (ap (λ k. drop k (for_lines f n)) before)

@@ -1,0 +1,19 @@
+use Rattle.std.proofs.Common.{◌≡◌, ◌+◌, ◌≤◌, length}
+use Rattle.rv_store.specs.declared.definition.DefinitionPlace.TheVariants.{Nowhere}
+use Rattle.rv_store.specs.Defining.{then_also}
+use Rattle.rv_store.specs.Definitions.{place_among_labels}
+use Rattle.rv_store.specs.Rows.{in_row, Grows}
+use Rattle.rv_store.proofs.definitions.define_labels.Given as goal
+
+-- what is written, with what the labels that are left define, is what all of them define
+abbrev pub invariant-loop-labels : goal.invariant-loop-labels
+invariant-loop-labels l = record {
+  each : then_also (in_row l.names l.row.items Nowhere) (place_among_labels l.line l.index l.labels)
+      ≡ then_also (in_row l.initial.names l.initial.row.items Nowhere) (place_among_labels l.line 0 l.initial.labels);
+  within : length l.row.items ≤ length l.names;
+  names : Grows l.initial.names l.names;
+  count : l.index + length l.labels ≡ length l.initial.labels;
+}
+
+abbrev pub decreases-loop-labels : goal.decreases-loop-labels
+decreases-loop-labels l = length l.labels

@@ -1,0 +1,14 @@
+use Rattle.std.proofs.Common.{◌≡◌, ◌≤◌, ◌+◌, length}
+use Rattle.rv_store.specs.TextRows.{AreEquValuesIn}
+use Rattle.rv_store.proofs.equ_values.equ_values.Given as goal
+
+-- the values of the lines so far
+abbrev pub invariant-loop-i : goal.invariant-loop-i
+invariant-loop-i g l = record {
+  values : AreEquValuesIn l.text l.i l.row.items;
+  as_many : length l.row.items ≡ length l.text.names.now;
+  valued : g.C.Count.valued_count l.initial.counter ≤ g.C.Count.valued_count l.counter;
+  valued_within : g.C.Count.valued_count l.counter ≤ g.C.Count.valued_count l.initial.counter + l.i;
+  parsed : g.C.Count.parsed_count l.counter ≡ g.C.Count.parsed_count l.initial.counter;
+  encoded : g.C.Count.encoded_count l.counter ≡ g.C.Count.encoded_count l.initial.counter;
+}

@@ -1,0 +1,6 @@
+use Rattle.rv_store.specs.Program.{program_of}
+use Rattle.rv_store.specs.Rows.{AreLocals}
+use Rattle.rv_store.proofs.locals.Locals.of.Given as goal
+
+abbrev pub invariant-loop-i : goal.invariant-loop-i
+invariant-loop-i l = AreLocals (program_of l.lines) l.i l.rows.items

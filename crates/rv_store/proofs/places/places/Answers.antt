@@ -1,0 +1,58 @@
+use Rattle.std.proofs.Common.{◌≡◌, suc, ◌+◌, ◌^◌, ◌≤◌, ◌∷◌, [], ◌++◌, All, take, arith, ap, sym, ◌∙◌, subst}
+use Rattle.rv_layout.specs.Effects.{offset_reached}
+use Rattle.rv_layout.specs.Places.{sum_below}
+use Rattle.rv_layout.specs.Sections.{sections}
+use Rattle.rv_layout.specs.PlaceLaws.{reached_together}
+use Rattle.rv_store.specs.declared.places.LinePlace.{LinePlace}
+use Rattle.rv_store.specs.Ends.{ends_of, ends_after, next_place, place_by_shapes}
+use Rattle.rv_store.specs.Program.{for_lines}
+use Rattle.rv_store.proofs.EndLaws.{PlaceFits, next-is, next-IsLimited, take-next, ends_of-push, bases-AreBases, next_place-is, next_place-fits, places-small}
+use Rattle.rv_store.proofs.places.places.Goals as goal
+
+pub bases-bases-requires-clause-ends : goal.bases-bases-requires-clause-ends
+bases-bases-requires-clause-ends c =
+    subst (λ l. sum_below (offset_reached l) sections ≤ 2 ^ 30) (sym c.requires.total) (reached_together c.args.shapes.now c.requires.limited c.requires.few)
+
+pub next_place-requires : goal.next_place-requires
+next_place-requires c =
+    let ms = c.args.shapes.now in
+    let are = bases-AreBases c.args.base ms c.args.total.now c.bases-bases.result c.requires.total c.requires.few c.requires.limited c.bases-bases.ensures in
+    let fits = next_place-fits c.args.base ms c.loop-shape.shape-index c.bases-bases.result c.requires.base c.requires.few c.requires.limited are in
+    (subst (PlaceFits c.bases-bases.result) (sym c.loop-shape.invariant.ends) fits).address
+
+pub advance-requires-clause-short : goal.advance-requires-clause-short
+advance-requires-clause-short c =
+    let ms = c.args.shapes.now in
+    let are = bases-AreBases c.args.base ms c.args.total.now c.bases-bases.result c.requires.total c.requires.few c.requires.limited c.bases-bases.ensures in
+    let fits = next_place-fits c.args.base ms c.loop-shape.shape-index c.bases-bases.result c.requires.base c.requires.few c.requires.limited are in
+    (subst (PlaceFits c.bases-bases.result) (sym c.loop-shape.invariant.ends) fits).short
+
+pub advance-requires-clause-limited : goal.advance-requires-clause-limited
+advance-requires-clause-limited c =
+    next-IsLimited c.args.shapes.now c.loop-shape.shape-index c.shape-item.result c.requires.limited c.loop-shape-test.true c.shape-item.is
+
+pub loop-shape-preserved : goal.loop-shape-preserved
+loop-shape-preserved c =
+    let ms = c.args.shapes.now in
+    let i = c.loop-shape.shape-index in
+    let m = c.shape-item.result in
+    let are = bases-AreBases c.args.base ms c.args.total.now c.bases-bases.result c.requires.total c.requires.few c.requires.limited c.bases-bases.ensures in
+    let next : i + 1 ≡ suc i = omega arith in
+    record {
+      ends =
+          c.advance.ensures
+          ∙ ap (λ e. ends_after e m) c.loop-shape.invariant.ends
+          ∙ sym (ap ends_of (take-next ms i m c.loop-shape-test.true c.shape-item.is) ∙ ends_of-push (take i ms) m);
+      places =
+          c.in_ok-push.ensures.items
+          ∙ ap (λ row. row ++ c.next_place.result ∷ []) c.loop-shape.invariant.places
+          ∙ ap (λ p. for_lines (place_by_shapes c.args.base ms) i ++ p ∷ [])
+          (c.next_place.ensures
+          ∙ ap (λ e. next_place c.bases-bases.result e m) c.loop-shape.invariant.ends
+          ∙ next_place-is c.args.base ms i m c.bases-bases.result are (next-is ms i m c.loop-shape-test.true c.shape-item.is))
+          ∙ ap (for_lines (place_by_shapes c.args.base ms)) (sym next);
+    }
+
+pub returns-clause-small : goal.returns-clause-small
+returns-clause-small c =
+    subst (All (λ (p : LinePlace). p.size ≤ 65536)) (sym c.loop-shape.invariant.places) (places-small c.args.base c.args.shapes.now c.loop-shape.shape-index c.requires.limited)

@@ -1,0 +1,20 @@
+use Rattle.std.proofs.Common.{◌≡◌, ◌+◌, ◌*◌, ◌≤◌, length}
+use Rattle.rv_layout.specs.Places.{AreLimited}
+use Rattle.rv_store.specs.Layout.{shape_at}
+use Rattle.rv_store.specs.Program.{program_of, for_lines}
+use Rattle.rv_store.specs.Rows.{AreConstants}
+use Rattle.rv_store.proofs.shapes.shapes.Given as goal
+
+-- the rows hold what the lines so far give
+abbrev pub invariant-loop-i : goal.invariant-loop-i
+invariant-loop-i g l = record {
+  within : l.i ≤ length l.lines;
+  shapes : l.shapes.items ≡ for_lines (shape_at (program_of l.lines)) l.i;
+  limited : AreLimited l.shapes.items;
+  constants : AreConstants (program_of l.lines) l.i l.names l.constants.items;
+  as_many : length l.constants.items ≡ length l.definitions;
+  least : g.C.Count.valued_count l.initial.counter ≤ g.C.Count.valued_count l.counter;
+  most : g.C.Count.valued_count l.counter ≤ g.C.Count.valued_count l.initial.counter + 2 * l.i;
+  parsed : g.C.Count.parsed_count l.counter ≡ g.C.Count.parsed_count l.initial.counter;
+  encoded : g.C.Count.encoded_count l.counter ≡ g.C.Count.encoded_count l.initial.counter;
+}

@@ -1,0 +1,28 @@
+-- Definitions of names, joined in the order of the text.
+use Rattle.std.specs.Prelude.{◌≡◌, ℕ, ◌≤◌, List, length, bytes_eq, if◌then◌else◌}
+use Rattle.rv_stmt.specs.declared.label.Label.{Label}
+use Rattle.rv_store.specs.declared.definition.DefinitionPlace.{DefinitionPlace}
+use Rattle.rv_store.specs.declared.definition.DefinitionPlace.TheVariants.{Nowhere, Label as ByLabel}
+use Rattle.rv_store.specs.Definitions.{defines_symbol, or_place}
+use Rattle.rv_store.specs.Rows.{in_row}
+
+-- the definition of each name of a part of the text
+abbrev pub Definitions : Type 0
+Definitions = (name : List ℕ) → DefinitionPlace
+
+-- one name, and no other
+abbrev pub only : (symbol : List ℕ) → DefinitionPlace → Definitions
+only symbol place name = if bytes_eq symbol name then place else Nowhere
+
+-- those of a label
+abbrev pub of_label : (line index : ℕ) → Label → Definitions
+of_label line index l name = if defines_symbol l.name name then ByLabel line index else Nowhere
+
+-- those of one part of the text and then of another
+abbrev pub then_also : Definitions → Definitions → Definitions
+then_also first second name = or_place (first name) (second name)
+
+-- a row, no longer than there are names, that holds these
+pub record Holds (names : List (List ℕ)) (row : List DefinitionPlace) (definitions : Definitions) : Type 0 where
+  pub each : in_row names row Nowhere ≡ definitions
+  pub within : length row ≤ length names

@@ -1,0 +1,10 @@
+-- Where the lines of a text stood before an edit.
+use Rattle.std.specs.Prelude.{ℕ, ◌+◌, ◌-◌, ◌==◌, nat_lt, Option, Some, None, if◌then◌else◌}
+use Rattle.rv_store.specs.Text.{Edit, Insert, Delete, Replace}
+
+-- where line k of the text after the edit stood before it; a line that the edit put in stood nowhere
+abbrev pub line_before_edit : Edit → (k : ℕ) → Option ℕ
+line_before_edit (Insert place line) k =
+    if nat_lt k place then Some k else (if k == place then None else Some (k - 1))
+line_before_edit (Delete place) k = if nat_lt k place then Some k else Some (k + 1)
+line_before_edit (Replace place line) k = if k == place then None else Some k

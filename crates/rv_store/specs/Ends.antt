@@ -1,0 +1,38 @@
+-- Where the sections end after some lines, line by line. (docs/LANGUAGE.md, Layout)
+use Rattle.std.specs.Prelude.{ℕ, ◌+◌, List, [], ◌∷◌, set, slice_index}
+use Rattle.rv_stmt.specs.declared.section.Sect.TheVariants.{Text}
+use Rattle.rv_layout.specs.declared.measured.Measured.{Measured}
+use Rattle.rv_layout.specs.Places.{section_after, section_through, size_at, section_of, line_size_of, section_end_of, address_of}
+use Rattle.rv_layout.specs.Sections.{section_number}
+use Rattle.rv_store.specs.declared.ends.Ends.{Ends}
+use Rattle.rv_store.specs.declared.places.LinePlace.{LinePlace}
+
+-- after some lines: the section of the next one, and the offset at which each section ends
+abbrev pub ends_of : List Measured → Ends
+ends_of ms = record {
+  section = section_through Text ms;
+  offsets = section_end_of ms 0 ∷ section_end_of ms 1 ∷ section_end_of ms 2 ∷ section_end_of ms 3 ∷ [];
+}
+
+-- the offset of the next line
+abbrev pub next_offset : Ends → ℕ
+next_offset ends = slice_index ends.offsets (section_number ends.section)
+
+-- after one more line
+abbrev pub ends_after : Ends → Measured → Ends
+ends_after ends m = record {
+  section = section_after ends.section m;
+  offsets = set ends.offsets (section_number ends.section) (next_offset ends + size_at (next_offset ends) m);
+}
+
+-- the place of the next line, where the sections begin at these addresses
+abbrev pub next_place : (bases : List ℕ) → Ends → Measured → LinePlace
+next_place bases ends m = record {
+  section = ends.section;
+  address = slice_index bases (section_number ends.section) + next_offset ends;
+  size = size_at (next_offset ends) m;
+}
+
+-- the place of line `i`
+abbrev pub place_by_shapes : (base : ℕ) → List Measured → (i : ℕ) → LinePlace
+place_by_shapes base ms i = record { section = section_of ms i; address = address_of base ms i; size = line_size_of ms i }

@@ -1,0 +1,58 @@
+-- How the row of local labels is asked for one. (docs/LANGUAGE.md, Local labels)
+use Rattle.std.specs.Prelude.{◌≡◌, ℕ, ◌-◌, ◌==◌, nat_le, Bool, false, List, [], ◌∷◌, ◌++◌, length, get_or, slice_get, Option, Some, None, if◌then◌else◌}
+use Rattle.std.specs.List.Sorted.{IsNonDecreasing}
+use Rattle.std.specs.Option.{option_or}
+use Rattle.rv_expr.specs.declared.tree.Direction.{Direction}
+use Rattle.rv_expr.specs.declared.tree.Direction.TheVariants.{Back, Forward}
+use Rattle.rv_stmt.specs.declared.label.Label.{Label}
+use Rattle.rv_store.specs.References.{is_local, among_local}
+
+-- the last of some lines that is this one or an earlier one
+abbrev pub last_up_to : (line : ℕ) → List ℕ → Option ℕ
+last_up_to line [] = None
+last_up_to line (l ∷ ls) = option_or (last_up_to line ls) (if nat_le l line then Some l else None)
+
+-- the first of some lines that is a later one
+abbrev pub first_above : (line : ℕ) → List ℕ → Option ℕ
+first_above line [] = None
+first_above line (l ∷ ls) = if nat_le l line then first_above line ls else Some l
+
+-- among the lines that have the label
+abbrev pub line_among : List ℕ → (line : ℕ) → Direction → Option ℕ
+line_among lines line Back = last_up_to line lines
+line_among lines line Forward = first_above line lines
+
+-- the line of a local label as `line` names it, where the rows hold the lines of each number
+abbrev pub local_line_in : List (List ℕ) → (line number : ℕ) → Direction → Option ℕ
+local_line_in rows line number direction = line_among (get_or rows number []) line direction
+
+-- the lines of each number rise
+abbrev pub AreRising : List (List ℕ) → Type 0
+AreRising rows = (number : ℕ) → IsNonDecreasing (get_or rows number [])
+
+-- The rows as they are made
+
+-- there is a line, and it is this one
+abbrev pub is_some_line : (line : ℕ) → Option ℕ → Bool
+is_some_line line None = false
+is_some_line line (Some l) = l == line
+
+-- a line is the last of some
+abbrev pub is_last : (line : ℕ) → List ℕ → Bool
+is_last line lines = is_some_line line (slice_get lines (length lines - 1))
+
+-- some lines and this one, where it is not the last of them already
+abbrev pub with_line : (line : ℕ) → List ℕ → List ℕ
+with_line line lines = if is_last line lines then lines else lines ++ line ∷ []
+
+-- the list of the number k, with a line that has this label
+abbrev pub with_label : (line k : ℕ) → Label → List ℕ → List ℕ
+with_label line k l lines = if is_local k l.name then with_line line lines else lines
+
+-- the list of the number k, with a line that has these labels
+abbrev pub with_labels : (line k : ℕ) → List Label → List ℕ → List ℕ
+with_labels line k ls lines = if among_local k ls then with_line line lines else lines
+
+-- the rows with a line that has these labels
+abbrev pub AreWithLabels : (line : ℕ) → List Label → (old new : List (List ℕ)) → Type 0
+AreWithLabels line labels old new = (k : ℕ) → get_or new k [] ≡ with_labels line k labels (get_or old k [])

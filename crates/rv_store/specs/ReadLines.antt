@@ -1,0 +1,10 @@
+-- Lines that have been read.
+use Rattle.std.specs.Prelude.{◌≡◌, ℕ, true, List}
+use Rattle.rv_stmt.specs.declared.statement.Stmt.{Stmt}
+use Rattle.rv_stmt.specs.Statement.{statement_of}
+use Rattle.rv_store.specs.Text.{is_line}
+
+-- the bytes of a line and its statement
+pub record IsRead (text : List ℕ) (stmt : Stmt) : Type 0 where
+  pub line : is_line text ≡ true
+  pub read : stmt ≡ statement_of text

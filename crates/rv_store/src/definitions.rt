@@ -1,0 +1,195 @@
+//! Where the names of a text are defined.
+
+ghost use Rattle.std.specs.Prelude.{◌≡◌, ◌≤◌, ◌<◌, ◌+◌, ◌^◌, true, false, Some, None, length, IfSome, IfOk};
+ghost use Rattle.rv_stmt.specs.declared.directive.Definition.{Definition};
+ghost use Rattle.rv_stmt.specs.declared.statement.Body.TheVariants.{Equ as EquBody};
+ghost use Rattle.rv_store.specs.declared.definition.DefinitionPlace.TheVariants.{Nowhere};
+ghost use Rattle.rv_store.specs.declared.limits.TheConstants.{MAX_LINES};
+ghost use Rattle.rv_store.specs.Defining.{only, of_label, then_also, Holds};
+ghost use Rattle.rv_store.specs.Definitions.{place_among_labels, place_in_body, place_in_statement, is_equ_on};
+ghost use Rattle.rv_store.specs.Program.{program_of};
+ghost use Rattle.rv_store.specs.Rows.{number_of, in_row, Grows, AreDefinitions};
+
+use crate::definition::DefinitionPlace;
+use crate::line::Line;
+use crate::names::NameTable;
+use rv_stmt::{Body, Definition, Label, LabelName, Stmt};
+use std::alloc::{AllocError, Global};
+
+// Whether it is the `.equ` of this line.
+fn is_equ_on(line: u32, place: DefinitionPlace) -> bool
+    ensures { result ≡ is_equ_on line place }
+{
+    match place {
+        DefinitionPlace::Equ(defining) => defining == line,
+        DefinitionPlace::Nowhere | DefinitionPlace::Label(_, _) => false,
+    }
+}
+
+/// The `.equ` of a line, with the number of its symbol, where it is the definition of its symbol.
+pub fn defining_equ<'a>(
+    stmt: &'a Stmt,
+    line: u32,
+    names: &NameTable,
+    definitions: &[DefinitionPlace],
+) -> Option<(&'a Definition, usize)>
+    ensures body { IfSome result (λ r. stmt.entry.now.body ≡ EquBody r.0.now) }
+    ensures number { IfSome result (λ r. number_of names.now r.0.now.symbol ≡ Some r.1) }
+    ensures within { IfSome result (λ r. r.1 < length definitions.now) }
+    ensures defines { IfSome result (λ r. is_equ_on line (in_row names.now definitions.now Nowhere r.0.now.symbol) ≡ true) }
+    ensures none { result ≡ None → (d : Definition) → stmt.entry.now.body ≡ EquBody d
+        → is_equ_on line (in_row names.now definitions.now Nowhere d.symbol) ≡ false }
+{
+    let Body::Equ(definition) = &stmt.body else {
+        return None;
+    };
+    let number = names.number(definition.symbol.bytes())?;
+    let place = definitions.get(number)?;
+    if !is_equ_on(line, *place) {
+        return None;
+    }
+    Some((definition, number))
+}
+
+// The number of a name, which gets one if it has none, and a place in the row.
+fn number_with_place(
+    alloc: Global,
+    name: &[u8],
+    names: &mut NameTable,
+    row: &mut Vec<DefinitionPlace>,
+) -> Result<usize, AllocError>
+    requires { length row.old.items ≤ length names.old }
+    ensures number { IfOk result (λ n. number_of names.new name.now ≡ Some n) }
+    ensures below { IfOk result (λ n. n < length row.new.items) }
+    ensures row { IfOk result (λ _. Holds names.new row.new.items (in_row names.old row.old.items Nowhere)) }
+    ensures names { Grows names.old names.new }
+{
+    let number = names.intern(alloc, name)?;
+    if number >= row.len() {
+        row.resize(names.len(), DefinitionPlace::Nowhere)?;
+    }
+    Ok(number)
+}
+
+// Writes where a name is defined, unless the row has a definition of it.
+fn define(
+    alloc: Global,
+    name: &[u8],
+    place: DefinitionPlace,
+    names: &mut NameTable,
+    row: &mut Vec<DefinitionPlace>,
+) -> Result<(), AllocError>
+    requires { length row.old.items ≤ length names.old }
+    ensures row { IfOk result (λ _. Holds names.new row.new.items (then_also (in_row names.old row.old.items Nowhere) (only name.now place))) }
+    ensures names { Grows names.old names.new }
+{
+    let number = number_with_place(alloc, name, names, row)?;
+    if let DefinitionPlace::Nowhere = row[number] {
+        row[number] = place;
+    }
+    Ok(())
+}
+
+// Writes what a label defines. Local labels define no symbol.
+fn define_label(
+    alloc: Global,
+    label: &Label,
+    line: u32,
+    index: u32,
+    names: &mut NameTable,
+    row: &mut Vec<DefinitionPlace>,
+) -> Result<(), AllocError>
+    requires { length row.old.items ≤ length names.old }
+    ensures row { IfOk result (λ _. Holds names.new row.new.items (then_also (in_row names.old row.old.items Nowhere) (of_label line index label.now))) }
+    ensures names { Grows names.old names.new }
+{
+    let place = DefinitionPlace::Label(line, index);
+    match &label.name {
+        LabelName::Symbol(symbol) => define(alloc, symbol.bytes(), place, names, row),
+        LabelName::Local(_) => Ok(()),
+    }
+}
+
+// Writes what the labels of a line define.
+fn define_labels(
+    alloc: Global,
+    mut labels: &[Label],
+    line: u32,
+    names: &mut NameTable,
+    row: &mut Vec<DefinitionPlace>,
+) -> Result<(), AllocError>
+    requires few { length labels.now ≤ 1000 }
+    requires within { length row.old.items ≤ length names.old }
+    ensures row { IfOk result (λ _. Holds names.new row.new.items (then_also (in_row names.old row.old.items Nowhere) (place_among_labels line 0 labels.entry.now))) }
+    ensures names { Grows names.old names.new }
+{
+    let mut index = 0;
+    while let [label, later @ ..] = labels {
+        define_label(alloc, label, line, index, names, row)?;
+        index += 1;
+        labels = later;
+    }
+    Ok(())
+}
+
+// Writes what the `.equ` of a line defines, if it has one.
+fn define_equ(
+    alloc: Global,
+    body: &Body,
+    line: u32,
+    names: &mut NameTable,
+    row: &mut Vec<DefinitionPlace>,
+) -> Result<(), AllocError>
+    requires { length row.old.items ≤ length names.old }
+    ensures row { IfOk result (λ _. Holds names.new row.new.items (then_also (in_row names.old row.old.items Nowhere) (place_in_body line body.now))) }
+    ensures names { Grows names.old names.new }
+{
+    match body {
+        Body::Equ(definition) => {
+            let place = DefinitionPlace::Equ(line);
+            define(alloc, definition.symbol.bytes(), place, names, row)
+        }
+        _ => Ok(()),
+    }
+}
+
+// Writes what a line defines.
+fn define_line(
+    alloc: Global,
+    stmt: &Stmt,
+    line: u32,
+    names: &mut NameTable,
+    row: &mut Vec<DefinitionPlace>,
+) -> Result<(), AllocError>
+    requires few { length stmt.now.labels ≤ 1000 }
+    requires within { length row.old.items ≤ length names.old }
+    ensures row { IfOk result (λ _. Holds names.new row.new.items (then_also (in_row names.old row.old.items Nowhere) (place_in_statement line stmt.now))) }
+    ensures names { Grows names.old names.new }
+{
+    define_labels(alloc, stmt.labels.as_slice(), line, names, row)?;
+    define_equ(alloc, &stmt.body, line, names, row)?;
+    Ok(())
+}
+
+/// Where each name of a text is defined, by the names' numbers, in one loop over the lines. Names that the text defines get
+/// numbers if they have none, also where there is no memory for the rest.
+pub fn definitions(
+    alloc: Global,
+    lines: &[Line],
+    names: &mut NameTable,
+) -> Result<Vec<DefinitionPlace>, AllocError>
+    requires few { length lines.now ≤ MAX_LINES }
+    ensures definitions { IfOk result (λ row. AreDefinitions (program_of lines.now) names.new row.items) }
+    ensures names { Grows names.old names.new }
+{
+    let mut row = Vec::new(alloc);
+    let mut rest = lines;
+    let mut number = 1;
+    while let [line, later @ ..] = rest {
+        line.labels_are_few();
+        define_line(alloc, line.stmt(), number, names, &mut row)?;
+        number += 1;
+        rest = later;
+    }
+    Ok(row)
+}

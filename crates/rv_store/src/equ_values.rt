@@ -1,0 +1,87 @@
+//! The values of the `.equ`s of a text.
+
+ghost use Rattle.std.specs.Prelude.{◌≡◌, ◌≤◌, ◌<◌, ◌+◌, ◌^◌, ◌-◌, length, IfOk};
+ghost use Rattle.rv_stmt.specs.declared.statement.Body.{Body};
+ghost use Rattle.rv_store.specs.declared.limits.TheConstants.{MAX_LINES};
+ghost use Rattle.rv_store.specs.Constants.{defined_value};
+ghost use Rattle.rv_store.specs.TextRows.{AreTextRows, AreEquValuesIn, references_through};
+
+use crate::constants::defined_value;
+use crate::definitions::defining_equ;
+use crate::line_names::references_before;
+use crate::text_rows::TextRows;
+use rv_expr::ValueFault;
+use rv_fix::Entry;
+use rv_stmt::Definition;
+use rv_text::Count;
+use std::alloc::{AllocError, Global};
+
+// The value that the definition on a line gives its symbol.
+fn value_on<C: Count>(
+    text: &TextRows<'_>,
+    row: &[Entry],
+    line: u32,
+    definition: &Definition,
+    counter: &mut C,
+) -> Entry
+    requires rows { AreTextRows text.now }
+    requires values { AreEquValuesIn text.now (line - 1) row.now }
+    requires first { 1 ≤ line }
+    requires last { line ≤ length text.now.lines.now }
+    requires count { C.valued_count counter.old < 2 ^ 64 - 1 }
+    ensures value { result ≡ defined_value (references_through text.now (line - 1) line) (Body.Equ definition.now) }
+    ensures valued { C.valued_count counter.old ≤ C.valued_count counter.new }
+    ensures valued_within { C.valued_count counter.new ≤ C.valued_count counter.old + 1 }
+    ensures parsed { C.parsed_count counter.new ≡ C.parsed_count counter.old }
+    ensures encoded { C.encoded_count counter.new ≡ C.encoded_count counter.old }
+{
+    let names = references_before(text, row, line);
+    defined_value(definition, &names, text.address(line), counter)
+}
+
+// Goes from the values of the first `i` lines to those of one line more: if the next line has the `.equ` that defines its
+// symbol, the row gets its value.
+fn settle_equ<C: Count>(text: &TextRows<'_>, i: usize, row: &mut Vec<Entry>, counter: &mut C)
+    requires rows { AreTextRows text.now }
+    requires within { i < length text.now.lines.now }
+    requires few { length text.now.lines.now ≤ MAX_LINES }
+    requires before { AreEquValuesIn text.now i row.old.items }
+    requires as_many { length row.old.items ≡ length text.now.names.now }
+    requires count { C.valued_count counter.old < 2 ^ 64 - 1 }
+    ensures after { AreEquValuesIn text.now (i + 1) row.new.items }
+    ensures as_many { length row.new.items ≡ length text.now.names.now }
+    ensures valued { C.valued_count counter.old ≤ C.valued_count counter.new }
+    ensures valued_within { C.valued_count counter.new ≤ C.valued_count counter.old + 1 }
+    ensures parsed { C.parsed_count counter.new ≡ C.parsed_count counter.old }
+    ensures encoded { C.encoded_count counter.new ≡ C.encoded_count counter.old }
+{
+    let line = i as u32 + 1;
+    let stmt = text.lines[i].stmt();
+    let Some((definition, number)) = defining_equ(stmt, line, text.names, text.definitions) else {
+        return;
+    };
+    row[number] = value_on(text, row, line, definition, counter);
+}
+
+/// The values of the `.equ`s, by the numbers of their names. The counter's number of expressions computed rises by at most
+/// one for each line. Fails only for want of memory, before anything is computed.
+pub fn equ_values<C: Count>(
+    alloc: Global,
+    text: &TextRows<'_>,
+    counter: &mut C,
+) -> Result<Vec<Entry>, AllocError>
+    requires rows { AreTextRows text.now }
+    requires few { length text.now.lines.now ≤ MAX_LINES }
+    requires count { C.valued_count counter.old ≤ 2 ^ 63 + 2 ^ 32 }
+    ensures values { IfOk result (λ row. AreEquValuesIn text.now (length text.now.lines.now) row.items) }
+    ensures valued { C.valued_count counter.old ≤ C.valued_count counter.new }
+    ensures valued_within { C.valued_count counter.new ≤ C.valued_count counter.old + length text.now.lines.now }
+    ensures parsed { C.parsed_count counter.new ≡ C.parsed_count counter.old }
+    ensures encoded { C.encoded_count counter.new ≡ C.encoded_count counter.old }
+{
+    let mut row = vec![in alloc; Err(ValueFault::LaterEqu); text.names.len()]?;
+    for i in 0..text.lines.len() {
+        settle_equ(text, i, &mut row, counter);
+    }
+    Ok(row)
+}

@@ -1,0 +1,109 @@
+//! The lines of a text with their codes.
+
+ghost use Rattle.std.specs.Prelude.{◌≡◌, ◌≤◌, ◌<◌, ◌+◌, ◌*◌, ◌-◌, ◌^◌, length, IfOk, IfErr};
+ghost use Rattle.rv_stmt.specs.Statement.{operands_of};
+ghost use Rattle.rv_store.specs.declared.limits.TheConstants.{MAX_LINES};
+ghost use Rattle.rv_store.specs.Items.{IsItem, AreItems};
+ghost use Rattle.rv_store.specs.ValueRows.{AreValueRows, base_of, body_in};
+
+use crate::codes::line_code;
+use crate::edit_error::EditError;
+use crate::line::Line;
+use crate::line_values::{LineValues, line_values};
+use crate::text_lines::{operands_are_few_on, statement_on};
+use crate::value_rows::{ValueRows, shape_on};
+use rv_fix::Coded;
+use rv_layout::Measured;
+use rv_text::Count;
+use std::alloc::Global;
+use std::rc::Rc;
+
+/// A line with what is kept of it: its shape, the values from which its code is made, and its code.
+#[derive(Drop)]
+pub struct Item {
+    pub line: Line,
+    pub shape: Measured,
+    pub values: Rc<LineValues>,
+    pub code: Rc<Coded>,
+}
+
+/// A line with what is kept of it, anew.
+///
+/// The counter's number of expressions computed rises by at most one for each operand of the line, of which there are at
+/// most 1,000, and its number of lines encoded by at most one, whatever the outcome.
+///
+/// # Errors
+///
+/// `Memory` if there was no memory for what is kept.
+#[tactic(auto, using(crate::proofs::ValueLaws::values_fit))]
+pub fn renewed<C: Count>(
+    alloc: Global,
+    rows: &ValueRows<'_>,
+    line: u32,
+    counter: &mut C,
+) -> Result<Item, EditError>
+    requires rows { AreValueRows rows.now }
+    requires first { 1 ≤ line }
+    requires last { line ≤ length rows.now.text.lines.now }
+    requires few { length rows.now.text.lines.now ≤ MAX_LINES }
+    requires valued { C.valued_count counter.old + 1000 < 2 ^ 64 }
+    requires encoded { C.encoded_count counter.old < 2 ^ 64 - 1 }
+    ensures memory { IfErr result (λ e. e ≡ EditError.Memory) }
+    ensures item { IfOk result (λ item. IsItem (base_of rows.now) rows.now.text.lines.now line item) }
+    ensures valued_least { C.valued_count counter.old ≤ C.valued_count counter.new }
+    ensures valued_most { C.valued_count counter.new ≤ C.valued_count counter.old + length (operands_of (body_in rows.now line)) }
+    ensures operands { length (operands_of (body_in rows.now line)) ≤ 1000 }
+    ensures encoded_least { C.encoded_count counter.old ≤ C.encoded_count counter.new }
+    ensures encoded_most { C.encoded_count counter.new ≤ C.encoded_count counter.old + 1 }
+    ensures parsed { C.parsed_count counter.new ≡ C.parsed_count counter.old }
+{
+    operands_are_few_on(&rows.text, line);
+    let shape = shape_on(rows, line);
+    let values = line_values(alloc, rows, line, counter)?;
+    let code = line_code(
+        alloc,
+        statement_on(&rows.text, line),
+        &shape,
+        &values,
+        counter,
+    )?;
+    Ok(Item {
+        line: rows.text.lines[line as usize - 1].share()?,
+        shape,
+        values: Rc::new(alloc, values)?,
+        code: Rc::new(alloc, code)?,
+    })
+}
+
+/// All lines of a text with what is kept of them, anew.
+///
+/// The counter's number of expressions computed rises by at most 1,000 a line, and its number of lines encoded by at most one
+/// a line, whatever the outcome.
+///
+/// # Errors
+///
+/// `Memory` if there was no memory for what is kept.
+#[tactic(auto, using(crate::proofs::Items::no_items, crate::proofs::Items::one_item_more, crate::proofs::Items::all_items))]
+pub fn renewed_all<C: Count>(
+    alloc: Global,
+    rows: &ValueRows<'_>,
+    counter: &mut C,
+) -> Result<Vec<Item>, EditError>
+    requires rows { AreValueRows rows.now }
+    requires few { length rows.now.text.lines.now ≤ MAX_LINES }
+    requires valued { C.valued_count counter.old + 1000 * length rows.now.text.lines.now < 2 ^ 64 }
+    requires encoded { C.encoded_count counter.old + length rows.now.text.lines.now < 2 ^ 64 }
+    ensures memory { IfErr result (λ e. e ≡ EditError.Memory) }
+    ensures items { IfOk result (λ v. AreItems (base_of rows.now) rows.now.text.lines.now v.items) }
+    ensures valued_least { C.valued_count counter.old ≤ C.valued_count counter.new }
+    ensures valued_most { C.valued_count counter.new ≤ C.valued_count counter.old + 1000 * length rows.now.text.lines.now }
+    ensures encoded_least { C.encoded_count counter.old ≤ C.encoded_count counter.new }
+    ensures encoded_most { C.encoded_count counter.new ≤ C.encoded_count counter.old + length rows.now.text.lines.now }
+    ensures parsed { C.parsed_count counter.new ≡ C.parsed_count counter.old }
+{
+    let mut items = Vec::with_capacity(alloc, rows.text.lines.len())?;
+    for i in 0..rows.text.lines.len() {
+        items.push(renewed(alloc, rows, i as u32 + 1, counter)?)?;
+    }
+    Ok(items)
+}

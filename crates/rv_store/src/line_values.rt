@@ -1,0 +1,163 @@
+//! The values from which the code of a line is made.
+
+ghost use Rattle.std.specs.Prelude.{◌≡◌, ◌≤◌, ◌<◌, ◌+◌, ◌^◌, length, IfOk, IsTrue, ◌↔◌};
+ghost use Rattle.rv_stmt.specs.declared.statement.Body.{Body};
+ghost use Rattle.rv_stmt.specs.Statement.{operands_of};
+ghost use Rattle.rv_store.specs.declared.limits.TheConstants.{MAX_LINES};
+ghost use Rattle.rv_store.specs.Codes.{is_text, values_of_body, values_at};
+ghost use Rattle.rv_store.specs.ValueRows.{AreValueRows, base_of, program_of_rows, body_in};
+
+use crate::definition::DefinitionPlace;
+use crate::line_names::names_at;
+use crate::names::entry_of;
+use crate::text_lines::{place_on, statement_on};
+use crate::value_rows::{ValueRows, shape_on};
+use rv_expr::ValueFault;
+use rv_fix::{Entry, FixError, Values, operand_values};
+use rv_layout::Measured;
+use rv_stmt::{Body, Definition, Sect};
+use rv_text::Count;
+use std::alloc::Global;
+
+/// The values from which, with its statement and its shape, the code of a line is made.
+#[derive(Drop)]
+pub enum LineValues {
+    /// There are none: the shape of the line is a fault, or it is an `.equ` that is not the definition of its symbol.
+    Nothing,
+    /// The values of its operands.
+    Operands(Values),
+    /// The value of the symbol that it defines.
+    Symbol(Entry),
+    /// The padding of an alignment: whether it is in `.text`, and how many bytes it has.
+    Padding(bool, u32),
+}
+
+// Whether these are the same value or the same fault.
+fn is_same_entry(left: Entry, right: Entry) -> bool
+    ensures { IsTrue result ↔ (left ≡ right) }
+{
+    match left {
+        Ok(x) => match right {
+            Ok(y) => x == y,
+            Err(_) => false,
+        },
+        Err(x) => match right {
+            Ok(_) => false,
+            Err(y) => x == y,
+        },
+    }
+}
+
+impl LineValues {
+    /// Whether these are the same values.
+    pub fn is_same(&self, other: &LineValues) -> bool
+        ensures { IsTrue result ↔ (self.now ≡ other.now) }
+    {
+        match self {
+            LineValues::Nothing => matches!(other, LineValues::Nothing),
+            LineValues::Operands(values) => match other {
+                LineValues::Operands(others) => values.is_same(others),
+                _ => false,
+            },
+            LineValues::Symbol(entry) => match other {
+                LineValues::Symbol(another) => is_same_entry(*entry, *another),
+                _ => false,
+            },
+            LineValues::Padding(in_text, count) => match other {
+                LineValues::Padding(other_in_text, other_count) => {
+                    in_text == other_in_text && count == other_count
+                }
+                _ => false,
+            },
+        }
+    }
+}
+
+// Whether a section is `.text`.
+fn is_text(section: Sect) -> bool
+    ensures { result ≡ is_text section }
+{
+    section == Sect::Text
+}
+
+// The value of the symbol of an `.equ`, if this defines it.
+fn symbol_value(rows: &ValueRows<'_>, definition: &Definition, line: u32) -> LineValues
+    requires rows { AreValueRows rows.now }
+    requires first { 1 ≤ line }
+    requires last { line ≤ length rows.now.text.lines.now }
+    requires equ { body_in rows.now line ≡ Body.Equ definition.now }
+    ensures { result ≡ values_of_body (base_of rows.now) (program_of_rows rows.now) line (Body.Equ definition.now) }
+{
+    let text = &rows.text;
+    let name = definition.symbol.bytes();
+    let place = entry_of(text.names, text.definitions, DefinitionPlace::Nowhere, name);
+    let DefinitionPlace::Equ(equ) = place else {
+        return LineValues::Nothing;
+    };
+    if equ != line {
+        return LineValues::Nothing;
+    }
+    let value = entry_of(text.names, rows.equ_values, Err(ValueFault::LaterEqu), name);
+    LineValues::Symbol(value)
+}
+
+// The values of a line whose shape is no fault.
+fn values_of_body<C: Count>(
+    alloc: Global,
+    rows: &ValueRows<'_>,
+    line: u32,
+    counter: &mut C,
+) -> Result<LineValues, FixError>
+    requires rows { AreValueRows rows.now }
+    requires first { 1 ≤ line }
+    requires last { line ≤ length rows.now.text.lines.now }
+    requires few { length rows.now.text.lines.now ≤ MAX_LINES }
+    requires valued { C.valued_count counter.old + length (operands_of (body_in rows.now line)) < 2 ^ 64 }
+    ensures values { IfOk result (λ v. v ≡ values_of_body (base_of rows.now) (program_of_rows rows.now) line (body_in rows.now line)) }
+    ensures least { C.valued_count counter.old ≤ C.valued_count counter.new }
+    ensures most { C.valued_count counter.new ≤ C.valued_count counter.old + length (operands_of (body_in rows.now line)) }
+    ensures parsed { C.parsed_count counter.new ≡ C.parsed_count counter.old }
+    ensures encoded { C.encoded_count counter.new ≡ C.encoded_count counter.old }
+{
+    let stmt = statement_on(&rows.text, line);
+    let place = place_on(&rows.text, line);
+    match &stmt.body {
+        Body::Align(_) => Ok(LineValues::Padding(is_text(place.section), place.size)),
+        Body::Equ(definition) => Ok(symbol_value(rows, definition, line)),
+        _ => {
+            let names = names_at(&rows.text, rows.equ_values, rows.paired_highs, line);
+            let values = operand_values(alloc, stmt, &names, place.address, counter)?;
+            Ok(LineValues::Operands(values))
+        }
+    }
+}
+
+/// The values of a line.
+///
+/// The counter's number of expressions computed rises by at most one for each operand of the line, whatever the outcome.
+///
+/// # Errors
+///
+/// `Memory` if there was no memory for the values.
+pub fn line_values<C: Count>(
+    alloc: Global,
+    rows: &ValueRows<'_>,
+    line: u32,
+    counter: &mut C,
+) -> Result<LineValues, FixError>
+    requires rows { AreValueRows rows.now }
+    requires first { 1 ≤ line }
+    requires last { line ≤ length rows.now.text.lines.now }
+    requires few { length rows.now.text.lines.now ≤ MAX_LINES }
+    requires valued { C.valued_count counter.old + length (operands_of (body_in rows.now line)) < 2 ^ 64 }
+    ensures values { IfOk result (λ v. v ≡ values_at (base_of rows.now) (program_of_rows rows.now) line) }
+    ensures least { C.valued_count counter.old ≤ C.valued_count counter.new }
+    ensures most { C.valued_count counter.new ≤ C.valued_count counter.old + length (operands_of (body_in rows.now line)) }
+    ensures parsed { C.parsed_count counter.new ≡ C.parsed_count counter.old }
+    ensures encoded { C.encoded_count counter.new ≡ C.encoded_count counter.old }
+{
+    match shape_on(rows, line) {
+        Measured::Faulty(_) => Ok(LineValues::Nothing),
+        _ => values_of_body(alloc, rows, line, counter),
+    }
+}

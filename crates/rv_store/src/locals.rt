@@ -1,0 +1,141 @@
+//! The lines of local labels.
+
+ghost use Rattle.std.specs.Prelude.{◌≡◌, ◌≤◌, ◌<◌, ◌^◌, ℕ, [], nat_le, length, get_or, IfOk};
+ghost use Rattle.std.specs.List.Sorted.{IsNonDecreasing};
+ghost use Rattle.rv_store.specs.Locals.{line_among, local_line_in, with_line, with_label, AreWithLabels};
+ghost use Rattle.rv_store.specs.Program.{program_of};
+ghost use Rattle.rv_store.specs.Rows.{AreLocals};
+
+use crate::limits::MAX_LINES;
+use crate::line::Line;
+use rv_expr::Direction;
+use rv_stmt::{Label, LabelName};
+use rv_text::Sequence;
+use std::alloc::{AllocError, Global};
+use std::marker::Model;
+
+/// The lines of the local labels, by their numbers: for each number the lines that have its label, rising.
+#[derive(Drop)]
+pub struct Locals {
+    rows: Vec<Sequence<u32>>,
+}
+
+impl Model for Locals {
+    ghost use Rattle.std.specs.Prelude.{ℕ, List};
+    ghost use Rattle.rv_store.specs.Locals.{AreRising};
+
+    ghost Value = { List (List ℕ) };
+
+    ghost view = { λ l. l.rows.items };
+
+    ghost invariant = { λ l. AreRising l.rows.items };
+}
+
+// Empty lists up to that of this number.
+fn fill(alloc: Global, rows: &mut Vec<Sequence<u32>>, number: usize) -> Result<(), AllocError>
+    requires { number < 2 ^ 16 }
+    ensures lists { IfOk result (λ _. (k : ℕ) → get_or rows.new.items k [] ≡ get_or rows.old.items k []) }
+    ensures within { IfOk result (λ _. number < length rows.new.items) }
+{
+    'fill: while rows.len() <= number {
+        rows.push(Sequence::new(alloc))?;
+    }
+    Ok(())
+}
+
+// A line at the end of the list, where it is not there yet.
+fn add_line(lines: &mut Sequence<u32>, line: u32) -> Result<(), AllocError>
+    ensures { IfOk result (λ _. lines.new ≡ with_line line lines.old) }
+{
+    if lines.as_slice().last() != Some(&line) {
+        lines.push(line)?;
+    }
+    Ok(())
+}
+
+// A label of a line.
+fn add_label(
+    alloc: Global,
+    rows: &mut Vec<Sequence<u32>>,
+    label: &Label,
+    line: u32,
+) -> Result<(), AllocError>
+    ensures { IfOk result (λ _. (k : ℕ) → get_or rows.new.items k [] ≡ with_label line k label.now (get_or rows.old.items k [])) }
+{
+    match label.name {
+        LabelName::Local(number) => {
+            let number = usize::from(number);
+            fill(alloc, rows, number)?;
+            add_line(&mut rows[number], line)
+        }
+        LabelName::Symbol(_) => Ok(()),
+    }
+}
+
+// The labels of a line.
+fn add_labels(
+    alloc: Global,
+    rows: &mut Vec<Sequence<u32>>,
+    labels: &[Label],
+    line: u32,
+) -> Result<(), AllocError>
+    ensures { IfOk result (λ _. AreWithLabels line labels.now rows.old.items rows.new.items) }
+{
+    for label in labels {
+        add_label(alloc, rows, label, line)?;
+    }
+    Ok(())
+}
+
+// The line among those of a local label.
+fn line_among(lines: &[u32], line: u32, direction: Direction) -> Option<u32>
+    requires { IsNonDecreasing lines.now }
+    ensures { result ≡ line_among lines.now line direction }
+{
+    let count = lines.partition_point(
+        |l: &u32| -> bool
+            ensures { result ≡ nat_le l.now line }
+        { *l <= line },
+    );
+    let (up_to, above) = lines.split_at(count);
+    match direction {
+        Direction::Back => up_to.last().copied(),
+        Direction::Forward => above.first().copied(),
+    }
+}
+
+impl Locals {
+    /// Those of no lines, which take no memory.
+    pub fn new(alloc: Global) -> Self
+        ensures { result ≡ [] }
+    {
+        Locals {
+            rows: Vec::new(alloc),
+        }
+    }
+
+    /// The local labels of a text.
+    pub fn of(alloc: Global, lines: &[Line]) -> Result<Locals, AllocError>
+        requires few { length lines.now ≤ MAX_LINES }
+        ensures { IfOk result (λ l. AreLocals (program_of lines.now) (length lines.now) l) }
+    {
+        let mut rows = Vec::new(alloc);
+        for (i, line) in lines.iter().enumerate() {
+            add_labels(
+                alloc,
+                &mut rows,
+                line.stmt().labels.as_slice(),
+                i as u32 + 1,
+            )?;
+        }
+        Ok(Locals { rows })
+    }
+
+    /// The line of a local label as a line names it: `b` is the last one up to this line, `f` the first one after it.
+    pub fn line(&self, line: u32, number: u16, direction: Direction) -> Option<u32>
+        ensures { result ≡ local_line_in self.now line number direction }
+    {
+        let lines = self.rows.get(usize::from(number))?.as_slice();
+        line_among(lines, line, direction)
+    }
+}

@@ -1,0 +1,75 @@
+//! Names that have numbers.
+
+ghost use Rattle.std.specs.Prelude.{◌≡◌, ◌<◌, [], Some, length, IfSome, IfOk};
+ghost use Rattle.rv_store.specs.Rows.{number_of, in_row, Grows};
+
+use indexmap::IndexSet;
+use std::alloc::{AllocError, Global};
+use std::marker::Model;
+
+/// The names that have numbers, from 0 on. Contracts see the list of them, in the order of their numbers.
+#[derive(Drop)]
+pub struct NameTable {
+    names: IndexSet<Vec<u8>>,
+}
+
+impl Model for NameTable {
+    ghost use Rattle.std.specs.Prelude.{ℕ, List, map};
+
+    ghost Value = { List (List ℕ) };
+
+    ghost view = { λ t. map (λ n. n.items) t.names.keys };
+}
+
+impl NameTable {
+    /// A table of no names, which takes no memory.
+    pub fn new(alloc: Global) -> Self
+        ensures { result ≡ [] }
+    {
+        NameTable {
+            names: IndexSet::new(alloc),
+        }
+    }
+
+    /// How many names there are.
+    pub fn len(&self) -> usize
+        ensures { result ≡ length self.now }
+    {
+        self.names.len()
+    }
+
+    /// The number of a name, if it has one.
+    pub fn number(&self, name: &[u8]) -> Option<usize>
+        ensures number { result ≡ number_of self.now name.now }
+        ensures below { IfSome result (λ n. n < length self.now) }
+    {
+        self.names.get_index_of(name)
+    }
+
+    /// The number of a name, which gets the next one if it has none. Names that have numbers keep them, also where there is
+    /// no memory for one more.
+    pub fn intern(&mut self, alloc: Global, name: &[u8]) -> Result<usize, AllocError>
+        ensures number { IfOk result (λ n. number_of self.new name.now ≡ Some n) }
+        ensures grows { Grows self.old self.new }
+    {
+        if let Some(number) = self.number(name) {
+            return Ok(number);
+        }
+        let owned = Vec::from_slice(alloc, name)?;
+        let (number, _) = self.names.insert_full(owned)?;
+        Ok(number)
+    }
+}
+
+/// What a row by the numbers of names holds for a name: the other value where the name has no place in the row.
+pub fn entry_of<T: Copy>(names: &NameTable, row: &[T], other: T, name: &[u8]) -> T
+    ensures { result ≡ in_row names.now row.now other name.now }
+{
+    let Some(number) = names.number(name) else {
+        return other;
+    };
+    match row.get(number) {
+        Some(entry) => *entry,
+        None => other,
+    }
+}

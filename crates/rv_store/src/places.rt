@@ -1,0 +1,69 @@
+//! Where the lines of a text lie.
+
+ghost use Rattle.std.specs.Prelude.{◌≡◌, ◌≤◌, ◌<◌, ◌+◌, ◌^◌, All, length, slice_index, IfOk};
+ghost use Rattle.rv_layout.specs.Effects.{layout_of};
+ghost use Rattle.rv_layout.specs.Places.{section_of, address_of, line_size_of, IsBase, AreLimited};
+ghost use Rattle.rv_layout.specs.Sections.{section_number};
+ghost use Rattle.rv_store.specs.Ends.{next_offset, next_place};
+ghost use Rattle.rv_store.specs.Program.{for_lines};
+
+use crate::ends::Ends;
+use rv_layout::{Layout, Measured, SECTIONS, bases, section_number};
+use rv_stmt::Sect;
+use std::alloc::{AllocError, Global};
+
+/// Where a line lies, and how many bytes it has there.
+#[derive(Clone, Copy, Debug, PartialEq, Eq)]
+pub struct LinePlace {
+    pub section: Sect,
+    pub address: u32,
+    pub size: u32,
+}
+
+/// The layout of all lines.
+pub fn total_layout(shapes: &[Measured]) -> Layout
+    requires limited { AreLimited shapes.now }
+    ensures { result ≡ layout_of shapes.now }
+{
+    let mut total = Layout::start();
+    for shape in shapes {
+        total = total.then(shape);
+    }
+    total
+}
+
+// The place of the next line.
+fn next_place(bases: &[u32; SECTIONS], ends: &Ends, shape: &Measured) -> LinePlace
+    requires { slice_index bases.now (section_number ends.now.section) + next_offset ends.now < 2 ^ 32 }
+    ensures { result ≡ next_place bases.now ends.now shape.now }
+{
+    LinePlace {
+        section: ends.section,
+        address: bases[section_number(ends.section)] + ends.next_offset(),
+        size: ends.next_size(shape),
+    }
+}
+
+/// Where the lines lie, by their shapes: addresses from `base` on. `total` is the layout of all of them.
+pub fn places(
+    alloc: Global,
+    base: u32,
+    shapes: &[Measured],
+    total: &Layout,
+) -> Result<Vec<LinePlace>, AllocError>
+    requires base { IsBase base }
+    requires few { length shapes.now ≤ 16384 }
+    requires limited { AreLimited shapes.now }
+    requires total { total.now ≡ layout_of shapes.now }
+    ensures places { IfOk result (λ row. row.items ≡ for_lines (λ i. record { section = section_of shapes.now i; address = address_of base shapes.now i; size = line_size_of shapes.now i }) (length shapes.now)) }
+    ensures small { IfOk result (λ row. All (λ p. p.size ≤ 65536) row.items) }
+{
+    let bases = bases(total, base);
+    let mut ends = Ends::start();
+    let mut row = Vec::new(alloc);
+    for shape in shapes {
+        row.push(next_place(&bases, &ends, shape))?;
+        ends.advance(shape);
+    }
+    Ok(row)
+}

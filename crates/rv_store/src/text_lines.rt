@@ -1,0 +1,44 @@
+//! The lines of a text, by their numbers from 1 on.
+
+ghost use Rattle.std.specs.Prelude.{◌≡◌, ◌≤◌, length};
+ghost use Rattle.rv_store.specs.Layout.{place_at};
+ghost use Rattle.rv_stmt.specs.Statement.{operands_of};
+ghost use Rattle.rv_store.specs.Program.{statement_at, body_at};
+ghost use Rattle.rv_store.specs.TextRows.{AreTextRows, program_in};
+
+use crate::line::Line;
+use crate::places::LinePlace;
+use crate::text_rows::TextRows;
+use rv_stmt::{Stmt, operands_are_few};
+
+/// The statement of a line.
+#[tactic(auto, using(crate::proofs::TextLines::statement_of_line))]
+pub fn statement_on<'a>(text: &TextRows<'a>, line: u32) -> &'a Stmt
+    requires first { 1 ≤ line }
+    requires last { line ≤ length text.now.lines.now }
+    ensures { result.now ≡ statement_at (program_in text.now) line }
+{
+    text.lines[line as usize - 1].stmt()
+}
+
+/// A line has at most 1,000 operands.
+#[tactic(auto, using(crate::proofs::TextLines::few_operands_of_line))]
+pub fn operands_are_few_on(text: &TextRows<'_>, line: u32)
+    requires first { 1 ≤ line }
+    requires last { line ≤ length text.now.lines.now }
+    ensures { length (operands_of (body_at (program_in text.now) line)) ≤ 1000 }
+{
+    let _ = text.lines[line as usize - 1].text();
+    operands_are_few();
+}
+
+/// Where a line lies.
+#[tactic(auto, using(crate::proofs::TextLines::place_of_line, crate::proofs::TextLines::length_of_places))]
+pub fn place_on(text: &TextRows<'_>, line: u32) -> LinePlace
+    requires rows { AreTextRows text.now }
+    requires first { 1 ≤ line }
+    requires last { line ≤ length text.now.lines.now }
+    ensures { result ≡ place_at text.now.base (program_in text.now) line }
+{
+    text.places[line as usize - 1]
+}
