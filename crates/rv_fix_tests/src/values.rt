@@ -72,9 +72,10 @@ fn statement(alloc: Global, line: &str) -> Result<Stmt, Fail> {
 
 // The values on a line at 0x1002. At most one is counted for each operand.
 fn valued(alloc: Global, stmt: &Stmt) -> Result<Values, Fail> {
+    let operands = stmt.body.operands().len();
     let mut tally = Tally::new();
     let values = operand_values(alloc, stmt, &GIVEN, 0x1002, &mut tally)?;
-    if tally.valued_calls() as usize > values.entries().len() {
+    if tally.valued_calls() as usize > operands {
         return Err(Fail::new("more values counted than there are"));
     }
     Ok(values)

@@ -72,7 +72,7 @@ fn section_head(section: usize) -> (&'static str, bool)
 }
 
 // Adds a row of up to sixteen bytes.
-pub(crate) fn push_byte_row<W: Sink>(
+fn push_byte_row<W: Sink>(
     block: &mut OutputBlock,
     sink: &mut W,
     address: u32,
@@ -118,7 +118,7 @@ fn push_byte_rows<W: Sink>(
 
 // Adds the row of a section.
 #[tactic(auto, unfolding(crate::specs::Image::section_row))]
-pub(crate) fn push_section_row<W: Sink>(
+fn push_section_row<W: Sink>(
     block: &mut OutputBlock,
     sink: &mut W,
     name: &[u8],
