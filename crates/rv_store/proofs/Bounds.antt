@@ -1,13 +1,10 @@
 -- How far the bytes of sections reach.
 use Rattle.std.proofs.Common.{◌≡◌, ℕ, zero, suc, ◌+◌, ◌-◌, ◌*◌, ◌^◌, ◌<◌, ◌≤◌, ◌==◌, ◌⊎◌, inl, inr, List, [], ◌∷◌, ◌++◌, length, take, if◌then◌else◌, refl, ap, ◌∙◌, arith}
-use Rattle.std.proofs.Math.Nat.{pow-le-pow_right}
 use Rattle.std.proofs.lemmas.Bool.{cases_eq, eq-eqb, ne_eqb}
 use Rattle.std.proofs.lemmas.List.{length-append, take_all}
-use Rattle.std.proofs.lemmas.Nat.{pow_pos}
 use Rattle.rv_stmt.specs.declared.section.Sect.{Sect}
 use Rattle.rv_stmt.specs.declared.section.Sect.TheVariants.{Text}
 use Rattle.rv_layout.specs.declared.measured.Measured.{Measured}
-use Rattle.rv_layout.specs.declared.measured.Measured.TheVariants.{Bytes, Align, Switch, Nothing, Faulty}
 use Rattle.rv_layout.specs.PlaceLaws.{line_bound, sum_kept, sum_grows, sum_of_zeros}
 use Rattle.rv_layout.specs.Places.{section_after, offset_after, section_through, offset_through, section_end_of, base_from, section_base_of, sum_below, IsLimited, IsBase}
 use Rattle.rv_layout.specs.RoundingLaws.{round_up-below}

@@ -17,9 +17,7 @@ use Rattle.rv_layout.specs.PlaceLaws.{part_within, ends_together, number_below, 
 use Rattle.rv_store.specs.declared.ends.Ends.{Ends}
 use Rattle.rv_store.specs.declared.places.LinePlace.{LinePlace}
 use Rattle.rv_store.specs.Ends.{ends_of, next_offset, ends_after, next_place, place_by_shapes}
-use Rattle.rv_store.specs.Layout.{shape_at, place_at}
-use Rattle.rv_store.specs.Program.{Program, for_lines}
-use Rattle.rv_store.specs.Rows.{AreShapes, ArePlaces}
+use Rattle.rv_store.specs.Program.{for_lines}
 use Rattle.rv_store.proofs.Programs.{at-for_lines, length-for_lines}
 
 -- Limits
@@ -162,10 +160,3 @@ places-small base ms n h = λ k d l.
     let small = size_at-small (offset_of ms (suc k)) (get_or ms (suc k - 1) Nothing) (at-IsLimited ms (suc k - 1) h) in
     let size = ap (λ (p : LinePlace). p.size) here in
     omega (arith, small, size)
-
--- by the shapes of a text
-pub ArePlaces-from_shapes : (base : ℕ) (program : Program) (shapes : List Measured) (row : List LinePlace) → AreShapes program shapes → row ≡ for_lines (place_by_shapes base shapes) (length shapes) → ArePlaces base program row
-ArePlaces-from_shapes base program shapes row are is =
-    is
-    ∙ ap (λ ms. for_lines (place_by_shapes base ms) (length ms)) are
-    ∙ ap (for_lines (place_at base program)) (length-for_lines (shape_at program) (length program))
