@@ -38,8 +38,6 @@ impl Names for Nothing {
 const LINE: &[u8] = b".byte 1, 2, 3, 4, 5, 6, 7, 8, 9";
 
 fn values_of(alloc: Global, stmt: &Stmt) -> Result<Values, FixError> {
-    // One is counted for each operand, and there are fewer than 2^64.
-    let _ = stmt.body.operands().len();
     operand_values(alloc, stmt, &Nothing {}, 0, &mut Tally::new())
 }
 

@@ -1,6 +1,6 @@
 //! Computes the values of a line's operands.
 
-ghost use Rattle.std.specs.Prelude.{◌≡◌, ◌+◌, ◌-◌, ◌<◌, ◌≤◌, ◌^◌, pos, length, map, IfOk};
+ghost use Rattle.std.specs.Prelude.{◌≡◌, ◌+◌, ◌-◌, ◌<◌, ◌≤◌, ◌^◌, min, pos, length, map, IfOk};
 ghost use Rattle.rv_stmt.specs.Statement.{operands_of};
 ghost use Rattle.rv_layout.specs.Shapes.{exponent_by_role};
 ghost use Rattle.rv_fix.specs.Values.{given_to, operand_value, bytes_to_alignment, counted_from, entry_of, operand_values_of};
@@ -151,7 +151,8 @@ fn entries<N: Names, C: Count>(
 /// `names` says. An alignment's value is the number of bytes from `address` to the next address with that alignment, or 0
 /// where its number is no alignment.
 ///
-/// The counter's number of expressions computed rises by at most one for each operand, whatever the outcome.
+/// The counter's number of expressions computed has to have room for one more for each operand, which it has at 2^63. It
+/// rises by at most one for each operand, whatever the outcome.
 ///
 /// # Errors
 ///
@@ -163,7 +164,7 @@ pub fn operand_values<N: Names, C: Count>(
     address: u32,
     counter: &mut C,
 ) -> Result<Values, FixError>
-    requires { C.valued_count counter.old + length (operands_of stmt.now.body) < 2 ^ 64 }
+    requires { C.valued_count counter.old + min (length (operands_of stmt.now.body)) (2 ^ 63 - 1) < 2 ^ 64 }
     ensures values { IfOk result (λ v. v ≡ operand_values_of (N.environment names.now address) address stmt.now.body) }
     ensures least { C.valued_count counter.old ≤ C.valued_count counter.new }
     ensures most { C.valued_count counter.new ≤ C.valued_count counter.old + length (operands_of stmt.now.body) }

@@ -72,10 +72,9 @@ fn statement(alloc: Global, line: &str) -> Result<Stmt, Fail> {
 
 // The values on a line at 0x1002. At most one is counted for each operand.
 fn valued(alloc: Global, stmt: &Stmt) -> Result<Values, Fail> {
-    let operands = stmt.body.operands().len();
     let mut tally = Tally::new();
     let values = operand_values(alloc, stmt, &GIVEN, 0x1002, &mut tally)?;
-    if tally.valued_calls() as usize > operands {
+    if tally.valued_calls() as usize > stmt.body.operands().len() {
         return Err(Fail::new("more values counted than there are"));
     }
     Ok(values)

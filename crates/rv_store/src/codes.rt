@@ -1,12 +1,15 @@
 //! The codes of lines.
 
-ghost use Rattle.std.specs.Prelude.{◌≡◌, ◌<◌, ◌≤◌, ◌+◌, ◌-◌, ◌^◌, [], ◌∷◌, IfOk};
+ghost use Rattle.std.specs.Prelude.{◌≡◌, ◌<◌, ◌≤◌, ◌+◌, ◌-◌, ◌^◌, [], ◌∷◌, length, IfOk};
 ghost use Rattle.rv_fix.specs.Code.{code, code_of_definition, code_of_body};
 ghost use Rattle.rv_store.specs.declared.line_values.LineValues.TheVariants.{Symbol};
-ghost use Rattle.rv_store.specs.Codes.{code_by_values};
+ghost use Rattle.rv_store.specs.Codes.{code_by_values, values_at, code_at};
 ghost use Rattle.rv_store.specs.Fits.{FitsBody, Fits};
+ghost use Rattle.rv_store.specs.ValueRows.{AreValueRows, base_of, program_of_rows};
 
 use crate::line_values::LineValues;
+use crate::text_lines::statement_on;
+use crate::value_rows::{ValueRows, shape_on};
 use rv_fix::{Coded, Entry, FixError, encode_line};
 use rv_layout::Measured;
 use rv_stmt::{Body, Definition, Stmt};
@@ -72,23 +75,17 @@ fn code_of_values<C: Count>(
     }
 }
 
-/// The code of a line by its statement, its shape and its values, which `line_values` gives.
-///
-/// The counter's number of lines encoded rises by at most one, whatever the outcome.
-///
-/// # Errors
-///
-/// `Memory` if there was no memory for the bytes.
-pub fn line_code<C: Count>(
+// The code of a line with this statement, this shape and these values.
+fn code_by_values<C: Count>(
     alloc: Global,
     stmt: &Stmt,
-    shape: &Measured,
+    shape: Measured,
     values: &LineValues,
     counter: &mut C,
 ) -> Result<Coded, FixError>
-    requires values { Fits shape.now stmt.now.body values.now }
+    requires values { Fits shape stmt.now.body values.now }
     requires encoded { C.encoded_count counter.old < 2 ^ 64 - 1 }
-    ensures code { IfOk result (λ c. c ≡ code_by_values shape.now stmt.now.body values.now) }
+    ensures code { IfOk result (λ c. c ≡ code_by_values shape stmt.now.body values.now) }
     ensures least { C.encoded_count counter.old ≤ C.encoded_count counter.new }
     ensures most { C.encoded_count counter.new ≤ C.encoded_count counter.old + 1 }
     ensures parsed { C.parsed_count counter.new ≡ C.parsed_count counter.old }
@@ -97,8 +94,40 @@ pub fn line_code<C: Count>(
     match shape {
         Measured::Faulty(fault) => match values {
             LineValues::Padding(in_text, count) => Ok(Coded::padding(*in_text, *count)),
-            _ => Ok(Coded::faulty(*fault)),
+            _ => Ok(Coded::faulty(fault)),
         },
         _ => code_of_values(alloc, stmt, values, counter),
+    }
+}
+
+impl ValueRows<'_> {
+    /// The code of a line with its values, which `values` gives.
+    ///
+    /// The counter's number of lines encoded rises by at most one, whatever the outcome.
+    ///
+    /// # Errors
+    ///
+    /// `Memory` if there was no memory for the bytes.
+    #[tactic(auto, using(crate::proofs::ValueLaws::values_fit))]
+    pub fn code<C: Count>(
+        &self,
+        alloc: Global,
+        line: u32,
+        values: &LineValues,
+        counter: &mut C,
+    ) -> Result<Coded, FixError>
+        requires rows { AreValueRows self.now }
+        requires first { 1 ≤ line }
+        requires last { line ≤ length self.now.text.lines.now }
+        requires values { values.now ≡ values_at (base_of self.now) (program_of_rows self.now) line }
+        requires encoded { C.encoded_count counter.old < 2 ^ 64 - 1 }
+        ensures code { IfOk result (λ c. c ≡ code_at (base_of self.now) (program_of_rows self.now) line) }
+        ensures least { C.encoded_count counter.old ≤ C.encoded_count counter.new }
+        ensures most { C.encoded_count counter.new ≤ C.encoded_count counter.old + 1 }
+        ensures parsed { C.parsed_count counter.new ≡ C.parsed_count counter.old }
+        ensures valued { C.valued_count counter.new ≡ C.valued_count counter.old }
+    {
+        let stmt = statement_on(&self.text, line);
+        code_by_values(alloc, stmt, shape_on(self, line), values, counter)
     }
 }

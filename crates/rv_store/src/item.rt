@@ -6,11 +6,10 @@ ghost use Rattle.rv_store.specs.declared.limits.TheConstants.{MAX_LINES};
 ghost use Rattle.rv_store.specs.Items.{IsItem, AreItems};
 ghost use Rattle.rv_store.specs.ValueRows.{AreValueRows, base_of, body_in};
 
-use crate::codes::line_code;
 use crate::edit_error::EditError;
 use crate::line::Line;
-use crate::line_values::{LineValues, line_values};
-use crate::text_lines::{operands_are_few_on, statement_on};
+use crate::line_values::LineValues;
+use crate::text_lines::operands_are_few_on;
 use crate::value_rows::{ValueRows, shape_on};
 use rv_fix::Coded;
 use rv_layout::Measured;
@@ -35,7 +34,6 @@ pub struct Item {
 /// # Errors
 ///
 /// `Memory` if there was no memory for what is kept.
-#[tactic(auto, using(crate::proofs::ValueLaws::values_fit))]
 pub fn renewed<C: Count>(
     alloc: Global,
     rows: &ValueRows<'_>,
@@ -58,18 +56,11 @@ pub fn renewed<C: Count>(
     ensures parsed { C.parsed_count counter.new ≡ C.parsed_count counter.old }
 {
     operands_are_few_on(&rows.text, line);
-    let shape = shape_on(rows, line);
-    let values = line_values(alloc, rows, line, counter)?;
-    let code = line_code(
-        alloc,
-        statement_on(&rows.text, line),
-        &shape,
-        &values,
-        counter,
-    )?;
+    let values = rows.values(alloc, line, counter)?;
+    let code = rows.code(alloc, line, &values, counter)?;
     Ok(Item {
         line: rows.text.lines[line as usize - 1].share()?,
-        shape,
+        shape: shape_on(rows, line),
         values: Rc::new(alloc, values)?,
         code: Rc::new(alloc, code)?,
     })

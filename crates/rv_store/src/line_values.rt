@@ -132,32 +132,34 @@ fn values_of_body<C: Count>(
     }
 }
 
-/// The values of a line.
-///
-/// The counter's number of expressions computed rises by at most one for each operand of the line, whatever the outcome.
-///
-/// # Errors
-///
-/// `Memory` if there was no memory for the values.
-pub fn line_values<C: Count>(
-    alloc: Global,
-    rows: &ValueRows<'_>,
-    line: u32,
-    counter: &mut C,
-) -> Result<LineValues, FixError>
-    requires rows { AreValueRows rows.now }
-    requires first { 1 ≤ line }
-    requires last { line ≤ length rows.now.text.lines.now }
-    requires few { length rows.now.text.lines.now ≤ MAX_LINES }
-    requires valued { C.valued_count counter.old + length (operands_of (body_in rows.now line)) < 2 ^ 64 }
-    ensures values { IfOk result (λ v. v ≡ values_at (base_of rows.now) (program_of_rows rows.now) line) }
-    ensures least { C.valued_count counter.old ≤ C.valued_count counter.new }
-    ensures most { C.valued_count counter.new ≤ C.valued_count counter.old + length (operands_of (body_in rows.now line)) }
-    ensures parsed { C.parsed_count counter.new ≡ C.parsed_count counter.old }
-    ensures encoded { C.encoded_count counter.new ≡ C.encoded_count counter.old }
-{
-    match shape_on(rows, line) {
-        Measured::Faulty(_) => Ok(LineValues::Nothing),
-        _ => values_of_body(alloc, rows, line, counter),
+impl ValueRows<'_> {
+    /// The values of a line.
+    ///
+    /// The counter's number of expressions computed rises by at most one for each operand of the line, whatever the outcome.
+    ///
+    /// # Errors
+    ///
+    /// `Memory` if there was no memory for the values.
+    pub fn values<C: Count>(
+        &self,
+        alloc: Global,
+        line: u32,
+        counter: &mut C,
+    ) -> Result<LineValues, FixError>
+        requires rows { AreValueRows self.now }
+        requires first { 1 ≤ line }
+        requires last { line ≤ length self.now.text.lines.now }
+        requires few { length self.now.text.lines.now ≤ MAX_LINES }
+        requires valued { C.valued_count counter.old + length (operands_of (body_in self.now line)) < 2 ^ 64 }
+        ensures values { IfOk result (λ v. v ≡ values_at (base_of self.now) (program_of_rows self.now) line) }
+        ensures least { C.valued_count counter.old ≤ C.valued_count counter.new }
+        ensures most { C.valued_count counter.new ≤ C.valued_count counter.old + length (operands_of (body_in self.now line)) }
+        ensures parsed { C.parsed_count counter.new ≡ C.parsed_count counter.old }
+        ensures encoded { C.encoded_count counter.new ≡ C.encoded_count counter.old }
+    {
+        match shape_on(self, line) {
+            Measured::Faulty(_) => Ok(LineValues::Nothing),
+            _ => values_of_body(alloc, self, line, counter),
+        }
     }
 }

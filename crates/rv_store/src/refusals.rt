@@ -44,8 +44,8 @@ pub fn delete_refused(count: usize, k: u32) -> Option<EditError>
 pub fn replace_refused(count: usize, k: u32, line: &[u8]) -> Option<EditError>
     ensures { (lines : List (List ℕ)) → length lines ≡ count → result ≡ refusal_of lines (Replace k line.now) }
 {
-    if k == 0 || k as usize > count {
-        return Some(EditError::Place);
+    if let Some(e) = delete_refused(count, k) {
+        return Some(e);
     }
     if !is_line(line) {
         return Some(EditError::Line);
