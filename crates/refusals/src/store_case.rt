@@ -4,7 +4,8 @@ ghost use Rattle.std.specs.Prelude.{◌≡◌, IfOk};
 
 use crate::case::{Outcome, pad};
 use rv_fix::Coded;
-use rv_store::{Changed, EditError, Store, write_image};
+use rv_list::write_image;
+use rv_store::{Changed, EditError, Store};
 use rv_text::{Fault, FaultNumber, MemSink, Span, Tally};
 use std::alloc::Global;
 

@@ -7,7 +7,8 @@ use Rattle.std.proofs.lemmas.List.Folds.{list_any-append}
 use Rattle.std.proofs.lemmas.List.Splits.{length-slice_split}
 use Rattle.memchr.specs.Find.{IsFirstByte, is_byte}
 use Rattle.rv_commands.specs.Transcript.{is_line_break, pieces_of, complete_commands, last_piece, unless_empty, commands_of}
-use Rattle.rv_commands.specs.Steps.{IsUnbroken, AreUnbroken, ended}
+use Rattle.rv_commands.specs.Steps.{IsUnbroken, AreUnbroken}
+use Rattle.rv_commands.specs.Pages.{ended}
 
 or_false : (a b : Bool) → (a ≡ true → ⊥) → b ≡ false → (a || b) ≡ false
 or_false true b h e = absurd (h refl)

@@ -1,7 +1,6 @@
 -- One command after another, whose answers are gathered.
 use Rattle.std.proofs.Common.{◌≡◌, ℕ, List, [], ◌∷◌, ◌++◌, Option, refl, ◌∙◌, append_assoc}
 use Rattle.std.proofs.lemmas.Grind.{flat_map-append}
-use Rattle.std.specs.List.{flat_map}
 use Rattle.rv_text.specs.Streams.{after, WritesPrefix}
 use Rattle.rv_store.specs.Text.{Text}
 use Rattle.rv_text.specs.Blocks.{Waits}

@@ -1,6 +1,10 @@
 pub mod Examples
+pub mod TranscriptExamples
 pub mod TranscriptLemmas
 pub mod CutLemmas
+pub mod WordLemmas
+pub mod EditedLemmas
+pub mod LineRows
 pub mod GatherLemmas
 pub mod StepLemmas
 pub mod OutcomeLemmas

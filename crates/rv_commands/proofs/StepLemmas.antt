@@ -4,7 +4,8 @@ use Rattle.std.proofs.lemmas.Grind.{flat_map-append}
 use Rattle.std.specs.List.{flat_map}
 use Rattle.rv_text.specs.StreamLaws.{after_after, after_none}
 use Rattle.rv_store.specs.Text.{Text}
-use Rattle.rv_commands.specs.Steps.{Answered, StopsAtWrite, ended}
+use Rattle.rv_commands.specs.Steps.{Answered, StopsAtWrite}
+use Rattle.rv_commands.specs.Pages.{ended}
 use Rattle.rv_commands.proofs.CutLemmas.{unbroken_append}
 use Rattle.rv_commands.proofs.TranscriptLemmas.{answers_append}
 

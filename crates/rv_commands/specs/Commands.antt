@@ -1,32 +1,69 @@
 -- The commands of the editor, and how they are spelled.
-use Rattle.std.specs.Prelude.{ℕ, nat_le, nat_eq, List, [], length, drop, codes, bytes_eq, Option, Some, None, if◌then◌else◌}
-use Rattle.std.specs.List.{starts_with}
-use Rattle.std.specs.Option.{option_map}
+use Rattle.std.specs.Prelude.{ℕ, nat_le, Bool, ◌==◌, List, length, codes, bytes_eq, Option, Some, None, if◌then◌else◌}
+use Rattle.std.specs.List.{before_first, after_first}
+use Rattle.std.specs.Option.{option_map, option_or}
 use Rattle.rv_text.specs.Numbers.{digits_number}
+use Rattle.rv_store.specs.Text.{Edit, Insert, Delete, Replace}
 use Rattle.rv_commands.specs.declared.command.Command.{Command}
-use Rattle.rv_commands.specs.declared.command.Command.TheVariants as declared
+use Rattle.rv_commands.specs.declared.command.Command.TheVariants as command
+use Rattle.rv_commands.specs.declared.edits.LineEdit.{LineEdit}
+use Rattle.rv_commands.specs.declared.edits.LineEdit.TheVariants as edit
+use Rattle.rv_commands.specs.declared.pages.Page.{Page}
+use Rattle.rv_commands.specs.declared.pages.Page.TheVariants.{Image, Listing, Symbols, Faults, Lines}
 
--- what a command asks for
+-- what a command asks for: a line after the last one, an edit, or to show a page
 pub data Request : Type 0 where
   Append : (line : List ℕ) → Request
-  Delete : (place : ℕ) → Request
-  Image : Request
+  Change : (edit : Edit) → Request
+  Show : (page : Page) → Request
+
+-- an edit without where its line lies in memory
+abbrev pub edit_of : LineEdit → Edit
+edit_of (edit.Insert place line) = Insert place line.now
+edit_of (edit.Delete place) = Delete place
+edit_of (edit.Replace place line) = Replace place line.now
 
 -- what a command that was read asks for
 abbrev pub request : Command → Request
-request (declared.Append line) = Append line.now
-request (declared.Delete place) = Delete place
-request declared.Image = Image
+request (command.Append line) = Append line.now
+request (command.Change edit) = Change (edit_of edit)
+request (command.Show page) = Show page
+
+-- a space ends a word
+abbrev pub is_space : ℕ → Bool
+is_space byte = byte == 32
+
+-- the bytes before the first space, or all where there is none
+abbrev pub first_word : List ℕ → List ℕ
+first_word bytes = before_first is_space bytes
+
+-- the bytes behind the first space, or nothing where there is none
+abbrev pub after_word : List ℕ → List ℕ
+after_word bytes = after_first is_space bytes
 
 -- the number of a line: one to nine decimal digits
 abbrev pub place_of : List ℕ → Option ℕ
 place_of slice = if nat_le (length slice) 9 then digits_number 10 slice else None
 
+-- the page of this name
+abbrev pub page_of : List ℕ → Option Page
+page_of name =
+    if bytes_eq name (codes "image") then Some Image
+    else (if bytes_eq name (codes "list") then Some Listing
+    else (if bytes_eq name (codes "syms") then Some Symbols
+    else (if bytes_eq name (codes "faults") then Some Faults
+    else (if bytes_eq name (codes "text") then Some Lines
+    else None))))
+
+-- the edit that a word asks for with what stands behind it
+abbrev pub change_of : (word rest : List ℕ) → Option Request
+change_of word rest =
+    if bytes_eq word (codes "a") then Some (Append rest)
+    else (if bytes_eq word (codes "i") then option_map (λ place. Change (Insert place (after_word rest))) (place_of (first_word rest))
+    else (if bytes_eq word (codes "d") then option_map (λ place. Change (Delete place)) (place_of rest)
+    else (if bytes_eq word (codes "r") then option_map (λ place. Change (Replace place (after_word rest))) (place_of (first_word rest))
+    else None)))
+
 -- What the bytes of a command ask for, if anything. One space stands between the parts, and nothing after the last.
 abbrev pub request_of : List ℕ → Option Request
-request_of command =
-    if bytes_eq command (codes "a") then Some (Append [])
-    else (if starts_with nat_eq command (codes "a ") then Some (Append (drop 2 command))
-    else (if starts_with nat_eq command (codes "d ") then option_map (λ place. Delete place) (place_of (drop 2 command))
-    else (if bytes_eq command (codes "image") then Some Image
-    else None)))
+request_of command = option_or (option_map Show (page_of command)) (change_of (first_word command) (after_word command))

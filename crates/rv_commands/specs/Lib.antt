@@ -1,5 +1,7 @@
 pub mod Commands
+pub mod Pages
 pub mod Transcript
+pub mod Edited
 pub mod Outcomes
 pub mod Steps
 pub mod Faults

@@ -3,11 +3,12 @@ use Rattle.std.specs.Prelude.{◌≡◌, ℕ, ◌≤◌, List, [], ◌∷◌, �
 use Rattle.std.specs.List.{flat_map, list_any}
 use Rattle.rv_text.specs.Streams.{before, after, IsAtEnd, Writes, WritesPrefix}
 use Rattle.rv_store.specs.declared.edit_error.EditError.{EditError}
-use Rattle.rv_store.specs.Text.{Text}
+use Rattle.rv_store.specs.Text.{Text, Edit}
 use Rattle.rv_commands.specs.declared.run_error.RunError.{RunError}
 use Rattle.rv_commands.specs.declared.run_error.RunError.TheVariants.{Read, Write, Memory}
 use Rattle.rv_text.specs.Blocks.{Waits, Gathers}
-use Rattle.rv_commands.specs.Transcript.{accepted, refused, IsAnswer, AreAnswers, is_line_break, unless_empty, empty_text}
+use Rattle.rv_commands.specs.Pages.{ended}
+use Rattle.rv_commands.specs.Transcript.{accepted, refused, IsEditAnswer, IsAnswer, AreAnswers, is_line_break, unless_empty, empty_text}
 
 -- the answer to an edit that was tried, after which there are n lines
 abbrev pub edit_answer : {A : Type 0} → ℕ → Result A EditError → List ℕ
@@ -25,6 +26,11 @@ abbrev pub GathersAnswer : {A E : Type 0} → Text → List ℕ → Option (List
 GathersAnswer old command taken_before waiting_before result taken_after waiting_after new =
     (answer : List ℕ) × IsAnswer old command answer new × Gathers taken_before waiting_before answer result taken_after waiting_after
 
+-- the same for the answer to an edit
+abbrev pub GathersEditAnswer : {A E : Type 0} → Text → Edit → Option (List ℕ) → List ℕ → Result A E → Option (List ℕ) → List ℕ → Text → Type 0
+GathersEditAnswer old edit taken_before waiting_before result taken_after waiting_after new =
+    (answer : List ℕ) × IsEditAnswer old edit answer new × Gathers taken_before waiting_before answer result taken_after waiting_after
+
 -- no line break stands in these bytes
 abbrev pub IsUnbroken : List ℕ → Type 0
 IsUnbroken bytes = list_any is_line_break bytes ≡ false
@@ -33,10 +39,6 @@ IsUnbroken bytes = list_any is_line_break bytes ≡ false
 abbrev pub AreUnbroken : List (List ℕ) → Type 0
 AreUnbroken [] = Unit {0}
 AreUnbroken (command ∷ commands) = IsUnbroken command × AreUnbroken commands
-
--- a command with its line break
-abbrev pub ended : List ℕ → List ℕ
-ended command = command ++ 10 ∷ []
 
 -- All commands of these bytes up to a rest are answered, and the answers were gathered.
 pub record Gathered (old : Text) (bytes rest : List ℕ) (taken_before : Option (List ℕ)) (waiting_before : List ℕ) (taken_after : Option (List ℕ)) (waiting_after : List ℕ) (new : Text) : Type 0 where

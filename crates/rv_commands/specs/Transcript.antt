@@ -1,15 +1,11 @@
 -- What the editor may answer to an input.
-use Rattle.std.specs.Prelude.{◌≡◌, ℕ, ◌-◌, Bool, ◌==◌, List, [], ◌∷◌, ◌++◌, length, take, slice_index_or, codes, decimal, Option, Some, None, ◌⊎◌, ◌+◌}
+use Rattle.std.specs.Prelude.{◌≡◌, ℕ, ◌-◌, Bool, ◌==◌, List, [], ◌∷◌, ◌++◌, length, take, slice_index_or, codes, Option, Some, None, ◌⊎◌, ◌+◌}
 use Rattle.std.specs.List.{slice_split}
 use Rattle.rv_store.specs.declared.edit_error.EditError.{EditError}
 use Rattle.rv_store.specs.declared.edit_error.EditError.TheVariants.{Memory}
-use Rattle.rv_store.specs.Text.{Text, Edit, Insert, Delete, refusal_of, text_after, refusal_number}
-use Rattle.rv_store.specs.Image.{image_text}
-use Rattle.rv_commands.specs.Commands.{Request, Append, Delete as DeleteLine, Image, request_of}
-
--- a word, a number and a line break
-unfoldable pub numbered : List ℕ → ℕ → List ℕ
-numbered word n = word ++ decimal n ++ codes "\n"
+use Rattle.rv_store.specs.Text.{Text, Edit, Insert, refusal_of, text_after, refusal_number}
+use Rattle.rv_commands.specs.Commands.{Request, Append, Change, Show, request_of}
+use Rattle.rv_commands.specs.Pages.{numbered, page_text}
 
 -- the answer to an edit that was made, after which there are n lines
 abbrev pub accepted : ℕ → List ℕ
@@ -34,8 +30,8 @@ IsEditAnswer old edit answer new = IsEditAnswerBy (refusal_of old.lines edit) ol
 -- the answer to what a command asks for, if it asks for anything, and the text afterwards
 abbrev pub IsAnswerTo : Text → Option Request → List ℕ → Text → Type 0
 IsAnswerTo old (Some (Append line)) answer new = IsEditAnswer old (Insert (length old.lines + 1) line) answer new
-IsAnswerTo old (Some (DeleteLine place)) answer new = IsEditAnswer old (Delete place) answer new
-IsAnswerTo old (Some Image) answer new = (answer ≡ image_text old) × (new ≡ old)
+IsAnswerTo old (Some (Change edit)) answer new = IsEditAnswer old edit answer new
+IsAnswerTo old (Some (Show page)) answer new = (answer ≡ page_text page old) × (new ≡ old)
 IsAnswerTo old None answer new = (answer ≡ codes "bad\n") × (new ≡ old)
 
 -- the answer to a command, and the text afterwards

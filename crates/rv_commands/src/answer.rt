@@ -2,21 +2,24 @@
 
 ghost use Rattle.std.specs.Prelude.{◌≡◌, ◌-◌, ◌^◌, ◌<◌, ◌≤◌};
 ghost use Rattle.rv_text.specs.Streams.{failures_after};
-ghost use Rattle.rv_store.specs.Image.{image_text};
 ghost use Rattle.rv_text.specs.Blocks.{Gathers};
-ghost use Rattle.rv_commands.specs.Steps.{edit_answer, AnswersCommand, GathersAnswer};
+ghost use Rattle.rv_commands.specs.Commands.{edit_of};
+ghost use Rattle.rv_commands.specs.Pages.{page_text};
+ghost use Rattle.rv_commands.specs.Steps.{edit_answer, AnswersCommand, GathersAnswer, GathersEditAnswer};
 
 use crate::command::{Command, read_command};
+use crate::edits::{LineEdit, make_edit};
 use crate::numbered::push_numbered;
-use rv_store::{Changed, EditError, Store, write_image};
-use rv_text::{Failed, OutputBlock, Sink, Tally};
+use crate::pages::{Page, write_page};
+use rv_store::{EditError, Store};
+use rv_text::{Failed, OutputBlock, Sink};
 
 // Answers an edit that was tried, after which there are `len` lines.
 fn answer_edit<W: Sink>(
     block: &mut OutputBlock,
     sink: &mut W,
     len: usize,
-    edited: &Result<Changed, EditError>,
+    edited: &Result<(), EditError>,
 ) -> Result<(), Failed>
     requires failures { W.failures sink.old < 2 ^ 64 - 1 }
     requires few { len ≤ 16384 }
@@ -29,14 +32,34 @@ fn answer_edit<W: Sink>(
     }
 }
 
-// Writes the image after the answers before it.
-fn answer_image<W: Sink>(block: &mut OutputBlock, sink: &mut W, store: &Store) -> Result<(), Failed>
+// Makes an edit, and answers it.
+fn answer_change<W: Sink>(
+    store: &mut Store,
+    block: &mut OutputBlock,
+    sink: &mut W,
+    edit: LineEdit<'_>,
+) -> Result<(), Failed>
     requires { W.failures sink.old < 2 ^ 64 - 1 }
-    ensures text { Gathers (W.taken sink.old) block.old (image_text store.now) result (W.taken sink.new) block.new }
+    ensures text { GathersEditAnswer store.old (edit_of edit.entry) (W.taken sink.old) block.old result (W.taken sink.new) block.new store.new }
+    ensures count { W.failures sink.new ≡ failures_after (W.failures sink.old) result }
+{
+    let edited = make_edit(store, edit);
+    answer_edit(block, sink, store.len(), &edited)
+}
+
+// Writes a page after the answers before it.
+fn answer_page<W: Sink>(
+    block: &mut OutputBlock,
+    sink: &mut W,
+    store: &Store,
+    page: Page,
+) -> Result<(), Failed>
+    requires { W.failures sink.old < 2 ^ 64 - 1 }
+    ensures text { Gathers (W.taken sink.old) block.old (page_text page store.now) result (W.taken sink.new) block.new }
     ensures count { W.failures sink.new ≡ failures_after (W.failures sink.old) result }
 {
     block.flush(sink)?;
-    match write_image(store, sink) {
+    match write_page(page, store, sink) {
         Ok(()) => Ok(()),
         Err(_) => Err(Failed),
     }
@@ -55,14 +78,11 @@ pub fn answer_command<W: Sink>(
 {
     match read_command(command) {
         Some(Command::Append(line)) => {
-            let edited = store.insert(store.len() as u32 + 1, line, &mut Tally::new());
-            answer_edit(block, sink, store.len(), &edited)
+            let last = store.len() as u32 + 1;
+            answer_change(store, block, sink, LineEdit::Insert(last, line))
         }
-        Some(Command::Delete(place)) => {
-            let edited = store.delete(place, &mut Tally::new());
-            answer_edit(block, sink, store.len(), &edited)
-        }
-        Some(Command::Image) => answer_image(block, sink, store),
+        Some(Command::Change(edit)) => answer_change(store, block, sink, edit),
+        Some(Command::Show(page)) => answer_page(block, sink, store, page),
         None => block.push(sink, b"bad\n"),
     }
 }

@@ -4,9 +4,14 @@
 mod answer;
 mod chunk;
 mod command;
+mod edited;
+mod edits;
 mod numbered;
+mod pages;
 mod run_error;
 mod running;
 
+pub use edited::incremental_equals_from_scratch;
+pub use edits::LineEdit;
 pub use run_error::{RunError, message, status};
 pub use running::{MAX_INPUT, run};

@@ -3,12 +3,12 @@
 ghost use Rattle.std.specs.Prelude.{◌≡◌, ◌-◌, ◌^◌, ◌<◌, ◌≤◌, length};
 ghost use Rattle.rv_text.specs.Streams.{failures_after};
 ghost use Rattle.rv_text.specs.Blocks.{Gathers};
-ghost use Rattle.rv_commands.specs.Transcript.{numbered};
+ghost use Rattle.rv_commands.specs.Pages.{numbered};
 
 use rv_text::{Failed, OutputBlock, OutputRow, Sink};
 
 /// Adds a word, a number in decimal and a line break.
-#[tactic(auto, unfolding(crate::specs::Transcript::numbered))]
+#[tactic(auto, unfolding(crate::specs::Pages::numbered))]
 pub fn push_numbered<W: Sink>(
     block: &mut OutputBlock,
     sink: &mut W,

@@ -3,38 +3,86 @@
 use crate::slow::{LongSource, SlowSink, SlowSource};
 use rv_commands::{MAX_INPUT, RunError, message, run, status};
 use rv_text::{FailsAt, MemSink, MemSource};
+use std::alloc::{AllocError, Global};
 use std::test::Fail;
 
-const INPUT: &str = "a\nx\nd 1\na nop\nd 2";
+// Commands, and the answer to each, as an independent program of the definitions in Python has it.
+const SESSION: [(&str, &str); 15] = [
+    ("a x: addi a0, a0, N", "ok 1\n"),
+    ("i 1 .equ N, 5000", "ok 2\n"),
+    (
+        "list",
+        "listing 2\n    1 00000000                   .equ N, 5000\n    2 00000000 00000000          x: addi a0, a0, N\n",
+    ),
+    ("syms", "symbols 2\n1 equ 5000 N\n2 label 0x00000000 x\n"),
+    ("faults", "faults 1\n2 16 17 16 Range\n"),
+    (
+        "image",
+        ".text 0x00000000 4\n00000000: 00 00 00 00\n.rodata 0x00001000 0\n.data 0x00001000 0\n.bss 0x00001000 0\n",
+    ),
+    ("text", "text 2\n.equ N, 5000\nx: addi a0, a0, N\n"),
+    ("r 1 .equ N, 1", "ok 2\n"),
+    ("i 2", "ok 3\n"),
+    ("r 9 nop", "refused 2\n"),
+    ("x", "bad\n"),
+    ("d 2", "ok 2\n"),
+    (
+        "image",
+        ".text 0x00000000 4\n00000000: 13 05 15 00\n.rodata 0x00001000 0\n.data 0x00001000 0\n.bss 0x00001000 0\n",
+    ),
+    ("i 1 x: .byte 1", "ok 3\n"),
+    (
+        "faults",
+        "faults 2\n3 0 1 19 Duplicate\n3 3 7 20 OddAddress\n",
+    ),
+];
 
-const OUTPUT: &str = "ok 1\nbad\nok 0\nok 1\nrefused 2\n";
+// The commands of the session, cut by line breaks, and its output.
+fn session(alloc: Global) -> Result<(Vec<u8>, Vec<u8>), AllocError> {
+    let mut input: Vec<u8> = Vec::new(alloc);
+    let mut output: Vec<u8> = Vec::new(alloc);
+    for (command, answer) in SESSION {
+        if !input.is_empty() {
+            input.push(b'\n')?;
+        }
+        input.extend_from_slice(command.as_bytes())?;
+        output.extend_from_slice(answer.as_bytes())?;
+    }
+    Ok((input, output))
+}
 
-// How long the answers to this many of its commands are.
-const ENDS: [usize; 6] = [0, 5, 9, 14, 19, 29];
+// How long the answers are to those commands whose line break is among the first bytes of the session.
+fn answered(read: usize) -> usize {
+    let mut place = 0usize;
+    let mut length = 0usize;
+    for (command, answer) in SESSION {
+        place = place.saturating_add(command.len()).saturating_add(1);
+        if place <= read {
+            length = length.saturating_add(answer.len());
+        }
+    }
+    length
+}
 
 #[test]
 fn a_reader_fails(rt: HostRuntime) -> Result<(), Fail> {
-    for m in 1u64..100 {
+    let (input, output) = session(rt.alloc())?;
+    for m in 1u64..1000 {
         let inner = SlowSource {
-            inner: MemSource::new(INPUT.as_bytes()),
+            inner: MemSource::new(input.as_slice()),
         };
         let mut source = FailsAt::new(inner, m);
-        let mut sink = MemSink::new(rt.alloc(), 1000)?;
+        let mut sink = MemSink::new(rt.alloc(), 2000)?;
         let done = run(rt.alloc(), &mut source, &mut sink, 0);
         if done.is_ok() {
-            assert_eq!(rt; sink.bytes(), OUTPUT.as_bytes());
-            assert!(rt; m > 6, "at call {m}");
+            assert_eq!(rt; sink.bytes(), output.as_slice());
+            assert!(rt; m > 40, "at call {m}");
             return Ok(());
         }
         assert_eq!(rt; done, Err(RunError::Read), "at call {m}");
-        let mut complete = 0usize;
-        for byte in INPUT.bytes().take(3 * (m as usize - 1)) {
-            if byte == b'\n' && complete < 5 {
-                complete += 1;
-            }
-        }
-        assert!(rt; complete < 6, "at call {m}");
-        let (wanted, _) = OUTPUT.as_bytes().split_at(ENDS[complete]);
+        let read = input.len().min(3 * (m as usize - 1));
+        let end = answered(read).min(output.len());
+        let (wanted, _) = output.as_slice().split_at(end);
         assert_eq!(rt; sink.bytes(), wanted, "at call {m}");
     }
     assert!(rt; false, "the run never ends well");
@@ -43,22 +91,23 @@ fn a_reader_fails(rt: HostRuntime) -> Result<(), Fail> {
 
 #[test]
 fn a_writer_fails(rt: HostRuntime) -> Result<(), Fail> {
-    for m in 1u64..100 {
-        let mut source = MemSource::new(INPUT.as_bytes());
+    let (input, output) = session(rt.alloc())?;
+    for m in 1u64..1000 {
+        let mut source = MemSource::new(input.as_slice());
         let inner = SlowSink {
-            inner: MemSink::new(rt.alloc(), 1000)?,
+            inner: MemSink::new(rt.alloc(), 2000)?,
         };
         let mut sink = FailsAt::new(inner, m);
         let done = run(rt.alloc(), &mut source, &mut sink, 0);
         let taken = sink.inner.inner.bytes();
         if done.is_ok() {
-            assert_eq!(rt; taken, OUTPUT.as_bytes());
-            assert!(rt; m > 9, "at call {m}");
+            assert_eq!(rt; taken, output.as_slice());
+            assert!(rt; m > 150, "at call {m}");
             return Ok(());
         }
         assert_eq!(rt; done, Err(RunError::Write), "at call {m}");
         assert_eq!(rt; taken.is_empty(), m == 1, "at call {m}");
-        assert!(rt; OUTPUT.as_bytes().starts_with(taken), "at call {m}");
+        assert!(rt; output.as_slice().starts_with(taken), "at call {m}");
     }
     assert!(rt; false, "the run never ends well");
     Ok(())

@@ -15,7 +15,7 @@ const EMPTY: &str =
 const NEXT_PAGE: &str = ".rodata 0x00001000 0\n.data 0x00001000 0\n.bss 0x00001000 0\n";
 
 // An input, and its output in two parts.
-const TRANSCRIPTS: [(&str, &str, &str); 18] = [
+const TRANSCRIPTS: [(&str, &str, &str); 22] = [
     ("", "", ""),
     ("\n", "bad\n", ""),
     ("x\nd\nd 1\na\n", "bad\nbad\nrefused 2\nok 1\n", ""),
@@ -36,7 +36,27 @@ const TRANSCRIPTS: [(&str, &str, &str); 18] = [
         "bad\nrefused 2\nbad\nbad\nbad\nbad\n",
         "",
     ),
-    ("list\r\ni\ni 1x\nimage\r\n", "bad\nbad\nbad\nbad\n", ""),
+    ("list\r\ni\ni \nimage\r\n", "bad\nbad\nbad\nbad\n", ""),
+    (
+        "i  1 x\ni 1x\ni 1\tnop\nr 1234567890 x\ni -1 x\n",
+        "bad\nbad\nbad\nbad\nbad\n",
+        "",
+    ),
+    (
+        "i 1\ni 1 \nr 1\ni 4 \na\r\ntext\n",
+        "ok 1\nok 2\nok 2\nrefused 2\nbad\ntext 2\n\n\n",
+        "",
+    ),
+    (
+        "i 1 \tret\r\nr 000000001 \u{e9}\r\ntext\n",
+        "ok 1\nok 1\ntext 1\n\u{e9}\r\n",
+        "",
+    ),
+    (
+        "x\nd\nd 1\ni 0 nop\na\n",
+        "bad\nbad\nrefused 2\nrefused 2\nok 1\n",
+        "",
+    ),
     ("image", "", EMPTY),
     ("image\n", "", EMPTY),
     ("a addi a0, a0, 1\nd 1\nimage\n", "ok 1\nok 0\n", EMPTY),
@@ -107,20 +127,26 @@ fn commands_are_answered(rt: HostRuntime) -> Result<(), Fail> {
 
 #[test]
 fn long_lines_are_answered(rt: HostRuntime) -> Result<(), Fail> {
-    for (length, output) in [
-        (1000usize, "ok 1\nok 0\n"),
-        (1001, "refused 3\nrefused 2\n"),
-        (2000000, "refused 3\nrefused 2\n"),
+    for (start, length, output) in [
+        ("a ", 1000usize, "ok 1\nok 0\n"),
+        ("a ", 1001, "refused 3\nrefused 2\n"),
+        ("a ", 2000000, "refused 3\nrefused 2\n"),
+        ("i 1 ", 1000, "ok 1\nok 0\n"),
+        ("i 1 ", 1001, "refused 3\nrefused 2\n"),
+        ("i 2 ", 1001, "refused 2\nrefused 2\n"),
+        ("a x\nr 1 ", 1000, "ok 1\nok 1\nok 0\n"),
+        ("a x\nr 1 ", 1001, "ok 1\nrefused 3\nok 0\n"),
+        ("r 1 ", 1001, "refused 2\nrefused 2\n"),
     ] {
-        let mut input = Vec::from_slice(rt.alloc(), b"a ".as_slice())?;
+        let mut input = Vec::from_slice(rt.alloc(), start.as_bytes())?;
         let line = vec![in rt.alloc(); b'x'; length]?;
         input.extend_from_slice(line.as_slice())?;
         input.extend_from_slice(b"\nd 1\n")?;
         let mut source = MemSource::new(input.as_slice());
         let mut sink = MemSink::new(rt.alloc(), 1000)?;
         let done = run(rt.alloc(), &mut source, &mut sink, 0);
-        assert_eq!(rt; done, Ok(()), "at {length}");
-        assert_eq!(rt; sink.bytes(), output.as_bytes(), "at {length}");
+        assert_eq!(rt; done, Ok(()), "at {start} and {length}");
+        assert_eq!(rt; sink.bytes(), output.as_bytes(), "at {start} and {length}");
     }
     Ok(())
 }

@@ -10,8 +10,8 @@ use Rattle.rv_stmt.specs.declared.statement.Body.{Body}
 use Rattle.rv_stmt.specs.declared.statement.Body.TheVariants.{Equ as EquBody}
 use Rattle.rv_stmt.specs.Statement.{statement_of}
 use Rattle.rv_layout.specs.Shapes.{constants}
-use Rattle.rv_store.specs.declared.definition.DefinitionPlace.{DefinitionPlace}
-use Rattle.rv_store.specs.declared.definition.DefinitionPlace.TheVariants.{Nowhere, Label as ByLabel, Equ}
+use Rattle.rv_list.specs.declared.view.DefinitionPlace.{DefinitionPlace}
+use Rattle.rv_list.specs.declared.view.DefinitionPlace.TheVariants.{Nowhere, Label as ByLabel, Equ}
 use Rattle.rv_store.specs.Constants.{defined_value, constant_through}
 use Rattle.rv_store.specs.Definitions.{defines_symbol, place_among_labels, place_in_body, first_place, definition_of, is_equ_on}
 use Rattle.rv_store.specs.Program.{Program, program_of, no_statement, body_at}

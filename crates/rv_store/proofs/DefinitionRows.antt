@@ -10,8 +10,8 @@ use Rattle.rv_text.specs.TokenLaws.{few_spelled_tokens}
 use Rattle.rv_stmt.specs.declared.label.Label.{Label}
 use Rattle.rv_stmt.specs.Labels.{label_at, with_label, labels_and_body}
 use Rattle.rv_stmt.specs.Statement.{statement_of}
-use Rattle.rv_store.specs.declared.definition.DefinitionPlace.{DefinitionPlace}
-use Rattle.rv_store.specs.declared.definition.DefinitionPlace.TheVariants.{Nowhere, Label as ByLabel, Equ}
+use Rattle.rv_list.specs.declared.view.DefinitionPlace.{DefinitionPlace}
+use Rattle.rv_list.specs.declared.view.DefinitionPlace.TheVariants.{Nowhere, Label as ByLabel, Equ}
 use Rattle.rv_store.specs.Defining.{Definitions, only, of_label, then_also}
 use Rattle.rv_store.specs.Definitions.{defines_symbol, place_among_labels, place_in_statement, or_place, first_place}
 use Rattle.rv_store.specs.Program.{program_of}

@@ -15,7 +15,7 @@ use Rattle.rv_stmt.specs.Sections.{section_named, section_names}
 use Rattle.rv_stmt.specs.Values.{modifier_named, modifier_names}
 use Rattle.rv_fix.specs.declared.coded.Coded.{Coded}
 use Rattle.rv_fix.specs.Code.{code}
-use Rattle.rv_store.specs.declared.definition.DefinitionPlace.TheVariants as definition
+use Rattle.rv_list.specs.declared.view.DefinitionPlace.TheVariants as definition
 use Rattle.rv_store.specs.declared.symbols.SymValue.TheVariants.{Label, Equ}
 use Rattle.rv_store.specs.Changes.{changed_lines, invalidated_lines, reencoded_lines, most_values, most_codes}
 use Rattle.rv_store.specs.Definitions.{definition_of}

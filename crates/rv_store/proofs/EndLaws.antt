@@ -15,7 +15,7 @@ use Rattle.rv_layout.specs.Sections.{sections, section_number}
 use Rattle.rv_layout.specs.BaseLaws.{base_from-fits, sum_below-grows}
 use Rattle.rv_layout.specs.PlaceLaws.{part_within, ends_together, number_below, base-layout}
 use Rattle.rv_store.specs.declared.ends.Ends.{Ends}
-use Rattle.rv_store.specs.declared.places.LinePlace.{LinePlace}
+use Rattle.rv_list.specs.declared.view.LinePlace.{LinePlace}
 use Rattle.rv_store.specs.Ends.{ends_of, next_offset, ends_after, next_place, place_by_shapes}
 use Rattle.rv_store.specs.Program.{for_lines}
 use Rattle.rv_store.proofs.Programs.{at-for_lines, length-for_lines}

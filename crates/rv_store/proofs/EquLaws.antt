@@ -8,7 +8,7 @@ use Rattle.rv_expr.specs.Value.{Environment}
 use Rattle.rv_stmt.specs.declared.directive.Definition.{Definition}
 use Rattle.rv_stmt.specs.declared.statement.Body.TheVariants.{Equ as EquBody}
 use Rattle.rv_fix.specs.Values.{Entry}
-use Rattle.rv_store.specs.declared.definition.DefinitionPlace.TheVariants.{Equ}
+use Rattle.rv_list.specs.declared.view.DefinitionPlace.TheVariants.{Equ}
 use Rattle.rv_store.specs.Constants.{defined_value}
 use Rattle.rv_store.specs.Definitions.{definition_of, is_equ_on}
 use Rattle.rv_store.specs.Program.{Program, body_at}

@@ -1,18 +1,7 @@
 -- Worked examples of the definitions, computed. The words are those of the assembler of LLVM 14.0.6.
-use Rattle.std.specs.Prelude.{◌≡◌, [], ◌∷◌, ◌++◌, true, false, None, Some, codes, refl, replicate}
-use Rattle.rv_text.specs.Rows.{hex}
+use Rattle.std.specs.Prelude.{◌≡◌, [], ◌∷◌, true, false, None, Some, codes, refl, replicate}
 use Rattle.rv_store.specs.declared.edit_error.EditError.TheVariants.{Place, Line, TooMany}
 use Rattle.rv_store.specs.Text.{Insert, Delete, is_base, refusal_of, lines_after}
-use Rattle.rv_store.specs.Image.{byte_row, byte_rows}
-
--- two rows of bytes, the second of one byte
-seventeen_bytes : byte_rows 0x80000000 (replicate 16 0xAB ++ 1 ∷ []) ≡ codes "80000000: ab ab ab ab ab ab ab ab ab ab ab ab ab ab ab ab\n80000010: 01\n"
-unfolding byte_rows byte_row hex
-seventeen_bytes = refl
-
-sixteen_bytes : byte_rows 0 (replicate 16 0) ≡ codes "00000000: 00 00 00 00 00 00 00 00 00 00 00 00 00 00 00 00\n"
-unfolding byte_rows byte_row hex
-sixteen_bytes = refl
 
 -- bases
 zero : is_base 0 ≡ true

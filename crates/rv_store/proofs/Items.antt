@@ -1,11 +1,12 @@
 -- The lines with what is kept of them, one by one.
-use Rattle.std.proofs.Common.{◌≡◌, ℕ, suc, ◌+◌, ◌-◌, ◌<◌, List, [], ◌∷◌, ◌++◌, length, map, get_or, take, arith, ap, sym, ◌∙◌, refl}
-use Rattle.std.proofs.lemmas.List.{map-append, take_more, take_all}
+use Rattle.std.proofs.Common.{◌≡◌, ℕ, suc, ◌+◌, ◌-◌, ◌<◌, ◌≤◌, List, [], ◌∷◌, ◌++◌, length, map, get_or, take, arith, ap, sym, ◌∙◌, refl}
+use Rattle.std.proofs.lemmas.List.{get_or-map, length-map, map-append, take_more, take_all}
 use Rattle.rv_store.specs.declared.item.Item.{Item}
 use Rattle.rv_store.specs.Codes.{values_at, code_at}
 use Rattle.rv_store.specs.Items.{IsItem, AreFirstItems, AreItems}
 use Rattle.rv_store.specs.Layout.{shape_at}
 use Rattle.rv_store.specs.Program.{program_of, for_lines}
+use Rattle.rv_store.proofs.Programs.{at-for_lines}
 
 -- a row by lines that a part of each item makes
 one_more : {A : Type 0} (part : Item → A) (f : ℕ → A) (k : ℕ) (items : List Item) (item : Item) → map part items ≡ for_lines f k → part item ≡ f (k + 1) → map part (items ++ item ∷ []) ≡ for_lines f (k + 1)
@@ -39,3 +40,24 @@ all_items base text k items all are = record {
   values = are.values ∙ ap (for_lines (values_at base (program_of text))) all;
   codes = are.codes ∙ ap (for_lines (code_at base (program_of text))) all;
 }
+
+-- the part of the item of a line
+part_of_line : {A : Type 0} (part : Item → A) (f : ℕ → A) (items : List Item) (i : ℕ) (other : Item) → map part items ≡ for_lines f (length items) → 1 ≤ i → i ≤ length items → part (get_or items (i - 1) other) ≡ f i
+part_of_line part f items i other are first last =
+    let within : i - 1 < length items = omega (arith, first, last) in
+    let next : suc (i - 1) ≡ i = omega (arith, first) in
+    sym (get_or-map part items (i - 1) other (part other) within) ∙ ap (λ xs. get_or xs (i - 1) (part other)) are
+    ∙ at-for_lines f (length items) (i - 1) (part other) within ∙ ap f next
+
+-- the item of a line
+pub item_of_line : (base : ℕ) (text : List (List ℕ)) (items : List Item) (i : ℕ) (other : Item) → AreItems base text items → 1 ≤ i → i ≤ length text → IsItem base text i (get_or items (i - 1) other)
+item_of_line base text items i other are first last =
+    let count : length text ≡ length items = sym (ap length are.lines) ∙ length-map items (λ item. item.line) in
+    let there : i ≤ length items = omega (arith, last, count) in
+    let within : i - 1 < length items = omega (arith, first, there) in
+    record {
+      line = sym (get_or-map (λ item. item.line) items (i - 1) other [] within) ∙ ap (λ ls. get_or ls (i - 1) []) are.lines;
+      shape = part_of_line (λ item. item.shape) (shape_at (program_of text)) items i other (are.shapes ∙ ap (for_lines (shape_at (program_of text))) count) first there;
+      values = part_of_line (λ item. item.values.value) (values_at base (program_of text)) items i other (are.values ∙ ap (for_lines (values_at base (program_of text))) count) first there;
+      code = part_of_line (λ item. item.code.value) (code_at base (program_of text)) items i other (are.codes ∙ ap (for_lines (code_at base (program_of text))) count) first there;
+    }

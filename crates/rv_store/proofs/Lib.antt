@@ -1,6 +1,3 @@
-pub mod Bounds
-pub mod BytesLeft
-pub mod CodeSizes
 pub mod ConstantRows
 pub mod DefinitionLaws
 pub mod DefinitionRows
@@ -11,7 +8,6 @@ pub mod EquLaws
 pub mod Examples
 pub mod FittingValues
 pub mod ImageExamples
-pub mod Images
 pub mod Items
 pub mod LineNameLaws
 pub mod Lists
@@ -19,10 +15,9 @@ pub mod LocalLines
 pub mod NameRows
 pub mod NextHighs
 pub mod Programs
-pub mod RowsOfBytes
 pub mod Sameness
-pub mod Sections
 pub mod ShapeRows
+pub mod ShownLines
 pub mod Stores
 pub mod Surveys
 pub mod SymbolLaws

@@ -11,9 +11,9 @@ use Rattle.rv_expr.specs.declared.tree.LabelReference.TheVariants as reference
 use Rattle.rv_expr.specs.Value.{Environment}
 use Rattle.rv_stmt.specs.Readings.{and_then}
 use Rattle.rv_fix.specs.Values.{Entry}
-use Rattle.rv_store.specs.declared.definition.DefinitionPlace.{DefinitionPlace}
-use Rattle.rv_store.specs.declared.definition.DefinitionPlace.TheVariants.{Nowhere, Label as ByLabel, Equ}
-use Rattle.rv_store.specs.declared.places.LinePlace.{LinePlace}
+use Rattle.rv_list.specs.declared.view.DefinitionPlace.{DefinitionPlace}
+use Rattle.rv_list.specs.declared.view.DefinitionPlace.TheVariants.{Nowhere, Label as ByLabel, Equ}
+use Rattle.rv_list.specs.declared.view.LinePlace.{LinePlace}
 use Rattle.rv_store.specs.declared.text_rows.TextRows.{TextRows}
 use Rattle.rv_store.specs.Definitions.{definition_of}
 use Rattle.rv_store.specs.Layout.{address_at, place_at}

@@ -4,7 +4,7 @@ use Rattle.std.specs.List.{list_any}
 use Rattle.std.proofs.lemmas.Bool.{leb-true}
 use Rattle.std.proofs.lemmas.List.{get_or-map, drop_all, reverse-append}
 use Rattle.rv_stmt.specs.Statement.{statement_of, operands_of}
-use Rattle.rv_store.specs.declared.places.LinePlace.{LinePlace}
+use Rattle.rv_list.specs.declared.view.LinePlace.{LinePlace}
 use Rattle.rv_layout.specs.declared.measured.Measured.{Measured}
 use Rattle.rv_store.specs.Layout.{shape_at, place_at}
 use Rattle.rv_store.specs.Program.{program_of, no_statement, statement_at, body_at, for_lines}

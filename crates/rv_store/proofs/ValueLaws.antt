@@ -8,8 +8,8 @@ use Rattle.rv_stmt.specs.declared.statement.Body.TheVariants as body
 use Rattle.rv_layout.specs.declared.measured.Measured.{Measured}
 use Rattle.rv_layout.specs.declared.measured.Measured.TheVariants.{Faulty}
 use Rattle.rv_fix.specs.Values.{Entry, operand_values_of}
-use Rattle.rv_store.specs.declared.definition.DefinitionPlace.{DefinitionPlace}
-use Rattle.rv_store.specs.declared.definition.DefinitionPlace.TheVariants.{Equ}
+use Rattle.rv_list.specs.declared.view.DefinitionPlace.{DefinitionPlace}
+use Rattle.rv_list.specs.declared.view.DefinitionPlace.TheVariants.{Equ}
 use Rattle.rv_store.specs.declared.line_values.LineValues.{LineValues}
 use Rattle.rv_store.specs.declared.line_values.LineValues.TheVariants.{Nothing, Operands, Symbol}
 use Rattle.rv_store.specs.Codes.{values_of_body, values_by_shape, values_at}

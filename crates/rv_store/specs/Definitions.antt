@@ -6,8 +6,8 @@ use Rattle.rv_stmt.specs.declared.label.LabelName.TheVariants as label
 use Rattle.rv_stmt.specs.declared.statement.Body.{Body}
 use Rattle.rv_stmt.specs.declared.statement.Body.TheVariants.{Equ as EquBody}
 use Rattle.rv_stmt.specs.declared.statement.Stmt.{Stmt}
-use Rattle.rv_store.specs.declared.definition.DefinitionPlace.{DefinitionPlace}
-use Rattle.rv_store.specs.declared.definition.DefinitionPlace.TheVariants.{Nowhere, Label as ByLabel, Equ}
+use Rattle.rv_list.specs.declared.view.DefinitionPlace.{DefinitionPlace}
+use Rattle.rv_list.specs.declared.view.DefinitionPlace.TheVariants.{Nowhere, Label as ByLabel, Equ}
 use Rattle.rv_store.specs.Program.{Program}
 
 abbrev pub defines_symbol : LabelName → (name : List ℕ) → Bool

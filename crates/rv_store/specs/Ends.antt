@@ -5,7 +5,7 @@ use Rattle.rv_layout.specs.declared.measured.Measured.{Measured}
 use Rattle.rv_layout.specs.Places.{section_after, section_through, size_at, section_of, line_size_of, section_end_of, address_of}
 use Rattle.rv_layout.specs.Sections.{section_number}
 use Rattle.rv_store.specs.declared.ends.Ends.{Ends}
-use Rattle.rv_store.specs.declared.places.LinePlace.{LinePlace}
+use Rattle.rv_list.specs.declared.view.LinePlace.{LinePlace}
 
 -- after some lines: the section of the next one, and the offset at which each section ends
 abbrev pub ends_of : List Measured → Ends

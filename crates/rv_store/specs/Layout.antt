@@ -4,7 +4,7 @@ use Rattle.rv_stmt.specs.declared.section.Sect.{Sect}
 use Rattle.rv_layout.specs.declared.measured.Measured.{Measured}
 use Rattle.rv_layout.specs.Places.{section_of, line_size_of, section_end_of, section_base_of, address_of}
 use Rattle.rv_layout.specs.Shapes.{shape_of}
-use Rattle.rv_store.specs.declared.places.LinePlace.{LinePlace}
+use Rattle.rv_list.specs.declared.view.LinePlace.{LinePlace}
 use Rattle.rv_store.specs.Constants.{constant_of}
 use Rattle.rv_store.specs.Program.{Program, body_at, for_lines}
 

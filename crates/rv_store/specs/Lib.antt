@@ -6,7 +6,6 @@ pub mod Definitions
 pub mod Edits
 pub mod Ends
 pub mod Fits
-pub mod Image
 pub mod Items
 pub mod Layout
 pub mod LineNames
@@ -18,7 +17,7 @@ pub mod ReadLines
 pub mod References
 pub mod Rows
 pub mod Sameness
-pub mod SectionCodes
+pub mod Shown
 pub mod Stored
 pub mod Surveys
 pub mod Symbols

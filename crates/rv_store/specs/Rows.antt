@@ -3,9 +3,9 @@ use Rattle.std.specs.Prelude.{◌≡◌, ℕ, ℤ, ◌≤◌, List, [], ◌++◌
 use Rattle.rv_expr.specs.declared.faults.ValueFault.TheVariants.{LaterEqu}
 use Rattle.rv_layout.specs.declared.measured.Measured.{Measured}
 use Rattle.rv_fix.specs.Values.{Entry}
-use Rattle.rv_store.specs.declared.definition.DefinitionPlace.{DefinitionPlace}
-use Rattle.rv_store.specs.declared.definition.DefinitionPlace.TheVariants.{Nowhere}
-use Rattle.rv_store.specs.declared.places.LinePlace.{LinePlace}
+use Rattle.rv_list.specs.declared.view.DefinitionPlace.{DefinitionPlace}
+use Rattle.rv_list.specs.declared.view.DefinitionPlace.TheVariants.{Nowhere}
+use Rattle.rv_list.specs.declared.view.LinePlace.{LinePlace}
 use Rattle.rv_store.specs.Constants.{constant_through}
 use Rattle.rv_store.specs.Definitions.{definition_of}
 use Rattle.rv_store.specs.Layout.{shapes_of, place_at}

@@ -8,13 +8,13 @@ ghost use Rattle.rv_store.specs.Constants.{defined_value};
 ghost use Rattle.rv_store.specs.Program.{program_of};
 ghost use Rattle.rv_store.specs.Rows.{in_row, AreDefinitions, AreConstants};
 
-use crate::definition::DefinitionPlace;
 use crate::definitions::defining_equ;
 use crate::line::Line;
 use crate::names::{NameTable, entry_of};
 use rv_expr::{Direction, LabelReference, Names, ValueFault, value};
 use rv_fix::Entry;
 use rv_layout::Consts;
+use rv_list::DefinitionPlace;
 use rv_stmt::{Definition, OperandValue};
 use rv_text::Count;
 

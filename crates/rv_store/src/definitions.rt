@@ -3,16 +3,16 @@
 ghost use Rattle.std.specs.Prelude.{◌≡◌, ◌≤◌, ◌<◌, ◌+◌, ◌^◌, true, false, Some, None, length, IfSome, IfOk};
 ghost use Rattle.rv_stmt.specs.declared.directive.Definition.{Definition};
 ghost use Rattle.rv_stmt.specs.declared.statement.Body.TheVariants.{Equ as EquBody};
-ghost use Rattle.rv_store.specs.declared.definition.DefinitionPlace.TheVariants.{Nowhere};
+ghost use Rattle.rv_list.specs.declared.view.DefinitionPlace.TheVariants.{Nowhere};
 ghost use Rattle.rv_store.specs.declared.limits.TheConstants.{MAX_LINES};
 ghost use Rattle.rv_store.specs.Defining.{only, of_label, then_also, Holds};
 ghost use Rattle.rv_store.specs.Definitions.{place_among_labels, place_in_body, place_in_statement, is_equ_on};
 ghost use Rattle.rv_store.specs.Program.{program_of};
 ghost use Rattle.rv_store.specs.Rows.{number_of, in_row, Grows, AreDefinitions};
 
-use crate::definition::DefinitionPlace;
 use crate::line::Line;
 use crate::names::NameTable;
+use rv_list::DefinitionPlace;
 use rv_stmt::{Body, Definition, Label, LabelName, Stmt};
 use std::alloc::{AllocError, Global};
 

@@ -8,13 +8,12 @@ ghost use Rattle.rv_store.specs.Program.{body_at};
 ghost use Rattle.rv_store.specs.References.{line_of_place, or_faulty_equ, by_definition, usable_equs, references_at};
 ghost use Rattle.rv_store.specs.TextRows.{address_in, program_in, AreTextRows, AreEquValuesIn, ArePairedHighsIn, address_in_text, references_through};
 
-use crate::definition::DefinitionPlace;
 use crate::locals::Locals;
 use crate::names::{NameTable, entry_of};
-use crate::places::LinePlace;
 use crate::text_rows::{TextRows, address_in};
 use rv_expr::{Direction, LabelReference, Names, ValueFault};
 use rv_fix::Entry;
+use rv_list::{DefinitionPlace, LinePlace};
 use rv_stmt::Body;
 
 /// What names give on a line, by the rows of its text.

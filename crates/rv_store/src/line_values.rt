@@ -7,7 +7,6 @@ ghost use Rattle.rv_store.specs.declared.limits.TheConstants.{MAX_LINES};
 ghost use Rattle.rv_store.specs.Codes.{is_text, values_of_body, values_at};
 ghost use Rattle.rv_store.specs.ValueRows.{AreValueRows, base_of, program_of_rows, body_in};
 
-use crate::definition::DefinitionPlace;
 use crate::line_names::names_at;
 use crate::names::entry_of;
 use crate::text_lines::{place_on, statement_on};
@@ -15,6 +14,7 @@ use crate::value_rows::{ValueRows, shape_on};
 use rv_expr::ValueFault;
 use rv_fix::{Entry, FixError, Values, operand_values};
 use rv_layout::Measured;
+use rv_list::DefinitionPlace;
 use rv_stmt::{Body, Definition, Sect};
 use rv_text::Count;
 use std::alloc::Global;

@@ -9,16 +9,8 @@ ghost use Rattle.rv_store.specs.Program.{for_lines};
 
 use crate::ends::Ends;
 use rv_layout::{Layout, Measured, SECTIONS, bases, section_number};
-use rv_stmt::Sect;
+use rv_list::LinePlace;
 use std::alloc::{AllocError, Global};
-
-/// Where a line lies, and how many bytes it has there.
-#[derive(Clone, Copy, Debug, PartialEq, Eq)]
-pub struct LinePlace {
-    pub section: Sect,
-    pub address: u32,
-    pub size: u32,
-}
 
 /// The layout of all lines.
 pub fn total_layout(shapes: &[Measured]) -> Layout

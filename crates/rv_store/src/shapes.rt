@@ -9,10 +9,10 @@ ghost use Rattle.rv_store.specs.Program.{program_of};
 ghost use Rattle.rv_store.specs.Rows.{in_row, AreDefinitions, AreConstants, AreShapes};
 
 use crate::constants::{LineConstants, settle_constant};
-use crate::definition::DefinitionPlace;
 use crate::line::Line;
 use crate::names::NameTable;
 use rv_layout::{Measured, measure, shapes_are_limited, size_operands_are_few};
+use rv_list::DefinitionPlace;
 use rv_text::Count;
 use std::alloc::{AllocError, Global};
 

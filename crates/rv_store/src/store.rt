@@ -3,30 +3,28 @@
 ghost use Rattle.std.specs.Prelude.{◌≡◌, ◌+◌, ◌*◌, ◌-◌, ◌^◌, ◌<◌, ◌≤◌, ◌==◌, [], length, map, insert, None, if◌then◌else◌, IfOk, IfErr, IfSome, OnOk, OnErr, slice_get, true, false};
 ghost use Rattle.std.specs.List.{AllPass};
 ghost use Rattle.std.specs.Option.{option_map};
-ghost use Rattle.rv_text.specs.Streams.{failures_after, Writes};
 ghost use Rattle.rv_store.specs.Codes.{code_at};
-ghost use Rattle.rv_store.specs.Image.{image_text};
 ghost use Rattle.rv_store.specs.Layout.{address_at};
 ghost use Rattle.rv_store.specs.Program.{program_of};
 ghost use Rattle.rv_store.specs.Symbols.{symbol_of};
 ghost use Rattle.rv_store.specs.Text.{is_base, is_line, at_line, Insert, Delete, Replace, Edits};
 
+mod shown;
+
 use crate::base::base_ok;
 use crate::changed::Changed;
-use crate::definition::DefinitionPlace;
 use crate::edit_error::EditError;
-use crate::image::{ListError, write_image_of};
 use crate::item::{Item, renewed_all};
 use crate::limits::MAX_LINES;
 use crate::line::Line;
-use crate::names::{NameTable, entry_of};
+use crate::names::NameTable;
 use crate::refusals::{delete_refused, insert_refused, replace_refused};
 use crate::survey::Survey;
 use crate::symbols::SymValue;
 use crate::text_rows::address_in;
-use rv_expr::ValueFault;
 use rv_fix::Coded;
-use rv_text::{Count, Sink};
+use rv_list::{DefinitionPlace, View};
+use rv_text::Count;
 use std::alloc::{AllocError, Global};
 use std::marker::Model;
 
@@ -135,25 +133,12 @@ impl Store {
     pub fn symbol(&self, name: &[u8]) -> Option<SymValue>
         ensures { result ≡ symbol_of self.now.base (program_of self.now.lines) name.now }
     {
-        match entry_of(
-            &self.names,
-            &self.survey.definitions,
-            DefinitionPlace::Nowhere,
-            name,
-        ) {
+        match self.definition(name) {
             DefinitionPlace::Nowhere => None,
             DefinitionPlace::Label(line, _) => {
                 Some(SymValue::Label(address_in(&self.survey.places, line)))
             }
-            DefinitionPlace::Equ(_) => {
-                let value = entry_of(
-                    &self.names,
-                    &self.survey.equ_values,
-                    Err(ValueFault::LaterEqu),
-                    name,
-                );
-                Some(SymValue::Equ(value.ok()))
-            }
+            DefinitionPlace::Equ(_) => Some(SymValue::Equ(self.value(name))),
         }
     }
 
@@ -259,19 +244,4 @@ impl Store {
         self.assemble(&lines, counter)?;
         Ok(changed)
     }
-}
-
-/// Writes the image of the text, up to the first failure of the writer. Takes no memory.
-pub fn write_image<W: Sink>(store: &Store, sink: &mut W) -> Result<(), ListError>
-    requires { W.failures sink.old < 2 ^ 64 - 1 }
-    ensures text { Writes (W.taken sink.old) (image_text store.now) result (W.taken sink.new) }
-    ensures count { W.failures sink.new ≡ failures_after (W.failures sink.old) result }
-{
-    write_image_of(
-        store.base,
-        &store.survey.total,
-        &store.items,
-        &store.survey.places,
-        sink,
-    )
 }

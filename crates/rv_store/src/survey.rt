@@ -1,13 +1,14 @@
 //! What is kept of the lines of a text.
 
 ghost use Rattle.std.specs.Prelude.{◌≡◌, ℕ, ◌≤◌, ◌<◌, ◌+◌, ◌*◌, ◌^◌, [], length, IfOk};
-ghost use Rattle.rv_layout.specs.Places.{IsBase};
+ghost use Rattle.rv_layout.specs.Effects.{layout_of};
+ghost use Rattle.rv_layout.specs.Places.{section_base_of, section_end_of, AreLimited, IsBase};
+ghost use Rattle.rv_layout.specs.Sections.{sections};
 ghost use Rattle.rv_store.specs.Program.{program_of};
 ghost use Rattle.rv_store.specs.Rows.{Grows};
 ghost use Rattle.rv_store.specs.Surveys.{IsSurvey};
 ghost use Rattle.rv_store.specs.ValueRows.{AreValueRows};
 
-use crate::definition::DefinitionPlace;
 use crate::definitions::definitions;
 use crate::equ_values::equ_values;
 use crate::limits::MAX_LINES;
@@ -15,12 +16,13 @@ use crate::line::Line;
 use crate::locals::Locals;
 use crate::names::NameTable;
 use crate::paired_highs::paired_highs;
-use crate::places::{LinePlace, places, total_layout};
+use crate::places::{places, total_layout};
 use crate::shapes::shapes;
 use crate::text_rows::TextRows;
 use crate::value_rows::ValueRows;
 use rv_fix::Entry;
-use rv_layout::{Layout, Measured};
+use rv_layout::{Layout, Measured, bases, layouts_tell_places};
+use rv_list::{DefinitionPlace, LinePlace, SectionPlace};
 use rv_text::Count;
 use std::alloc::{AllocError, Global};
 
@@ -107,6 +109,22 @@ impl Survey {
             equ_values,
             paired_highs,
         })
+    }
+
+    /// Where a section lies, by its number.
+    pub fn section(&self, base: u32, section: usize) -> SectionPlace
+        requires base { IsBase base }
+        requires section { section < sections }
+        requires few { length self.now.shapes.items ≤ MAX_LINES }
+        requires limited { AreLimited self.now.shapes.items }
+        requires total { self.now.total ≡ layout_of self.now.shapes.items }
+        ensures { result ≡ record { base = section_base_of base self.now.shapes.items section; size = section_end_of self.now.shapes.items section } }
+    {
+        layouts_tell_places();
+        SectionPlace {
+            base: bases(&self.total, base)[section],
+            size: self.total.offset(section) as u32,
+        }
     }
 
     /// The rows from which the values of the lines are computed.

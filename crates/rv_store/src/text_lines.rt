@@ -7,8 +7,8 @@ ghost use Rattle.rv_store.specs.Program.{statement_at, body_at};
 ghost use Rattle.rv_store.specs.TextRows.{AreTextRows, program_in};
 
 use crate::line::Line;
-use crate::places::LinePlace;
 use crate::text_rows::TextRows;
+use rv_list::LinePlace;
 use rv_stmt::{Stmt, operands_are_few};
 
 /// The statement of a line.

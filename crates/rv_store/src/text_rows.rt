@@ -3,11 +3,10 @@
 ghost use Rattle.std.specs.Prelude.{◌≡◌, ◌≤◌, length};
 ghost use Rattle.rv_store.specs.TextRows.{address_in, AreTextRows, address_in_text};
 
-use crate::definition::DefinitionPlace;
 use crate::line::Line;
 use crate::locals::Locals;
 use crate::names::NameTable;
-use crate::places::LinePlace;
+use rv_list::{DefinitionPlace, LinePlace};
 
 /// A text with the rows that are kept of it.
 #[derive(Clone, Copy)]

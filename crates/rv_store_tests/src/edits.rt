@@ -1,8 +1,9 @@
 //! Edits: which are refused, and the lines after those that are made.
 
-use crate::lines::append;
-use rv_store::{EditError, ListError, Store, SymValue, base_ok};
+use crate::lines::{append, delete, insert, replace};
+use rv_store::{EditError, Store, SymValue, base_ok};
 use rv_text::{Tally, tokens};
+use std::alloc::Global;
 use std::process::Abort;
 use std::test::Fail;
 
@@ -44,7 +45,6 @@ fn errors_have_numbers(rt: HostRuntime) {
     ] {
         assert_eq!(rt; error.number(), number);
     }
-    assert_eq!(rt; ListError::Write.number(), 1);
 }
 
 // Whether the text is the one line that `refuses_in_order` begins with.
@@ -70,16 +70,27 @@ fn refuses_lines<T: Abort>(
     }
 }
 
-// Edits of an empty text, and of a text of one line, each refused.
-#[test]
-fn refuses_in_order(rt: HostRuntime) -> Result<(), Fail> {
-    let long = [b'x'; 1001];
-    let mut store = Store::new(rt.alloc(), 0)?;
+// An empty text has no line to take out or to replace.
+fn refuses_in_empty_text<T: Abort>(rt: &T, store: &mut Store) {
     let refusal = store.delete(1, &mut Tally::new()).err();
     assert_eq!(rt; refusal, Some(EditError::Place), "in an empty text");
     let refusal = store.replace(1, b"nop", &mut Tally::new()).err();
     assert_eq!(rt; refusal, Some(EditError::Place), "in an empty text");
-    append(&mut store, b"one: nop")?;
+}
+
+// There are no such lines in a text of one line.
+fn refuses_to_take_out<T: Abort>(rt: &T, store: &mut Store) {
+    for place in [0, 2, 0xFFFF_FFFF] {
+        let refusal = store.delete(place, &mut Tally::new()).err();
+        assert_eq!(rt; refusal, Some(EditError::Place), "at {place}");
+    }
+    assert!(rt; is_as_before(store));
+}
+
+// Edits of an empty text, and of a text of one line, each refused.
+#[test]
+fn refuses_in_order(rt: HostRuntime) -> Result<(), Fail> {
+    let long = [b'x'; 1001];
     let (place, line) = (EditError::Place, EditError::Line);
     let rows = [
         (0, place, place),
@@ -87,14 +98,13 @@ fn refuses_in_order(rt: HostRuntime) -> Result<(), Fail> {
         (2, line, place),
         (3, place, place),
     ];
+    let mut store = Store::new(rt.alloc(), 0)?;
+    refuses_in_empty_text(&rt, &mut store);
+    append(&mut store, b"one: nop")?;
     for text in [long.as_slice(), b"a\nb", b"a\n"] {
         refuses_lines(&rt, &mut store, text, &rows);
     }
-    for place in [0, 2, 0xFFFF_FFFF] {
-        let refusal = store.delete(place, &mut Tally::new()).err();
-        assert_eq!(rt; refusal, Some(EditError::Place), "at {place}");
-    }
-    assert!(rt; is_as_before(&store));
+    refuses_to_take_out(&rt, &mut store);
     assert_eq!(rt; store.symbol(b"one"), Some(SymValue::Label(0)));
     Ok(())
 }
@@ -115,20 +125,31 @@ fn shows_nothing_past_the_ends(rt: HostRuntime) -> Result<(), Fail> {
     Ok(())
 }
 
+fn make_edits(store: &mut Store) -> Result<(), EditError> {
+    insert(store, 1, b"two")?;
+    insert(store, 1, b"one\r")?;
+    insert(store, 3, b"\xFF\x00")?;
+    delete(store, 2)?;
+    replace(store, 1, b"")
+}
+
 #[test]
 fn keeps_lines_in_order(rt: HostRuntime) -> Result<(), Fail> {
     let mut store = Store::new(rt.alloc(), 0)?;
-    let _ = store.insert(1, b"two", &mut Tally::new())?;
-    let _ = store.insert(1, b"one\r", &mut Tally::new())?;
-    let _ = store.insert(3, b"\xFF\x00", &mut Tally::new())?;
-    let _ = store.delete(2, &mut Tally::new())?;
-    let _ = store.replace(1, b"", &mut Tally::new())?;
+    make_edits(&mut store)?;
     assert_eq!(rt; store.len(), 2);
     assert!(rt; is_line(&store, 1, b""));
     assert!(rt; is_line(&store, 2, b"\xFF\x00"));
-    let _ = store.replace(2, b"# two", &mut Tally::new())?;
+    replace(&mut store, 2, b"# two")?;
     assert!(rt; is_line(&store, 2, b"# two"));
     Ok(())
+}
+
+// Appends a line, and counts its tokens as it stands there.
+fn tokens_of_appended(alloc: Global, store: &mut Store, line: &[u8]) -> Result<usize, Fail> {
+    append(store, line)?;
+    let kept = store.line(store.len() as u32).ok_or(EditError::Place)?;
+    Ok(tokens(alloc, kept)?.tokens().len())
 }
 
 // A line of the store can be read again: its tokens ask for no more than 1,000 bytes.
@@ -141,10 +162,12 @@ fn keeps_lines_that_can_be_read(rt: HostRuntime) -> Result<(), Fail> {
         (&[b'x'; 1000], 1),
         (&[b'+'; 1000], 1000),
     ] {
-        append(&mut store, line)?;
-        let kept = store.line(store.len() as u32).ok_or(EditError::Place)?;
-        assert!(rt; kept == line, "of {count} tokens");
-        assert_eq!(rt; tokens(rt.alloc(), kept)?.tokens().len(), count);
+        let found = tokens_of_appended(rt.alloc(), &mut store, line)?;
+        assert_eq!(rt; found, count);
+        assert!(rt;
+            is_line(&store, store.len() as u32, line),
+            "of {count} tokens"
+        );
     }
     Ok(())
 }

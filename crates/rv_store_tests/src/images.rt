@@ -1,8 +1,9 @@
 //! Images of texts against worked ones. The words of instructions in them are those of the assembler of LLVM 14.0.6.
 
 use crate::lines::append;
-use rv_store::{Store, write_image};
-use rv_text::{FailsAt, MemSink};
+use rv_list::write_image;
+use rv_store::Store;
+use rv_text::MemSink;
 use std::alloc::Global;
 use std::test::Fail;
 
@@ -110,30 +111,5 @@ fn gathers_sections(rt: HostRuntime) -> Result<(), Fail> {
         .as_slice();
     let sink = image(rt.alloc(), 4096, &lines)?;
     assert!(rt; sink.bytes() == want);
-    Ok(())
-}
-
-// The writer fails at each of its calls in turn. An image of 1,000 instructions has a row of 22 bytes, 250 rows of 58, and three
-// rows of 58 bytes together. They are written in blocks of at most 4,096 bytes: 22 + 70 * 58, 70 * 58, 70 * 58, and the rest.
-#[test]
-fn stops_where_the_writer_fails(rt: HostRuntime) -> Result<(), Fail> {
-    let line = b"addi a0, a0, 1".as_slice();
-    let mut store = Store::new(rt.alloc(), 0)?;
-    for _ in 0..1000 {
-        append(&mut store, line)?;
-    }
-    let mut whole = MemSink::new(rt.alloc(), 16384)?;
-    write_image(&store, &mut whole)?;
-    for (m, length) in [(1u64, 0usize), (2, 4082), (3, 8142), (4, 12202), (5, 14580)] {
-        let mut sink = FailsAt::new(MemSink::new(rt.alloc(), 16384)?, m);
-        let failed = write_image(&store, &mut sink).is_err();
-        assert_eq!(rt; failed, m <= 4, "at {m}");
-        assert!(rt; whole.bytes().starts_with(sink.inner.bytes()), "at {m}");
-        assert_eq!(rt; sink.inner.bytes().len(), length, "at {m}");
-    }
-    let mut full = MemSink::new(rt.alloc(), 100)?;
-    assert!(rt; write_image(&store, &mut full).is_err(), "in 100 bytes");
-    assert_eq!(rt; full.bytes().len(), 100);
-    assert!(rt; whole.bytes().starts_with(full.bytes()), "in 100 bytes");
     Ok(())
 }

@@ -7,9 +7,10 @@
 //! - `address K`: the address of line K;
 //! - `symbol NAME`: what NAME is.
 
+use crate::lines::{append, delete, insert, replace};
 use rv_fix_tests::code_text::text_of;
 use rv_store::{Store, SymValue};
-use rv_text::{Tally, number};
+use rv_text::number;
 use std::alloc::Global;
 use std::process::Abort;
 use std::test::Fail;
@@ -26,37 +27,21 @@ fn parts_of(text: &str) -> (&str, &str) {
     text.split_once(" ").unwrap_or((text, ""))
 }
 
-fn append(store: &mut Store, line: &str) -> Result<(), Fail> {
-    let place = store.len() as u32 + 1;
-    let _ = store.insert(place, line.as_bytes(), &mut Tally::new())?;
-    Ok(())
-}
-
-fn insert(store: &mut Store, rest: &str) -> Result<(), Fail> {
-    let (place, line) = parts_of(rest);
-    let _ = store.insert(place_of(place)?, line.as_bytes(), &mut Tally::new())?;
-    Ok(())
-}
-
-fn replace(store: &mut Store, rest: &str) -> Result<(), Fail> {
-    let (place, line) = parts_of(rest);
-    let _ = store.replace(place_of(place)?, line.as_bytes(), &mut Tally::new())?;
-    Ok(())
-}
-
-fn delete(store: &mut Store, place: &str) -> Result<(), Fail> {
-    let _ = store.delete(place_of(place)?, &mut Tally::new())?;
-    Ok(())
-}
-
 fn edit(store: &mut Store, row: &str) -> Result<(), Fail> {
-    match parts_of(row) {
-        ("a", line) => append(store, line),
-        ("i", rest) => insert(store, rest),
-        ("r", rest) => replace(store, rest),
-        ("d", place) => delete(store, place),
-        _ => Err(Fail::new("a row that is no edit")),
+    let (name, rest) = parts_of(row);
+    if name == "a" {
+        append(store, rest.as_bytes())?;
+        return Ok(());
     }
+    let (place, line) = parts_of(rest);
+    let place = place_of(place)?;
+    match name {
+        "i" => insert(store, place, line.as_bytes())?,
+        "r" => replace(store, place, line.as_bytes())?,
+        "d" => delete(store, place)?,
+        _ => return Err(Fail::new("a row that is no edit")),
+    }
+    Ok(())
 }
 
 fn code_text(alloc: Global, store: &Store, place: &str) -> Result<String, Fail> {
@@ -91,17 +76,21 @@ fn answer(alloc: Global, store: &Store, question: &str) -> Result<String, Fail> 
     }
 }
 
+// A row of a script holds: its edit can be made, or its question has this answer.
+fn row_holds<T: Abort>(rt: &T, alloc: Global, store: &mut Store, row: &str) -> Result<(), Fail> {
+    let Some((question, wanted)) = row.split_once(" => ") else {
+        return edit(store, row);
+    };
+    let found = answer(alloc, store, question)?;
+    assert_eq!(rt; found.as_str(), wanted, "at {row}");
+    Ok(())
+}
+
 // The rows of a script, over an empty text whose `.text` begins at the base.
 fn script_holds<T: Abort>(rt: &T, alloc: Global, base: u32, script: &str) -> Result<(), Fail> {
     let mut store = Store::new(alloc, base)?;
     for row in script.lines() {
-        match row.split_once(" => ") {
-            None => edit(&mut store, row)?,
-            Some((question, wanted)) => {
-                let found = answer(alloc, &store, question)?;
-                assert_eq!(rt; found.as_str(), wanted, "at {row} in {script}");
-            }
-        }
+        row_holds(rt, alloc, &mut store, row)?;
     }
     Ok(())
 }

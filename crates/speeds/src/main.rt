@@ -4,6 +4,8 @@
 
 mod lines;
 mod store;
+mod texts;
+mod times;
 mod tree;
 
 use rv_text::number;

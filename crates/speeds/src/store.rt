@@ -1,5 +1,7 @@
-//! Edits of a store of mixed lines.
+//! A store of mixed lines.
 
+use crate::texts::measure_texts;
+use crate::times::Times;
 use rv_store::{EditError, Store};
 use rv_text::Tally;
 use std::alloc::{AllocError, Global};
@@ -86,55 +88,34 @@ fn make(store: &mut Store, edit: Edit, round: u32) -> Result<(), EditError> {
     Ok(())
 }
 
-// How long each of the rounds of an edit took, in nanoseconds, the shortest first.
-#[derive(Drop)]
-struct Times {
-    rounds: Vec<u128>,
-}
-
-impl Times {
-    fn add(
-        &mut self,
-        rt: &HostRuntime,
-        store: &mut Store,
-        edit: Edit,
-        round: u32,
-    ) -> Result<(), Fail> {
-        let start = Instant::now(rt)?;
-        make(store, edit, round)?;
-        self.rounds.push(start.elapsed(rt)?.as_nanos())?;
-        self.rounds.sort_unstable();
-        Ok(())
-    }
-
-    // The median.
-    fn print(&self, rt: &HostRuntime, name: &str) -> Result<(), Fail> {
-        if let Some(time) = self.rounds.get(self.rounds.len() / 2) {
-            println!(rt; "{name}: {time} ns")?;
-        }
-        Ok(())
-    }
-}
-
-fn no_times(rt: &HostRuntime) -> Times {
-    Times {
-        rounds: Vec::new(rt.alloc()),
-    }
+fn time_edit(
+    rt: &HostRuntime,
+    store: &mut Store,
+    edit: Edit,
+    round: u32,
+    times: &mut Times,
+) -> Result<(), Fail> {
+    let start = Instant::now(rt)?;
+    make(store, edit, round)?;
+    times.add(start.elapsed(rt)?.as_nanos())?;
+    Ok(())
 }
 
 fn measure_edits(rt: &HostRuntime, store: &mut Store) -> Result<(), Fail> {
-    let (mut replaced, mut deleted, mut inserted) = (no_times(rt), no_times(rt), no_times(rt));
+    let mut replaced = Times::new(rt.alloc());
+    let mut deleted = Times::new(rt.alloc());
+    let mut inserted = Times::new(rt.alloc());
     for round in 0..ROUNDS {
-        replaced.add(rt, store, Edit::ReplaceInTheMiddle, round)?;
-        deleted.add(rt, store, Edit::DeleteAtTheTop, round)?;
-        inserted.add(rt, store, Edit::InsertAtTheTop, round)?;
+        time_edit(rt, store, Edit::ReplaceInTheMiddle, round, &mut replaced)?;
+        time_edit(rt, store, Edit::DeleteAtTheTop, round, &mut deleted)?;
+        time_edit(rt, store, Edit::InsertAtTheTop, round, &mut inserted)?;
     }
     replaced.print(rt, "a line in the middle replaced")?;
     deleted.print(rt, "the first line deleted")?;
     inserted.print(rt, "a first line inserted")
 }
 
-/// Prints how long edits of so many lines take, in nanoseconds.
+/// Prints how long edits of so many lines take, and how long it takes to write their texts, in nanoseconds.
 pub fn measure(rt: &HostRuntime, count: usize) -> Result<(), Fail> {
     let start = Instant::now(rt)?;
     let mut store = filled(rt.alloc(), count)?;
@@ -143,5 +124,6 @@ pub fn measure(rt: &HostRuntime, count: usize) -> Result<(), Fail> {
     if store.len() == 0 {
         return Ok(());
     }
-    measure_edits(rt, &mut store)
+    measure_edits(rt, &mut store)?;
+    measure_texts(rt, &store)
 }

@@ -2,7 +2,7 @@ use Rattle.std.proofs.Common.{◌≡◌, take, drop, arith, refl}
 use Rattle.std.proofs.lemmas.Result.{err_from_is_err_and}
 use Rattle.std.proofs.lemmas.Grind.{common_steps}
 use Rattle.rv_commands.proofs.CutLemmas.{cut_first, unbroken_before, unbroken_none}
-use Rattle.rv_commands.proofs.GatherLemmas.{gathered_none, gathered_one, gathered_then, gathered_loses, loses_one}
+use Rattle.rv_commands.proofs.GatherLemmas.{gathered_one, gathered_then, gathered_loses, loses_one}
 use Rattle.rv_commands.proofs.chunk.answer_commands.Goals as goal
 
 pub returns-in_err-answer_command-clause-err : goal.returns-in_err-answer_command-clause-err

@@ -1,6 +1,6 @@
-use Rattle.std.proofs.Common.{◌≡◌, rules, arith, sym, ◌∙◌}
+use Rattle.std.proofs.Common.{arith, sym, ◌∙◌}
 use Rattle.std.proofs.lemmas.Grind.{common_steps}
-use Rattle.rv_commands.proofs.PlaceLemmas.{place_spelled, place_none}
+use Rattle.rv_commands.proofs.PlaceLemmas.{place_spelled}
 use Rattle.rv_commands.proofs.command.read_place.Goals as goal
 
 pub returns : goal.returns

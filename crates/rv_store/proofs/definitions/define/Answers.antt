@@ -1,6 +1,6 @@
 use Rattle.std.proofs.Common.{ap, sym, ◌∙◌}
 use Rattle.std.proofs.lemmas.List.{length-set, get_or_default}
-use Rattle.rv_store.specs.declared.definition.DefinitionPlace.TheVariants.{Nowhere}
+use Rattle.rv_list.specs.declared.view.DefinitionPlace.TheVariants.{Nowhere}
 use Rattle.rv_store.specs.Defining.{only, then_also}
 use Rattle.rv_store.proofs.DefinitionRows.{defined-first, defined-before}
 use Rattle.rv_store.proofs.definitions.define.Goals as goal

@@ -1,5 +1,5 @@
 use Rattle.std.proofs.Common.{◌≡◌, ◌+◌, ◌≤◌, length}
-use Rattle.rv_store.specs.declared.definition.DefinitionPlace.TheVariants.{Nowhere}
+use Rattle.rv_list.specs.declared.view.DefinitionPlace.TheVariants.{Nowhere}
 use Rattle.rv_store.specs.Defining.{then_also}
 use Rattle.rv_store.specs.Definitions.{place_among_labels}
 use Rattle.rv_store.specs.Rows.{in_row, Grows}

@@ -1,7 +1,7 @@
 use Rattle.std.proofs.Common.{ap, ◌∙◌}
 use Rattle.rv_store.specs.Defining.{then_also}
 use Rattle.rv_store.specs.Definitions.{place_among_labels, place_in_body}
-use Rattle.rv_store.specs.declared.definition.DefinitionPlace.TheVariants.{Nowhere}
+use Rattle.rv_list.specs.declared.view.DefinitionPlace.TheVariants.{Nowhere}
 use Rattle.rv_store.specs.Rows.{in_row}
 use Rattle.rv_store.proofs.DefinitionRows.{then_also-assoc}
 use Rattle.rv_store.proofs.definitions.define_line.Goals as goal

@@ -1,5 +1,5 @@
 use Rattle.std.proofs.Common.{◌+◌, length, ap, sym, ◌∙◌}
-use Rattle.rv_store.specs.declared.definition.DefinitionPlace.TheVariants.{Nowhere}
+use Rattle.rv_list.specs.declared.view.DefinitionPlace.TheVariants.{Nowhere}
 use Rattle.rv_store.specs.Defining.{then_also}
 use Rattle.rv_store.specs.Definitions.{place_in_statement}
 use Rattle.rv_store.specs.Rows.{in_row}

@@ -1,5 +1,5 @@
 use Rattle.std.proofs.Common.{◌≡◌, ◌+◌, ◌≤◌, length}
-use Rattle.rv_store.specs.declared.definition.DefinitionPlace.TheVariants.{Nowhere}
+use Rattle.rv_list.specs.declared.view.DefinitionPlace.TheVariants.{Nowhere}
 use Rattle.rv_store.specs.Defining.{then_also}
 use Rattle.rv_store.specs.Definitions.{first_place, definition_of}
 use Rattle.rv_store.specs.Program.{program_of}

@@ -1,5 +1,5 @@
 use Rattle.std.proofs.Common.{◌≡◌, ◌≤◌, ◌-◌, length, take, replicate, ◌++◌, vec_len, arith, ap, ◌∙◌}
-use Rattle.rv_store.specs.declared.definition.DefinitionPlace.TheVariants.{Nowhere}
+use Rattle.rv_list.specs.declared.view.DefinitionPlace.TheVariants.{Nowhere}
 use Rattle.rv_store.specs.Rows.{in_row}
 use Rattle.rv_store.proofs.DefinitionRows.{lengthened}
 use Rattle.rv_store.proofs.NameRows.{grows-length, row-grown}

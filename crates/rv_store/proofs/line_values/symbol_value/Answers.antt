@@ -1,7 +1,7 @@
 use Rattle.std.proofs.Common.{◌≡◌, true, length, ap, sym, ◌∙◌, refl, Err}
 use Rattle.std.proofs.lemmas.Bool.{eq-eqb, ne_eqb}
 use Rattle.rv_expr.specs.declared.faults.ValueFault.TheVariants.{LaterEqu}
-use Rattle.rv_store.specs.declared.definition.DefinitionPlace.TheVariants.{Nowhere, Equ}
+use Rattle.rv_list.specs.declared.view.DefinitionPlace.TheVariants.{Nowhere, Equ}
 use Rattle.rv_store.specs.Definitions.{definition_of, is_equ_on}
 use Rattle.rv_store.specs.Rows.{in_row}
 use Rattle.rv_store.specs.ValueRows.{base_of, program_of_rows}

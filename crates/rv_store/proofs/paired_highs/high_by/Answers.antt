@@ -12,5 +12,5 @@ returns-in_ok-address-in-Some-clause-value g c =
     let address = c.in_ok-address-in-Some.address in
     let tree : pcrel_high_of c.args.body.now ≡ Some c.in-Some.expression.now = sym c.pcrel_high.ensures ∙ ap (option_map (λ e. e.now)) c.in-Some.is in
     let high : high_by given here (pcrel_high_of c.args.body.now) ≡ Ok (displacement here address) =
-        ap (high_by given here) tree ∙ ap (λ v. and_then v (λ x. Ok (displacement here x))) (sym c.in_ok-address-in-Some.ensures.value) in
+    ap (high_by given here) tree ∙ ap (λ v. and_then v (λ x. Ok (displacement here x))) (sym c.in_ok-address-in-Some.ensures.value) in
     search rules ∙ sym high

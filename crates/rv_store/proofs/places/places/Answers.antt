@@ -3,7 +3,7 @@ use Rattle.rv_layout.specs.Effects.{offset_reached}
 use Rattle.rv_layout.specs.Places.{sum_below}
 use Rattle.rv_layout.specs.Sections.{sections}
 use Rattle.rv_layout.specs.PlaceLaws.{reached_together}
-use Rattle.rv_store.specs.declared.places.LinePlace.{LinePlace}
+use Rattle.rv_list.specs.declared.view.LinePlace.{LinePlace}
 use Rattle.rv_store.specs.Ends.{ends_of, ends_after, next_place, place_by_shapes}
 use Rattle.rv_store.specs.Program.{for_lines}
 use Rattle.rv_store.proofs.EndLaws.{PlaceFits, next-is, next-IsLimited, take-next, ends_of-push, bases-AreBases, next_place-is, next_place-fits, places-small}

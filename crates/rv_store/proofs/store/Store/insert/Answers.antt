@@ -1,4 +1,4 @@
-use Rattle.std.proofs.Common.{◌≡◌, ap, sym, ◌∙◌, ◌-◌, length, map, insert, None}
+use Rattle.std.proofs.Common.{◌≡◌, ap, ◌∙◌, ◌-◌, length, map, insert, None}
 use Rattle.rv_store.specs.Text.{Insert, refusal_of}
 use Rattle.rv_store.proofs.EditRefusals.{none_found, count_of_lines}
 use Rattle.rv_store.proofs.store.Store.insert.Goals as goal

@@ -1,4 +1,4 @@
-use Rattle.std.proofs.Common.{◌≡◌, ap, sym, ◌∙◌, ◌-◌, length, map, set, None}
+use Rattle.std.proofs.Common.{◌≡◌, ap, ◌∙◌, ◌-◌, length, map, set, None}
 use Rattle.rv_store.specs.Text.{Replace, refusal_of}
 use Rattle.rv_store.proofs.EditRefusals.{none_found, count_of_lines}
 use Rattle.rv_store.proofs.store.Store.replace.Goals as goal

@@ -1,0 +1,62 @@
+//! What is shown of a text after a list of edits.
+
+ghost use Rattle.std.specs.Prelude.{◌≡◌, ◌-◌, ◌^◌, ◌<◌, true, length, map};
+ghost use Rattle.rv_text.specs.Streams.{failures_after, Writes};
+ghost use Rattle.rv_store.specs.Text.{is_base};
+ghost use Rattle.rv_commands.specs.Commands.{edit_of};
+ghost use Rattle.rv_commands.specs.Edited.{AreEdits, shown_texts, ShowsEdited};
+
+use crate::edits::{LineEdit, make_edit};
+use crate::pages::{Page, write_page};
+use rv_list::ListError;
+use rv_store::{EditError, Store};
+use rv_text::Sink;
+use std::alloc::Global;
+
+// Makes the edits one after another, and puts their results beside them.
+fn make_edits(store: &mut Store, edits: &[LineEdit<'_>], results: &mut [Result<(), EditError>])
+    requires { length results.old ≡ length edits.now }
+    ensures { AreEdits store.old (map edit_of edits.now) results.new store.new }
+{
+    for at in 0..edits.len() {
+        results[at] = make_edit(store, edits[at]);
+    }
+}
+
+// Writes the image, the symbols, the listing and the faults.
+fn write_shown<W: Sink>(store: &Store, sink: &mut W) -> Result<(), ListError>
+    requires { W.failures sink.old < 2 ^ 64 - 1 }
+    ensures text { Writes (W.taken sink.old) (shown_texts store.now) result (W.taken sink.new) }
+    ensures count { W.failures sink.new ≡ failures_after (W.failures sink.old) result }
+{
+    write_page(Page::Image, store, sink)?;
+    write_page(Page::Symbols, store, sink)?;
+    write_page(Page::Listing, store, sink)?;
+    write_page(Page::Faults, store, sink)
+}
+
+/// After any list of line insertions, deletions and replacements, where a refused edit changes nothing, the image, the
+/// symbols, the listing and the faults that the store writes are byte for byte those that the definitions give for the
+/// current text assembled from nothing.
+///
+/// The edits are made one after another from the empty text on, and their results put beside them; then the four texts are
+/// written, up to the first failure of the writer.
+pub fn incremental_equals_from_scratch<W: Sink>(
+    alloc: Global,
+    base: u32,
+    edits: &[LineEdit<'_>],
+    results: &mut [Result<(), EditError>],
+    sink: &mut W,
+) -> Result<(), ListError>
+    requires base { is_base base ≡ true }
+    requires results { length results.old ≡ length edits.now }
+    requires failures { W.failures sink.old < 2 ^ 64 - 1 }
+    ensures texts { ShowsEdited base (map edit_of edits.now) results.new (W.taken sink.old) result (W.taken sink.new) }
+    ensures count { W.failures sink.new ≡ failures_after (W.failures sink.old) result }
+{
+    let Ok(mut store) = Store::new(alloc, base) else {
+        unreachable!()
+    };
+    make_edits(&mut store, edits, results);
+    write_shown(&store, sink)
+}

@@ -1,0 +1,11 @@
+use Rattle.std.proofs.Common.{◌≡◌, ◌+◌, ◌*◌, ◌≤◌, length}
+use Rattle.rv_list.specs.Joined.{joined}
+use Rattle.rv_list.specs.Symbols.{line_symbols}
+use Rattle.rv_list.proofs.symbols.count_symbols.Given as goal
+
+-- the symbols of the lines so far are counted
+abbrev pub invariant-loop-k : goal.invariant-loop-k
+invariant-loop-k g l = record {
+  count : l.count ≡ length (joined (λ k. line_symbols (g.V.View.shown l.view) (k + 1) ((g.V.View.shown l.view).line (k + 1))) l.k);
+  few : l.count ≤ 1001 * l.k;
+}

@@ -1,0 +1,13 @@
+use Rattle.std.proofs.Common.{◌≡◌, ◌+◌}
+use Rattle.std.specs.List.{concat}
+use Rattle.rv_text.specs.Blocks.{Waits}
+use Rattle.rv_list.specs.Joined.{joined}
+use Rattle.rv_list.specs.Symbols.{line_symbols}
+use Rattle.rv_list.proofs.symbols.push_symbol_rows.Given as goal
+
+-- the rows of the lines so far are gathered
+abbrev pub invariant-loop-k : goal.invariant-loop-k
+invariant-loop-k g l = record {
+  waits : Waits (g.W.Sink.taken l.fn.sink) l.fn.block (concat (joined (λ k. line_symbols (g.V.View.shown l.view) (k + 1) ((g.V.View.shown l.view).line (k + 1))) l.k)) (g.W.Sink.taken l.sink) l.block;
+  failures : g.W.Sink.failures l.sink ≡ g.W.Sink.failures l.fn.sink;
+}

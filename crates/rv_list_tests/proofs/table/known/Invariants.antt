@@ -1,0 +1,12 @@
+use Rattle.std.proofs.Common.{◌≡◌, length}
+use Rattle.rv_list_tests.specs.Tables.{known}
+use Rattle.rv_list_tests.proofs.table.known.Given as goal
+
+-- the names so far are others
+abbrev pub invariant-names : goal.invariant-names
+invariant-names l = record {
+  rest : known l.names l.name ≡ known l.fn.names l.name;
+}
+
+abbrev pub decreases-names : goal.decreases-names
+decreases-names l = length l.names

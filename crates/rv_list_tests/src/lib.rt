@@ -1,0 +1,7 @@
+//! Tests of `rv_list`: the texts of tables against worked examples, and writers of which one call fails.
+#![tactic(auto)]
+
+#[cfg(test)]
+mod table;
+#[cfg(test)]
+mod texts;

@@ -1,0 +1,87 @@
+//! Texts that are written out, as views.
+
+ghost use Rattle.std.specs.Prelude.{◌≡◌, ◌≤◌, ◌<◌, ◌-◌, length, map, get_or};
+ghost use Rattle.rv_layout.specs.Sections.{sections};
+ghost use Rattle.rv_list.specs.Shown.{Shown, shown_line};
+ghost use Rattle.rv_list_tests.specs.Tables.{no_line, no_section, known};
+
+use rv_fix::Coded;
+use rv_layout::SECTIONS;
+use rv_list::{DefinitionPlace, LinePlace, LineView, SectionPlace, View};
+use rv_stmt::Stmt;
+
+/// A line with what is shown of it.
+#[derive(Drop)]
+pub struct Row {
+    pub text: &'static str,
+    pub stmt: Stmt,
+    pub place: LinePlace,
+    pub code: Coded,
+    pub ghost few: { length stmt.labels ≤ 1000 },
+}
+
+/// A name with its definition, and the value of its `.equ`.
+#[derive(Clone, Copy)]
+pub struct Defined {
+    pub name: &'static str,
+    pub place: DefinitionPlace,
+    pub value: Option<i64>,
+}
+
+/// A text that is written out.
+#[derive(Drop)]
+pub struct Table {
+    pub rows: Vec<Row>,
+    pub sections: [SectionPlace; SECTIONS],
+    pub names: &'static [Defined],
+    pub ghost few: { length rows.items ≤ 16384 },
+}
+
+// Where a name is defined, and its value.
+fn known(mut names: &[Defined], name: &[u8]) -> (DefinitionPlace, Option<i64>)
+    ensures { result ≡ known names.entry.now name.now }
+{
+    'names: while let [first, later @ ..] = names {
+        if first.name.as_bytes() == name {
+            return (first.place, first.value);
+        }
+        names = later;
+    }
+    (DefinitionPlace::Nowhere, None)
+}
+
+impl View for Table {
+    ghost shown = { λ t. record {
+      count = length t.rows.items;
+      line = λ k. get_or (map (λ r. record { text = r.text.now; stmt = r.stmt; place = r.place; code = r.code }) t.rows.items) (k - 1) no_line;
+      section = λ s. get_or t.sections s no_section;
+      definition = λ name. (known t.names.now name).0;
+      value = λ name. (known t.names.now name).1;
+    } };
+
+    fn line_count(&self) -> u32 {
+        self.rows.len() as u32
+    }
+
+    fn line(&self, k: u32) -> LineView<'_> {
+        let row = &self.rows[k as usize - 1];
+        LineView {
+            text: row.text.as_bytes(),
+            stmt: &row.stmt,
+            place: row.place,
+            code: &row.code,
+        }
+    }
+
+    fn section(&self, section: usize) -> SectionPlace {
+        self.sections[section]
+    }
+
+    fn definition(&self, name: &[u8]) -> DefinitionPlace {
+        known(self.names, name).0
+    }
+
+    fn value(&self, name: &[u8]) -> Option<i64> {
+        known(self.names, name).1
+    }
+}

@@ -1,0 +1,341 @@
+//! Texts of tables against worked ones, and what is written where a call of the writer fails.
+
+use crate::table::{Defined, Row, Table};
+use rv_fix::{AssembleError, Coded, assemble_at};
+use rv_layout::SECTIONS;
+use rv_list::{
+    DefinitionPlace, LinePlace, ListError, SectionPlace, View, write_faults, write_image,
+    write_listing, write_symbols,
+};
+use rv_stmt::{Sect, read_line};
+use rv_text::{FailsAt, MemSink, Tally};
+use std::alloc::Global;
+use std::process::Abort;
+use std::test::Fail;
+
+// A line, with its section, its address and its size.
+type Line = (&'static str, Sect, u32, u32);
+
+// The row of a line. A line that uses names of others has no bytes here.
+fn row<T: Abort>(rt: &T, alloc: Global, line: Line) -> Result<Row, Fail> {
+    let (text, section, address, size) = line;
+    assert!(rt; text.len() <= 1000);
+    let stmt = read_line(alloc, text.as_bytes(), &mut Tally::new())?;
+    assert!(rt; stmt.labels.as_slice().len() <= 1000);
+    let code = match assemble_at(alloc, text.as_bytes(), address) {
+        Err(AssembleError::Names) => Coded::padding(false, 0),
+        answer => answer?,
+    };
+    let place = LinePlace {
+        section,
+        address,
+        size,
+    };
+    Ok(Row {
+        text,
+        stmt,
+        place,
+        code,
+    })
+}
+
+// The table of these lines.
+fn table<T: Abort>(
+    rt: &T,
+    alloc: Global,
+    lines: &[Line],
+    sections: [(u32, u32); SECTIONS],
+    names: &'static [Defined],
+) -> Result<Table, Fail> {
+    let mut rows = Vec::new(alloc);
+    for line in lines {
+        rows.push(row(rt, alloc, *line)?)?;
+    }
+    assert!(rt; rows.len() <= 16384);
+    let sections = sections.map(|(base, size)| SectionPlace { base, size });
+    Ok(Table {
+        rows,
+        sections,
+        names,
+    })
+}
+
+#[derive(Clone, Copy, Debug)]
+enum Kind {
+    Image,
+    Listing,
+    Symbols,
+    Faults,
+}
+
+const KINDS: [Kind; 4] = [Kind::Image, Kind::Listing, Kind::Symbols, Kind::Faults];
+
+// What is written of a table, where call number `m` of the writer fails.
+fn written(
+    alloc: Global,
+    kind: Kind,
+    table: &Table,
+    m: u64,
+) -> Result<(Result<(), ListError>, MemSink), Fail> {
+    let mut sink = FailsAt::new(MemSink::new(alloc, 32768)?, m);
+    let answer = match kind {
+        Kind::Image => write_image(table, &mut sink),
+        Kind::Listing => write_listing(table, &mut sink),
+        Kind::Symbols => write_symbols(table, &mut sink),
+        Kind::Faults => write_faults(table, &mut sink),
+    };
+    Ok((answer, sink.inner))
+}
+
+// A text, and what is written of it.
+#[derive(Clone, Copy)]
+struct Case {
+    lines: &'static [Line],
+    sections: [(u32, u32); SECTIONS],
+    names: &'static [Defined],
+    texts: &'static [(Kind, &'static str)],
+}
+
+const NOWHERE: [(u32, u32); SECTIONS] = [(0, 0); SECTIONS];
+
+// No line.
+const EMPTY: Case = Case {
+    lines: &[],
+    sections: NOWHERE,
+    names: &[],
+    texts: &[
+        (
+            Kind::Image,
+            ".text 0x00000000 0\n.rodata 0x00000000 0\n.data 0x00000000 0\n.bss 0x00000000 0\n",
+        ),
+        (Kind::Listing, "listing 0\n"),
+        (Kind::Symbols, "symbols 0\n"),
+        (Kind::Faults, "faults 0\n"),
+    ],
+};
+
+// An instruction at an odd address, a second definition, and a value out of range.
+const ODD: Case = Case {
+    lines: &[
+        (".byte 1", Sect::Text, 0, 1),
+        ("x: addi a0, a0, 1", Sect::Text, 1, 4),
+        ("x: .byte 300", Sect::Text, 5, 1),
+    ],
+    sections: [(0, 6), (4096, 0), (4096, 0), (4096, 0)],
+    names: &[Defined {
+        name: "x",
+        place: DefinitionPlace::Label(2, 0),
+        value: None,
+    }],
+    texts: &[
+        (
+            Kind::Image,
+            ".text 0x00000000 6
+00000000: 01 13 05 15 00 00
+.rodata 0x00001000 0
+.data 0x00001000 0
+.bss 0x00001000 0
+",
+        ),
+        (
+            Kind::Listing,
+            "listing 3
+    1 00000000 01                .byte 1
+    2 00000001 13051500          x: addi a0, a0, 1
+    3 00000005 00                x: .byte 300
+",
+        ),
+        (Kind::Symbols, "symbols 1\n2 label 0x00000001 x\n"),
+        (
+            Kind::Faults,
+            "faults 3
+2 3 7 20 OddAddress
+3 0 1 19 Duplicate
+3 9 12 16 Range
+",
+        ),
+    ],
+};
+
+// Eight bytes or fewer.
+const LOADS: Case = Case {
+    lines: &[
+        ("li a0, 2047", Sect::Text, 0, 4),
+        ("li a0, 2048", Sect::Text, 4, 8),
+        ("li a0, -1", Sect::Text, 12, 4),
+        ("li a0, 0xFFFFFFFF", Sect::Text, 16, 4),
+    ],
+    sections: NOWHERE,
+    names: &[],
+    texts: &[(
+        Kind::Listing,
+        "listing 4
+    1 00000000 1305f07f          li a0, 2047
+    2 00000004 3715000013050580  li a0, 2048
+    3 0000000c 1305f0ff          li a0, -1
+    4 00000010 1305f0ff          li a0, 0xFFFFFFFF
+",
+    )],
+};
+
+// Data, and an instruction in `.bss`.
+const DATA: Case = Case {
+    lines: &[
+        (".data", Sect::Text, 0, 0),
+        (".byte 1, -1, 'A'", Sect::Rwdata, 0, 3),
+        (".half 0x1234", Sect::Rwdata, 3, 2),
+        (".word 9", Sect::Rwdata, 5, 4),
+        ("s: .asciz \"hi\\n\"", Sect::Rwdata, 9, 4),
+        (".word 1, 2, 3", Sect::Rwdata, 13, 12),
+        (".section .bss", Sect::Rwdata, 25, 0),
+        ("addi a0, a0, 1", Sect::Bss, 4096, 4),
+    ],
+    sections: [(0, 0), (0, 0), (0, 25), (4096, 4)],
+    names: &[Defined {
+        name: "s",
+        place: DefinitionPlace::Label(5, 0),
+        value: None,
+    }],
+    texts: &[
+        (
+            Kind::Image,
+            ".text 0x00000000 0
+.rodata 0x00000000 0
+.data 0x00000000 25
+00000000: 01 ff 41 34 12 09 00 00 00 68 69 0a 00 01 00 00
+00000010: 00 02 00 00 00 03 00 00 00
+.bss 0x00001000 4
+",
+        ),
+        (
+            Kind::Listing,
+            "listing 8
+    1 00000000                   .data
+    2 00000000 01ff41            .byte 1, -1, 'A'
+    3 00000003 3412              .half 0x1234
+    4 00000005 09000000          .word 9
+    5 00000009 68690a00          s: .asciz \"hi\\n\"
+    6 0000000d 0100000002000000+ .word 1, 2, 3
+    7 00000019                   .section .bss
+    8 00001000                   addi a0, a0, 1
+",
+        ),
+        (Kind::Symbols, "symbols 1\n5 label 0x00000009 s\n"),
+        (Kind::Faults, "faults 1\n8 0 4 21 InBss\n"),
+    ],
+};
+
+// Definitions, among them a second one and one without a value, and lines that cannot be read.
+const NAMES: Case = Case {
+    lines: &[
+        (".equ N, 4", Sect::Text, 0, 0),
+        (".equ N, 5000", Sect::Text, 0, 0),
+        ("start: 1: s: li a0, N", Sect::Text, 0, 4),
+        ("end: nop", Sect::Text, 4, 4),
+        (".equ D, end - start", Sect::Text, 8, 0),
+        ("s: end: .equ q, 1/0", Sect::Text, 8, 0),
+        (".equ m, -9223372036854775807 - 1", Sect::Text, 8, 0),
+        (".comm b,4,4", Sect::Text, 8, 0),
+        (".section .note.GNU-stack,\"\",@progbits", Sect::Text, 8, 0),
+    ],
+    sections: NOWHERE,
+    names: &[
+        Defined {
+            name: "N",
+            place: DefinitionPlace::Equ(1),
+            value: Some(4),
+        },
+        Defined {
+            name: "start",
+            place: DefinitionPlace::Label(3, 0),
+            value: None,
+        },
+        Defined {
+            name: "s",
+            place: DefinitionPlace::Label(3, 2),
+            value: None,
+        },
+        Defined {
+            name: "end",
+            place: DefinitionPlace::Label(4, 0),
+            value: None,
+        },
+        Defined {
+            name: "D",
+            place: DefinitionPlace::Equ(5),
+            value: Some(4),
+        },
+        Defined {
+            name: "q",
+            place: DefinitionPlace::Equ(6),
+            value: None,
+        },
+        Defined {
+            name: "m",
+            place: DefinitionPlace::Equ(7),
+            value: Some(i64::MIN),
+        },
+    ],
+    texts: &[
+        (
+            Kind::Symbols,
+            "symbols 7
+1 equ 4 N
+3 label 0x00000000 start
+3 label 0x00000000 s
+4 label 0x00000004 end
+5 equ 4 D
+6 equ ? q
+7 equ -9223372036854775808 m
+",
+        ),
+        (
+            Kind::Faults,
+            "faults 6
+2 5 6 19 Duplicate
+6 0 1 19 Duplicate
+6 3 6 19 Duplicate
+6 16 19 15 Arithmetic
+8 0 5 5 UnknownName
+9 9 24 9 BadOperand
+",
+        ),
+    ],
+};
+
+#[test]
+fn writes_texts(rt: HostRuntime) -> Result<(), Fail> {
+    for case in [EMPTY, ODD, LOADS, DATA, NAMES] {
+        let table = table(&rt, rt.alloc(), case.lines, case.sections, case.names)?;
+        for (kind, want) in case.texts {
+            let (answer, sink) = written(rt.alloc(), *kind, &table, 0)?;
+            assert!(rt; answer.is_ok());
+            assert_eq!(rt; str::from_utf8(sink.bytes()), Ok(*want), "{kind:?}");
+        }
+    }
+    Ok(())
+}
+
+// A line with faults. Many of them take several calls of the writer.
+const LONG: Line = ("x: .byte 1, 2, 3, 4, 5, 6, 7, 300", Sect::Text, 1, 8);
+
+// A writer that fails at one call has taken what it took without the failure before that call, and no more.
+#[test]
+fn stops_at_failures(rt: HostRuntime) -> Result<(), Fail> {
+    let lines = [LONG; 300];
+    let table = table(&rt, rt.alloc(), &lines, NOWHERE, &[])?;
+    for kind in KINDS {
+        let (_, whole) = written(rt.alloc(), kind, &table, 0)?;
+        for m in 1..10 {
+            let (answer, sink) = written(rt.alloc(), kind, &table, m)?;
+            let bytes = sink.bytes();
+            assert!(rt; whole.bytes().starts_with(bytes), "{kind:?} at {m}");
+            assert_eq!(rt;
+                answer.is_err(),
+                bytes.len() < whole.bytes().len(),
+                "{kind:?} at {m}"
+            );
+        }
+    }
+    Ok(())
+}
