@@ -3,6 +3,8 @@ pub mod TranscriptExamples
 pub mod TranscriptLemmas
 pub mod CutLemmas
 pub mod WordLemmas
+pub mod ChangeLemmas
+pub mod EditAnswers
 pub mod EditedLemmas
 pub mod LineRows
 pub mod GatherLemmas

@@ -1,7 +1,6 @@
 //! Tests of `rv_list`: the texts of tables against worked examples, and writers of which one call fails.
 #![tactic(auto)]
 
-#[cfg(test)]
-mod table;
+pub mod table;
 #[cfg(test)]
 mod texts;
