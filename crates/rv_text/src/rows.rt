@@ -4,6 +4,7 @@ ghost use Rattle.std.specs.Prelude.{◌≡◌, ◌+◌, ◌<◌, ◌≤◌, ◌+
 ghost use Rattle.rv_text.specs.Rows.{hex, hex_digit};
 
 use arrayvec::ArrayVec;
+use itoa::Buffer;
 use std::marker::Model;
 
 /// A row of output text, or a part of one: at most 64 bytes, put together without taking memory. Contracts see the bytes.
@@ -57,27 +58,14 @@ impl OutputRow {
         self.bytes.try_extend_from_slice(text).unwrap();
     }
 
-    // The digits of the number, where there is room for them.
-    #[tactic(auto, using(std::proofs::lemmas::Fmt::decimal_digit))]
-    fn push_digits(&mut self, n: u32)
-        requires { length self.old + length (decimal n) ≤ 64 }
-        ensures { self.new ≡ self.old ++ decimal n }
-    {
-        if n < 10 {
-            return self.push_byte(b'0' + n as u8);
-        }
-        self.push_digits(n / 10);
-        self.push_byte(b'0' + (n % 10) as u8);
-    }
-
     /// The number in decimal, without leading zeros.
-    #[tactic(auto, using(crate::proofs::RowLemmas::decimal_short))]
     pub fn push_decimal(&mut self, n: u32)
         requires { length self.old + 10 ≤ 64 }
         ensures text { self.new ≡ self.old ++ decimal n }
         ensures length { length self.new ≤ length self.old + 10 }
     {
-        self.push_digits(n);
+        let mut buffer = Buffer::new();
+        self.push_text(buffer.format(n).as_bytes());
     }
 
     /// The last `digits` hexadecimal digits of the number in lower case, exactly as many, with leading zeros.
