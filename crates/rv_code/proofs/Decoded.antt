@@ -30,7 +30,7 @@ is_word_of o f w h =
     record { fits = subst (Fits o) (sym e) h.fits; word = ap (encoding_of o) e ∙ h.word }
 
 -- one number has one instruction
-one : (o p : Op) (f g : Fields) (w : ℕ) → IsInstruction o f w → IsInstruction p g w → ◌≡◌ {A = Op × Fields} (o, f) (p, g)
+pub one : (o p : Op) (f g : Fields) (w : ℕ) → IsInstruction o f w → IsInstruction p g w → ◌≡◌ {A = Op × Fields} (o, f) (p, g)
 one o p f g w h k =
     let operations : o ≡ p = one_operation o p f g h.fits k.fits (h.word ∙ sym k.word) in
     let fields : f ≡ g = sym (fields_at-word o f w h) ∙ ap (λ q. fields_at (shape_of q) w) operations ∙ fields_at-word p g w k in
@@ -38,7 +38,7 @@ one o p f g w h k =
     ap (λ q. pair q f) operations ∙ ap (λ x. pair p x) fields
 
 -- the two lengths of a word
-abbrev number_of_word : Word → ℕ
+abbrev pub number_of_word : Word → ℕ
 number_of_word (Full n) = n
 number_of_word (Half n) = n
 

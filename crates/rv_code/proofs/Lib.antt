@@ -10,4 +10,5 @@ pub mod Runs
 pub mod Shapes
 pub mod Slices
 pub mod Values
+pub mod WordLemmas
 pub mod Words

@@ -2,6 +2,7 @@ pub mod Csrs
 pub mod LimitLaws
 pub mod Limits
 pub mod Names
+pub mod NameLaws
 pub mod Registers
 pub mod Room
 pub mod Table

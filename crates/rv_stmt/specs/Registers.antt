@@ -3,7 +3,7 @@ use Rattle.std.specs.Prelude.{ℕ, Bool, ◌==◌, List, map, Option, option_and
 use Rattle.rv_text.specs.declared.faults.FaultNumber.TheVariants.{BadRegister, RegisterRange, BadOperand}
 use Rattle.rv_text.specs.Lexing.{SpelledToken}
 use Rattle.rv_ops.specs.Csrs.{csr_named}
-use Rattle.rv_ops.specs.Names.{first_named}
+use Rattle.rv_ops.specs.Names.{first_named, first_name}
 use Rattle.rv_ops.specs.Registers.{register_named}
 use Rattle.rv_code.specs.Encoding.{is_in}
 use Rattle.rv_stmt.specs.declared.registers.Accepted.{Accepted}
@@ -40,6 +40,10 @@ set_names = map (λ row. (row.0, row.1.now)) SETS
 -- the bits of the set that has the name, in either letter case
 unfoldable pub set_named : List ℕ → Option ℕ
 set_named text = first_named set_names text
+
+-- the name of the set that the bits are, where there is one
+unfoldable pub set_name : ℕ → Option (List ℕ)
+set_name n = first_name set_names n
 
 -- the set that a run is
 abbrev pub set : List SpelledToken → Reading ℕ

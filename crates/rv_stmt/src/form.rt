@@ -40,9 +40,9 @@ impl Form {
     }
 }
 
-// The operands of a shape.
+/// The operands of a shape, in the order in which they are written.
 #[tactic(auto, unfolding(crate::specs::Forms::slots_of))]
-fn slots(shape: Shape) -> &'static [Slot]
+pub fn operand_slots(shape: Shape) -> &'static [Slot]
     ensures { result.now ≡ slots_of shape }
 {
     OPERANDS[shape as usize].1
@@ -62,7 +62,7 @@ fn own_form(op: Op) -> Form
         own: true,
         op,
         fields,
-        slots: slots(shape(op)),
+        slots: operand_slots(shape(op)),
     }
 }
 

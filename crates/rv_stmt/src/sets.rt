@@ -1,7 +1,9 @@
 //! The sets of fences.
 
-ghost use Rattle.std.specs.Prelude.{◌≡◌};
-ghost use Rattle.rv_stmt.specs.Registers.{set};
+ghost use Rattle.std.specs.Prelude.{◌≡◌, map};
+ghost use Rattle.std.specs.Option.{option_map};
+ghost use Rattle.rv_ops.specs.Names.{first_name};
+ghost use Rattle.rv_stmt.specs.Registers.{set, set_name};
 
 use crate::reading::Reading;
 use crate::token_range::TokenRange;
@@ -35,4 +37,25 @@ pub fn set(run: &TokenRange<'_>) -> Reading<Reg>
     let name = run.one_identifier().ok_or(FaultNumber::BadOperand)?;
     let bits = first_named(&SETS, name).and_then(Reg::new);
     bits.ok_or(FaultNumber::BadOperand)
+}
+
+// The name in the first row that has the number.
+fn first_name(mut rows: &[(u8, &'static str)], number: u8) -> Option<&'static str>
+    ensures { option_map (λ name. name.now) result ≡ first_name (map (λ row. (row.0, row.1.now)) rows.entry.now) number }
+{
+    while let [row, rest @ ..] = rows {
+        if row.0 == number {
+            return Some(row.1);
+        }
+        rows = rest;
+    }
+    None
+}
+
+/// The name of the set for which the number of a register stands: 1 to 15 have one.
+#[tactic(auto, unfolding(crate::specs::Registers::set_names, crate::specs::Registers::set_name))]
+pub fn set_name(set: Reg) -> Option<&'static str>
+    ensures { option_map (λ name. name.now) result ≡ set_name set }
+{
+    first_name(&SETS, set.number())
 }

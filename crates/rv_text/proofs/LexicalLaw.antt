@@ -9,7 +9,7 @@ use Rattle.rv_text.specs.declared.lexeme.Prefix.{Prefix}
 use Rattle.rv_text.specs.declared.lexeme.Prefix.TheVariants.{Whitespace, Comment, Lexeme, Wrong}
 use Rattle.rv_text.specs.Lexing.{Lexed, SpansFit, bytes_of_tokens, lexed_line, prefix, spelled_tokens, text_at, with_rest, tokens_from, tokens_of}
 use Rattle.rv_text.specs.Lexical.{IsOfKind, Reads, ended, comment, whitespace, token, wrong, Rise}
-use Rattle.rv_text.proofs.Steps.{tokens_from-taken}
+use Rattle.rv_text.specs.TokenLaws.{tokens_from-taken}
 use Rattle.rv_text.proofs.LexicalLemmas.{Stands, prefix_stands}
 
 abbrev ReadsAs : ℕ → List ℕ → Lexed → Type 0

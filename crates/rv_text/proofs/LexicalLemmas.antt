@@ -16,7 +16,8 @@ use Rattle.rv_text.specs.Lexing.{begins_comment, begins_shift, quoted, prefix}
 use Rattle.rv_text.specs.Lexical.{IsOfKind, IsLongest, EndsRun, goes_on, IsWrong}
 use Rattle.rv_text.specs.Numbers.{number_of, is_local}
 use Rattle.rv_text.specs.Strings.{string_len, char_len}
-use Rattle.rv_text.proofs.ByteClasses.{run_longest, run_all, run_ends, run_more, digit_is_alphanumeric, number_alphanumeric, local_alphanumeric, class_of, class_of_kind, start_class, digit_class, first_class}
+use Rattle.rv_text.proofs.ByteClasses.{run_longest, run_all, run_ends, run_more, digit_is_alphanumeric, local_alphanumeric, class_of, class_of_kind, start_class, digit_class, first_class}
+use Rattle.rv_text.specs.NumberLaws.{number_alphanumeric}
 use Rattle.rv_text.proofs.QuotedLemmas.{string_sound, string_complete, character_sound, character_complete}
 
 -- a token that begins with a byte of a class is of a kind of that class

@@ -18,10 +18,11 @@ use Rattle.rv_text.specs.Bytes.{is_whitespace}
 use Rattle.rv_text.specs.Lexing.{Lexed, begins, begins_comment, prefix, with_rest, tokens_from, tokens_of}
 use Rattle.rv_text.specs.Lexical.{IsOfKind, IsLongest, EndsRun, goes_on, IsWrong, IsBadNumber, Reads, ended, comment, whitespace, token, wrong}
 use Rattle.rv_text.specs.Numbers.{number_of, is_local, is_local_number}
-use Rattle.rv_text.proofs.ByteClasses.{number_alphanumeric, local_alphanumeric, class_of, class_of_kind, digit_class, first_class, digits_all, local_parts, last_after}
+use Rattle.rv_text.proofs.ByteClasses.{local_alphanumeric, class_of, class_of_kind, digit_class, first_class, local_parts, last_after}
+use Rattle.rv_text.specs.NumberLaws.{number_alphanumeric, digits_all}
 use Rattle.rv_text.proofs.LexicalLaw.{some_bytes}
 use Rattle.rv_text.proofs.LexicalLemmas.{IsLexeme, Stands, prefix_stands, kind_of}
-use Rattle.rv_text.proofs.Steps.{tokens_from-taken}
+use Rattle.rv_text.specs.TokenLaws.{tokens_from-taken}
 
 -- a run that ends where no digit and no letter stands is the longest
 run_is : (bs : List ℕ) (n : ℕ) → n ≤ length bs → list_all is_ascii_alphanumeric (take n bs) ≡ true → goes_on (drop n bs) ≡ false → prefix_len is_ascii_alphanumeric bs ≡ n

@@ -1,19 +1,11 @@
 -- One step along a line.
-use Rattle.std.proofs.Common.{◌≡◌, ℕ, zero, suc, ◌+◌, ◌-◌, ◌<◌, ◌≤◌, List, [], ◌∷◌, length, drop, Some, None, sym, refl, ap, ◌∙◌, arith, add-zero, length-drop}
+use Rattle.std.proofs.Common.{◌≡◌, ℕ, ◌+◌, ◌-◌, ◌<◌, ◌≤◌, List, [], ◌∷◌, length, drop, Some, None, refl, ◌∙◌, arith, length-drop}
 use Rattle.std.proofs.lemmas.List.{drop_more, drop-drop}
 use Rattle.rv_text.specs.declared.faults.FaultNumber.{FaultNumber}
 use Rattle.rv_text.specs.declared.lexeme.TokenKind.{TokenKind}
 use Rattle.rv_text.specs.declared.lexeme.Prefix.TheVariants.{Whitespace, Comment, Lexeme, Wrong}
 use Rattle.rv_text.specs.Lexing.{tokens_from, with_rest, prefix}
-
--- to take k bytes is to go on after them
-pub tokens_from-taken : (at k : ℕ) (bs : List ℕ) → k ≤ length bs → tokens_from at k bs ≡ tokens_from (at + k) 0 (drop k bs)
-tokens_from-taken at zero [] h = refl
-tokens_from-taken at zero (b ∷ bs) h = ap (λ x. tokens_from x 0 (b ∷ bs)) (sym (add-zero at))
-tokens_from-taken at (suc k) [] h = absurd (omega arith)
-tokens_from-taken at (suc k) (b ∷ bs) h =
-    let place : at + 1 + k ≡ at + suc k = omega arith in
-    tokens_from-taken (at + 1) k bs (omega arith) ∙ ap (λ x. tokens_from x 0 (drop k bs)) place
+use Rattle.rv_text.specs.TokenLaws.{tokens_from-taken}
 
 -- what a list begins with that is not empty
 tokens_from-cons : (at b : ℕ) (bs xs : List ℕ) → xs ≡ b ∷ bs → tokens_from at 0 xs ≡ with_rest (prefix xs) at (λ k. tokens_from (at + 1) k bs)

@@ -2,6 +2,7 @@ pub mod Bytes
 pub mod Counting
 pub mod Faults
 pub mod Numbers
+pub mod NumberLaws
 pub mod Strings
 pub mod Lexing
 pub mod Lexical

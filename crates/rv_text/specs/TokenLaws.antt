@@ -1,5 +1,5 @@
--- How many tokens a line can have.
-use Rattle.std.proofs.Common.{◌≡◌, ℕ, zero, suc, ◌+◌, ◌-◌, ◌≤◌, List, [], ◌∷◌, length, arith}
+-- How many tokens a line can have, and how they go on.
+use Rattle.std.proofs.Common.{◌≡◌, ℕ, zero, suc, ◌+◌, ◌-◌, ◌≤◌, List, [], ◌∷◌, length, drop, sym, refl, ap, ◌∙◌, arith, add-zero}
 use Rattle.std.proofs.lemmas.List.{length-map}
 use Rattle.rv_text.specs.declared.lexeme.Prefix.{Prefix}
 use Rattle.rv_text.specs.declared.lexeme.Prefix.TheVariants.{Whitespace, Comment, Lexeme, Wrong}
@@ -28,3 +28,12 @@ count_of_spelled_tokens l = length-map l.tokens _
 -- a line has no more tokens with their texts than bytes
 pub few_spelled_tokens : (line : List ℕ) → length (spelled_tokens (lexed_line line)) ≤ length line
 few_spelled_tokens line = let count = count_of_spelled_tokens (lexed_line line) in let few = few_tokens line in omega (arith, count, few)
+
+-- to take k bytes is to go on after them
+pub tokens_from-taken : (at k : ℕ) (bs : List ℕ) → k ≤ length bs → tokens_from at k bs ≡ tokens_from (at + k) 0 (drop k bs)
+tokens_from-taken at zero [] h = refl
+tokens_from-taken at zero (b ∷ bs) h = ap (λ x. tokens_from x 0 (b ∷ bs)) (sym (add-zero at))
+tokens_from-taken at (suc k) [] h = absurd (omega arith)
+tokens_from-taken at (suc k) (b ∷ bs) h =
+    let place : at + 1 + k ≡ at + suc k = omega arith in
+    tokens_from-taken (at + 1) k bs (omega arith) ∙ ap (λ x. tokens_from x 0 (drop k bs)) place

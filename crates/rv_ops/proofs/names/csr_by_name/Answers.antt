@@ -2,7 +2,8 @@ use Rattle.std.proofs.Common.{◌<◌, ◌∙◌, sym, subst}
 use Rattle.std.specs.Option.{IfSome}
 use Rattle.std.proofs.lemmas.Option.{IfSome_then}
 use Rattle.rv_ops.specs.Csrs.{csr_names, csr_named, IsNameOfCsr}
-use Rattle.rv_ops.proofs.Naming.{csr_named-found, csr_named-only, made_number}
+use Rattle.rv_ops.proofs.Naming.{made_number}
+use Rattle.rv_ops.specs.NameLaws.{csr_named-found, csr_named-only}
 use Rattle.rv_ops.proofs.names.csr_by_name.Goals as goal
 
 pub returns-clause-value : goal.returns-clause-value

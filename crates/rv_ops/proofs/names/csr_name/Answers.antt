@@ -1,7 +1,8 @@
 use Rattle.std.proofs.Common.{◌≡◌, ◌∙◌, Some, ap, sym, subst}
 use Rattle.std.specs.Prelude.{option_map, IsSome, IfSome}
 use Rattle.rv_ops.specs.Csrs.{csr_name, csr_names, csr_named}
-use Rattle.rv_ops.proofs.Naming.{csr_named-name, csr_name-only, mapped_is_some, mapped_if_some}
+use Rattle.rv_ops.proofs.Naming.{mapped_is_some, mapped_if_some}
+use Rattle.rv_ops.specs.NameLaws.{csr_named-name, csr_name-only}
 use Rattle.rv_ops.proofs.names.csr_name.Goals as goal
 
 pub returns-clause-value : goal.returns-clause-value

@@ -1,6 +1,6 @@
 use Rattle.std.proofs.Common.{sym, ◌∙◌, subst, IfSome}
 use Rattle.rv_ops.specs.Table.{operation_names, operation_named, IsNameOfOperation}
-use Rattle.rv_ops.proofs.Naming.{operation_named-found, operation_named-only}
+use Rattle.rv_ops.specs.NameLaws.{operation_named-found, operation_named-only}
 use Rattle.rv_ops.proofs.names.op_by_name.Goals as goal
 
 pub returns-clause-value : goal.returns-clause-value

@@ -2,7 +2,8 @@ use Rattle.std.proofs.Common.{◌<◌, ◌∙◌, sym, subst}
 use Rattle.std.specs.Option.{IfSome}
 use Rattle.std.proofs.lemmas.Option.{IfSome_then}
 use Rattle.rv_ops.specs.Registers.{register_names, register_named, IsNameOfRegister}
-use Rattle.rv_ops.proofs.Naming.{register_named-found, register_named-only, made_number}
+use Rattle.rv_ops.proofs.Naming.{made_number}
+use Rattle.rv_ops.specs.NameLaws.{register_named-found, register_named-only}
 use Rattle.rv_ops.proofs.names.reg_by_name.Goals as goal
 
 pub returns-clause-value : goal.returns-clause-value

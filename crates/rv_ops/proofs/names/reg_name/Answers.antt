@@ -1,6 +1,6 @@
 use Rattle.std.proofs.Common.{◌≡◌, ◌<◌, ◌∙◌, ap, subst}
 use Rattle.rv_ops.specs.Registers.{register_name, register_named}
-use Rattle.rv_ops.proofs.Naming.{register_named-name}
+use Rattle.rv_ops.specs.NameLaws.{register_named-name}
 use Rattle.rv_ops.proofs.names.reg_name.Goals as goal
 
 pub returns-clause-value : goal.returns-clause-value
