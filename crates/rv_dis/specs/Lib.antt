@@ -1,0 +1,3 @@
+pub mod Assembling
+pub mod Rows
+pub mod Text
