@@ -15,6 +15,8 @@ pub enum Case {
     Values,
     Code,
     LineAlone,
+    InstructionText,
+    Rows,
     Edit(Edit),
     Tree(TreeCall),
 }
@@ -44,6 +46,8 @@ pub fn read_case(input: &[u8]) -> Option<(Case, u32)> {
         (b"values ", Case::Values),
         (b"code ", Case::Code),
         (b"line_alone ", Case::LineAlone),
+        (b"instruction_text ", Case::InstructionText),
+        (b"rows ", Case::Rows),
         (b"insert ", Case::Edit(Edit::Insert)),
         (b"delete ", Case::Edit(Edit::Delete)),
         (b"replace ", Case::Edit(Edit::Replace)),

@@ -6,6 +6,7 @@
 #![tactic(auto)]
 
 mod case;
+mod dis_case;
 mod fix_case;
 mod statement_case;
 mod store_case;
@@ -13,6 +14,7 @@ mod text_case;
 mod tree_case;
 
 use case::{Case, Outcome, read_case};
+use dis_case::{instruction_text_refused, rows_refused};
 use fix_case::{code_refused, line_alone_refused, values_refused};
 use statement_case::{Line, expression_refused, statement_refused};
 use std::io;
@@ -48,6 +50,8 @@ fn main(rt: HostRuntime) -> io::Result<()> {
         Case::Values => values_refused(rt.alloc(), pads),
         Case::Code => code_refused(rt.alloc(), pads),
         Case::LineAlone => line_alone_refused(rt.alloc(), pads),
+        Case::InstructionText => instruction_text_refused(rt.alloc(), pads),
+        Case::Rows => rows_refused(rt.alloc(), pads),
         Case::Edit(edit) => edit_refused(rt.alloc(), pads, edit),
         Case::Tree(call) => tree_call_refused(rt.alloc(), pads, call),
     };

@@ -1,18 +1,18 @@
 -- A word has at most one instruction, and the row of its operation has it.
-use Rattle.std.proofs.Common.{◌≡◌, ℕ, ◌+◌, ◌-◌, ◌%◌, ◌<◌, ◌≤◌, refl, arith, bit_and, sym, ap, subst, ◌∙◌, Bool, true, false, nat_eq, ltb-true, ltb-false, cond, List, [], ◌∷◌, zero, suc, length, get_or, take, drop, get_or-take, get_or-drop, true≢false, Option, Some, None}
+use Rattle.std.proofs.Common.{◌≡◌, ℕ, ◌-◌, ◌%◌, ◌<◌, refl, arith, bit_and, sym, ap, subst, ◌∙◌, Bool, true, false, nat_eq, cond, List, [], ◌∷◌, zero, suc, length, get_or, true≢false, Option, Some, None}
 use Rattle.std.specs.Option.{IfSome}
 use Rattle.std.specs.Prelude.{IfNone}
-use Rattle.std.proofs.lemmas.List.{get_or-map}
 use Rattle.rv_ops.specs.declared.op.Op.{Op}
-use Rattle.rv_ops.specs.declared.table.TheConstants.{TABLE}
-use Rattle.rv_ops.specs.TableLaws.{is_full-first, number_of-below, row_of-operation}
-use Rattle.rv_ops.specs.Table.{full_count, no_row, number_of, row_of, fixed_of, mask_of, shape_of, is_full}
+use Rattle.rv_ops.specs.TableLaws.{row_of-operation}
+use Rattle.rv_ops.specs.Table.{no_row, number_of, row_of, fixed_of, mask_of, shape_of, is_full}
 use Rattle.rv_code.specs.declared.instruction.Fields.{Fields}
 use Rattle.rv_code.specs.declared.word.Word.{Word}
 use Rattle.rv_code.specs.declared.word.Word.TheVariants.{Half, Full}
 use Rattle.rv_code.specs.Encoding.{encoding_of, word_of, Fits}
-use Rattle.rv_code.specs.Decoding.{Code, IsWordOf, IsWordOfNone, code_of, fields_at, full_codes, half_codes}
+use Rattle.rv_code.specs.Decoding.{Code, IsWordOf, IsWordOfNone, code_of, fields_at}
+use Rattle.rv_code.specs.Groups.{codes_of_full_group, codes_of_half_group, full_group, half_group}
 use Rattle.rv_code.proofs.Apart.{one_operation}
+use Rattle.rv_code.proofs.GroupLaws.{place, code, full_row, half_row}
 use Rattle.rv_code.proofs.Reading.{encoding-low, encoding-mask, fields_at-encoding}
 use Rattle.rv_code.proofs.Words.{word_of-full, word_of-half}
 
@@ -58,50 +58,6 @@ half_word : (o : Op) (f : Fields) (w : ℕ) → word_of o f ≡ Half w → (is_f
 unfolding word_of
 half_word o f w e = half_parts (is_full o) (encoding_of o f) w e
 
--- the rows of the encodings of 32 bits are the first
-full_number : (o : Op) → is_full o ≡ true → number_of o < full_count
-full_number o e = ltb-true _ _ (sym (is_full-first o) ∙ e)
-
-half_number : (o : Op) → is_full o ≡ false → full_count ≤ number_of o
-half_number o e = ltb-false _ _ (sym (is_full-first o) ∙ e)
-
-full_length : length full_codes ≡ full_count
-unfolding full_codes full_count
-full_length = refl
-
-half_length : length half_codes ≡ length TABLE - full_count
-unfolding half_codes full_count
-half_length = refl
-
-full_rows_length : length (take full_count TABLE) ≡ full_count
-unfolding full_count
-full_rows_length = refl
-
-half_rows_length : length (drop full_count TABLE) ≡ length TABLE - full_count
-unfolding full_count
-half_rows_length = refl
-
-full_below : (o : Op) → is_full o ≡ true → number_of o < length (take full_count TABLE)
-full_below o e = subst (λ n. number_of o < n) (sym full_rows_length) (full_number o e)
-
-half_below : (o : Op) → is_full o ≡ false → number_of o - full_count < length (drop full_count TABLE)
-half_below o e =
-    subst (λ n. number_of o - full_count < n) (sym half_rows_length) (omega (arith, half_number o e, number_of-below o))
-
-full_code : (o : Op) → is_full o ≡ true → get_or full_codes (number_of o) (code_of no_row) ≡ code_of (row_of o)
-unfolding full_codes row_of
-full_code o e =
-    get_or-map code_of (take full_count TABLE) (number_of o) no_row (code_of no_row) (full_below o e)
-    ∙ ap code_of (get_or-take full_count TABLE (number_of o) no_row (full_number o e))
-
-half_code : (o : Op) → is_full o ≡ false → get_or half_codes (number_of o - full_count) (code_of no_row) ≡ code_of (row_of o)
-unfolding half_codes row_of
-half_code o e =
-    let least = half_number o e in
-    let place : full_count + (number_of o - full_count) ≡ number_of o = omega (arith, least) in
-    get_or-map code_of (drop full_count TABLE) (number_of o - full_count) no_row (code_of no_row) (half_below o e)
-    ∙ ap code_of (get_or-drop full_count TABLE (number_of o - full_count) no_row ∙ ap (λ k. get_or TABLE k no_row) place)
-
 none_at : (cs : List Code) (w k : ℕ) → IsWordOfNone cs w → k < length cs → (c : Code) → get_or cs k (code_of no_row) ≡ c → bit_and w c.2 ≡ c.1 → IsWordOf c.0 w → ⊥
 none_at [] w k none lt c e m h = absurd (omega arith)
 none_at (x ∷ cs) w zero none lt c e m h = subst (λ y. bit_and w y.2 ≡ y.1 → IsWordOf y.0 w → ⊥) e none.0 m h
@@ -115,14 +71,15 @@ module _ (o : Op) (f : Fields) (w : ℕ) (h : IsInstruction o f w) where
   of_row : IsWordOf (row_of o).0 w
   of_row = subst (λ q. IsWordOf q w) (sym (row_of-operation o)) (is_word_of o f w h)
 
-  pub not_none_full : is_full o ≡ true → IsWordOfNone full_codes w → ⊥
+  pub not_none_full : is_full o ≡ true → IsWordOfNone (codes_of_full_group w) w → ⊥
   not_none_full e none =
-      none_at full_codes w (number_of o) none (subst (λ n. number_of o < n) (sym full_length) (full_number o e)) _ (full_code o e) under_mask of_row
+      let row = full_row o w e under_mask in
+      none_at (codes_of_full_group w) w (number_of o - (full_group w).0) none (place o (full_group w) row.first row.end) _ (code o (full_group w) row.first row.end) under_mask of_row
 
-  pub not_none_half : is_full o ≡ false → IsWordOfNone half_codes w → ⊥
+  pub not_none_half : is_full o ≡ false → IsWordOfNone (codes_of_half_group w) w → ⊥
   not_none_half e none =
-      let least = half_number o e in
-      none_at half_codes w (number_of o - full_count) none (subst (λ n. number_of o - full_count < n) (sym half_length) (omega (arith, least, number_of-below o))) _ (half_code o e) under_mask of_row
+      let row = half_row o w e under_mask in
+      none_at (codes_of_half_group w) w (number_of o - (half_group w).0) none (place o (half_group w) row.first row.end) _ (code o (half_group w) row.first row.end) under_mask of_row
 
   low_bits : w % 4 ≡ fixed_of o % 4
   low_bits = ap (λ n. n % 4) (sym h.word) ∙ encoding-low o f h.fits
@@ -146,13 +103,13 @@ found_half (Some i) w low h =
     let half = is_full-low i.0 i.1 w (record { fits = h.0; word = h.1 }) ∙ low in
     (h.0, word_of-half i.0 i.1 half ∙ ap (λ n. Half n) h.1)
 
-pub only_full : (r : Option (Op × Fields)) (w : ℕ) → IfSome r (IsFound w) → IfNone r (IsWordOfNone full_codes w) → (o : Op) (f : Fields) → Fits o f → word_of o f ≡ Full w → r ≡ Some (o, f)
+pub only_full : (r : Option (Op × Fields)) (w : ℕ) → IfSome r (IsFound w) → IfNone r (IsWordOfNone (codes_of_full_group w) w) → (o : Op) (f : Fields) → Fits o f → word_of o f ≡ Full w → r ≡ Some (o, f)
 only_full None w found none o f h e =
     let parts = full_word o f w e in absurd (not_none_full o f w (record { fits = h; word = parts.1 }) parts.0 none)
 only_full (Some i) w found none o f h e =
     ap (λ j. Some j) (one i.0 o i.1 f w (record { fits = found.0; word = found.1 }) (record { fits = h; word = (full_word o f w e).1 }))
 
-pub only_half : (r : Option (Op × Fields)) (w : ℕ) → IfSome r (IsFound w) → IfNone r (IsWordOfNone half_codes w) → (o : Op) (f : Fields) → Fits o f → word_of o f ≡ Half w → r ≡ Some (o, f)
+pub only_half : (r : Option (Op × Fields)) (w : ℕ) → IfSome r (IsFound w) → IfNone r (IsWordOfNone (codes_of_half_group w) w) → (o : Op) (f : Fields) → Fits o f → word_of o f ≡ Half w → r ≡ Some (o, f)
 only_half None w found none o f h e =
     let parts = half_word o f w e in absurd (not_none_half o f w (record { fits = h; word = parts.1 }) parts.0 none)
 only_half (Some i) w found none o f h e =

@@ -3,6 +3,7 @@ pub mod Classes
 pub mod Decoded
 pub mod Examples
 pub mod FittingFields
+pub mod GroupLaws
 pub mod Reach
 pub mod ReadBack
 pub mod Reading

@@ -1,7 +1,7 @@
 -- Reading a word as an instruction of an operation. No public contract cites these definitions: they serve the
 -- private steps of decoding.
 use denote.Enum.Declared.{tag_of}
-use Rattle.std.specs.Prelude.{◌≡◌, ℕ, ℤ, pos, ◌+◌, ◌-◌, ◌*◌, ◌/◌, ◌%◌, ◌^◌, ◌-ℤ◌, List, [], ◌∷◌, map, take, drop, nat_eq, int_lt, cond, bit_and}
+use Rattle.std.specs.Prelude.{◌≡◌, ℕ, ℤ, pos, ◌+◌, ◌-◌, ◌*◌, ◌/◌, ◌%◌, ◌^◌, ◌-ℤ◌, List, [], ◌∷◌, nat_eq, int_lt, cond, bit_and}
 use Rattle.rv_ops.specs.declared.op.Op.{Op}
 use Rattle.rv_ops.specs.declared.op.Shape.{Shape}
 use Rattle.rv_ops.specs.declared.layouts.Field.{Field}
@@ -9,10 +9,9 @@ use Rattle.rv_ops.specs.declared.layouts.Field.TheVariants.{Rd, Rs1, Rs2, Value}
 use Rattle.rv_ops.specs.declared.layouts.RegisterClass.{RegisterClass}
 use Rattle.rv_ops.specs.declared.layouts.RegisterClass.TheVariants.{Absent, Any, NotZero, NotSp, Prime, Set}
 use Rattle.rv_ops.specs.contracts.layouts.Field.{the_type as field_type}
-use Rattle.rv_ops.specs.declared.table.TheConstants.{TABLE}
 use Rattle.rv_ops.specs.declared.layouts.FieldSlice.{FieldSlice}
 use Rattle.rv_ops.specs.declared.layouts.SignExtension.{SignExtension}
-use Rattle.rv_ops.specs.Table.{Row, shape_of, classes_of, sign_of, slices_of, full_count}
+use Rattle.rv_ops.specs.Table.{Row, shape_of, classes_of, sign_of, slices_of}
 use Rattle.rv_code.specs.declared.instruction.Fields.{Fields}
 use Rattle.rv_code.specs.Encoding.{Fits, encoding_of}
 
@@ -75,11 +74,3 @@ most_from_slice field s =
 abbrev pub reach : Field → List FieldSlice → ℕ
 reach field [] = 0
 reach field (s ∷ ss) = most_from_slice field s + reach field ss
-
--- the operations whose encodings have 32 bits, which stand first in the table
-unfoldable pub full_codes : List Code
-full_codes = map code_of (take full_count TABLE)
-
--- the operations whose encodings have 16 bits
-unfoldable pub half_codes : List Code
-half_codes = map code_of (drop full_count TABLE)

@@ -1,48 +1,119 @@
 //! The instructions that words encode.
 ghost use Rattle.std.specs.Prelude.{◌≡◌, ◌+◌, ◌<◌, ◌≤◌, ◌^◌, ◌≤ℤ◌, IsTrue, Some, IfSome, IfNone, map, pos, negsuc, bit_and};
 ghost use Rattle.std.specs.List.{list_all};
+ghost use Rattle.rv_ops.specs.declared.layouts.Field.TheVariants.{Rd, Rs1, Rs2, Value};
 ghost use Rattle.rv_ops.specs.declared.op.Op.{Op};
 ghost use Rattle.rv_ops.specs.Room.{is_slice};
 ghost use Rattle.rv_ops.specs.Table.{shape_of};
 ghost use Rattle.rv_code.specs.declared.instruction.Fields.{Fields};
 ghost use Rattle.rv_code.specs.declared.word.Word.TheVariants.{Half, Full};
 ghost use Rattle.rv_code.specs.Encoding.{Fits, encoding_of, word_of};
-ghost use Rattle.rv_code.specs.Decoding.{IsWordOf, IsWordOfNone, bits_from_slice, fields_at, first_of, full_codes, gathered, half_codes, most_from_slice, reach, value_of};
+ghost use Rattle.rv_code.specs.Decoding.{IsWordOf, IsWordOfNone, bits_from_slice, fields_at, first_of, gathered, most_from_slice, reach, value_of};
 
 use crate::encoding::{bits, cut};
 use crate::fitting::fits;
+use crate::groups::{full_rows, half_rows};
 use crate::instruction::{Fields, Ins};
 use rv_ops::{
-    FULL_COUNT, Field, FieldSlice, Op, Reg, RegisterClass, SignExtension, TABLE, TableRow, classes,
-    sign, slices,
+    Field, FieldSlice, Op, Reg, RegisterClass, SignExtension, TableRow, classes, sign, slices,
 };
 
-/// The bits of a slice at their places in the field, if it is a slice of this one.
-fn take(field: Field, word: u32, slice: &FieldSlice) -> u32
+/// What the slices of a word give each field.
+#[derive(Clone, Copy)]
+struct Gathered {
+    rd: u32,
+    rs1: u32,
+    rs2: u32,
+    value: u32,
+}
+
+/// The bits of a slice at their places in its field.
+fn slice_bits(word: u32, slice: &FieldSlice) -> u32
     requires { IsTrue (is_slice slice.now) }
-    ensures value { result ≡ bits_from_slice field word slice.now }
-    ensures most { result ≤ most_from_slice field slice.now }
+    ensures value { result ≡ bits_from_slice slice.now.field word slice.now }
+    ensures most { result ≤ most_from_slice slice.now.field slice.now }
 {
-    if field == slice.field {
-        cut(word, slice.word_bit, slice.width) << slice.field_bit
-    } else {
-        0
+    cut(word, slice.word_bit, slice.width) << slice.field_bit
+}
+
+/// The bits of one more slice, for its field.
+fn with_slice(fields: Gathered, word: u32, slice: &FieldSlice) -> Gathered
+    requires slice { IsTrue (is_slice slice.now) }
+    requires rd { fields.rd + most_from_slice Rd slice.now < 2 ^ 32 }
+    requires rs1 { fields.rs1 + most_from_slice Rs1 slice.now < 2 ^ 32 }
+    requires rs2 { fields.rs2 + most_from_slice Rs2 slice.now < 2 ^ 32 }
+    requires value { fields.value + most_from_slice Value slice.now < 2 ^ 32 }
+    ensures rd { result.rd ≡ fields.rd + bits_from_slice Rd word slice.now }
+    ensures rs1 { result.rs1 ≡ fields.rs1 + bits_from_slice Rs1 word slice.now }
+    ensures rs2 { result.rs2 ≡ fields.rs2 + bits_from_slice Rs2 word slice.now }
+    ensures value { result.value ≡ fields.value + bits_from_slice Value word slice.now }
+    ensures most_rd { result.rd ≤ fields.rd + most_from_slice Rd slice.now }
+    ensures most_rs1 { result.rs1 ≤ fields.rs1 + most_from_slice Rs1 slice.now }
+    ensures most_rs2 { result.rs2 ≤ fields.rs2 + most_from_slice Rs2 slice.now }
+    ensures most_value { result.value ≤ fields.value + most_from_slice Value slice.now }
+{
+    let bits = slice_bits(word, slice);
+    let Gathered {
+        rd,
+        rs1,
+        rs2,
+        value,
+    } = fields;
+    match slice.field {
+        Field::Rd => Gathered {
+            rd: rd + bits,
+            rs1,
+            rs2,
+            value,
+        },
+        Field::Rs1 => Gathered {
+            rd,
+            rs1: rs1 + bits,
+            rs2,
+            value,
+        },
+        Field::Rs2 => Gathered {
+            rd,
+            rs1,
+            rs2: rs2 + bits,
+            value,
+        },
+        Field::Value => Gathered {
+            rd,
+            rs1,
+            rs2,
+            value: value + bits,
+        },
     }
 }
 
-/// A field of a word: what its slices add up to.
-fn gather(field: Field, word: u32, mut slices: &[FieldSlice]) -> u32
+/// The fields of a word: what the slices of each add up to.
+fn gather(word: u32, mut slices: &[FieldSlice]) -> Gathered
     requires slices { IsTrue (list_all is_slice slices.now) }
-    requires reach { reach field slices.now < 2 ^ 30 }
-    ensures value { result ≡ gathered field word slices.entry.now }
-    ensures most { result ≤ reach field slices.entry.now }
+    requires rd { reach Rd slices.now < 2 ^ 30 }
+    requires rs1 { reach Rs1 slices.now < 2 ^ 30 }
+    requires rs2 { reach Rs2 slices.now < 2 ^ 30 }
+    requires value { reach Value slices.now < 2 ^ 30 }
+    ensures rd { result.rd ≡ gathered Rd word slices.entry.now }
+    ensures rs1 { result.rs1 ≡ gathered Rs1 word slices.entry.now }
+    ensures rs2 { result.rs2 ≡ gathered Rs2 word slices.entry.now }
+    ensures value { result.value ≡ gathered Value word slices.entry.now }
+    ensures most_rd { result.rd ≤ reach Rd slices.entry.now }
+    ensures most_rs1 { result.rs1 ≤ reach Rs1 slices.entry.now }
+    ensures most_rs2 { result.rs2 ≤ reach Rs2 slices.entry.now }
+    ensures most_value { result.value ≤ reach Value slices.entry.now }
 {
-    let mut number = 0;
+    let mut fields = Gathered {
+        rd: 0,
+        rs1: 0,
+        rs2: 0,
+        value: 0,
+    };
     while let [slice, rest @ ..] = slices {
-        number += take(field, word, slice);
+        fields = with_slice(fields, word, slice);
         slices = rest;
     }
-    number
+    fields
 }
 
 /// The number of the register for which the bits 0 stand.
@@ -56,13 +127,12 @@ fn first(class: RegisterClass) -> u32
     }
 }
 
-/// A register of a word.
-fn register(field: Field, class: RegisterClass, word: u32, slices: &[FieldSlice]) -> Reg
-    requires slices { IsTrue (list_all is_slice slices.now) }
-    requires reach { first_of class + reach field slices.now < 32 }
-    ensures { result ≡ first_of class + gathered field word slices.now }
+/// The register for which a number in the word stands.
+fn register(class: RegisterClass, number: u32) -> Reg
+    requires { first_of class + number < 32 }
+    ensures { result ≡ first_of class + number }
 {
-    let number = first(class) + gather(field, word, slices);
+    let number = first(class) + number;
     let Some(register) = Reg::new(number as u8) else {
         unreachable!()
     };
@@ -88,18 +158,13 @@ fn signed(sign: SignExtension, number: u32) -> i32
 fn fields_of(op: Op, word: u32) -> Fields
     ensures { result ≡ fields_at (shape_of op) word }
 {
-    let its_slices = slices(op);
+    let fields = gather(word, slices(op));
     let registers = classes(op);
-    let rd = register(Field::Rd, registers.rd, word, its_slices);
-    let rs1 = register(Field::Rs1, registers.rs1, word, its_slices);
-    let rs2 = register(Field::Rs2, registers.rs2, word, its_slices);
-    let number = gather(Field::Value, word, its_slices);
-    let value = signed(sign(op), number);
     Fields {
-        rd,
-        rs1,
-        rs2,
-        value,
+        rd: register(registers.rd, fields.rd),
+        rs1: register(registers.rs1, fields.rs1),
+        rs2: register(registers.rs2, fields.rs2),
+        value: signed(sign(op), fields.value),
     }
 }
 
@@ -143,22 +208,6 @@ fn first_instruction(mut rows: &[TableRow], word: u32) -> Option<Ins>
     None
 }
 
-/// The rows whose encodings have thirty-two bits.
-#[tactic(auto, unfolding(crate::specs::Decoding::full_codes, rv_ops::specs::Table::full_count))]
-fn full_rows() -> &'static [TableRow]
-    ensures { map (λ row. (row.0, row.3, row.4)) result.now ≡ full_codes }
-{
-    &TABLE[..FULL_COUNT]
-}
-
-/// The rows whose encodings have sixteen bits.
-#[tactic(auto, unfolding(crate::specs::Decoding::half_codes, rv_ops::specs::Table::full_count))]
-fn half_rows() -> &'static [TableRow]
-    ensures { map (λ row. (row.0, row.3, row.4)) result.now ≡ half_codes }
-{
-    &TABLE[FULL_COUNT..]
-}
-
 /// The instruction that a word of thirty-two bits encodes, if it does: its low two bits are then 11.
 pub fn decode32(word: u32) -> Option<Ins>
     // What is found is an instruction, and the word is its encoding.
@@ -169,7 +218,7 @@ pub fn decode32(word: u32) -> Option<Ins>
     if word % 4 != 3 {
         return None;
     }
-    first_instruction(full_rows(), word)
+    first_instruction(full_rows(word), word)
 }
 
 /// The instruction that a word of sixteen bits encodes, if it does: its low two bits are then not 11.
@@ -182,5 +231,5 @@ pub fn decode16(word: u16) -> Option<Ins>
     if word % 4 == 3 {
         return None;
     }
-    first_instruction(half_rows(), u32::from(word))
+    first_instruction(half_rows(word), u32::from(word))
 }

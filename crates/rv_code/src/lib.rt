@@ -4,6 +4,7 @@
 mod decoding;
 mod encoding;
 mod fitting;
+mod groups;
 mod instruction;
 mod laws;
 mod word;

@@ -3,7 +3,7 @@ use Rattle.std.proofs.Common.{◌≡◌, [], ◌∷◌, refl}
 use Rattle.std.specs.Prelude.{codes, Some, None}
 use Rattle.rv_store.specs.Text.{Insert, Delete, Replace}
 use Rattle.rv_commands.specs.declared.pages.Page.TheVariants.{Image, Listing, Symbols, Faults, Lines}
-use Rattle.rv_commands.specs.Commands.{Append, Change, Show, request_of}
+use Rattle.rv_commands.specs.Commands.{Append, Change, Show, Disassemble, request_of}
 use Rattle.rv_commands.specs.Transcript.{complete_commands, commands_of, last_piece}
 
 -- pages
@@ -36,6 +36,22 @@ text_and_more = refl
 
 symbols_in_full : request_of (codes "symbols") ≡ None
 symbols_in_full = refl
+
+-- disassembly
+dis_alone : request_of (codes "dis") ≡ Some Disassemble
+dis_alone = refl
+
+dis_blank : request_of (codes "dis ") ≡ None
+dis_blank = refl
+
+dis_capital : request_of (codes "Dis") ≡ None
+dis_capital = refl
+
+dis_and_more : request_of (codes "dis 1") ≡ None
+dis_and_more = refl
+
+dis_in_full : request_of (codes "disassemble") ≡ None
+dis_in_full = refl
 
 -- append
 append_empty : request_of (codes "a") ≡ Some (Append [])
@@ -146,9 +162,6 @@ no_command = refl
 
 blank_before : request_of (codes " a x") ≡ None
 blank_before = refl
-
-disassembly : request_of (codes "dis") ≡ None
-disassembly = refl
 
 -- the commands of an input
 no_input : commands_of [] ≡ []

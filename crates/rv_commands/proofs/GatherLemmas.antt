@@ -4,8 +4,10 @@ use Rattle.std.proofs.lemmas.Grind.{flat_map-append}
 use Rattle.rv_text.specs.Streams.{after, WritesPrefix}
 use Rattle.rv_store.specs.Text.{Text}
 use Rattle.rv_text.specs.Blocks.{Waits}
+use Rattle.rv_commands.specs.declared.answer_error.AnswerError.{AnswerError}
+use Rattle.rv_commands.specs.declared.answer_error.AnswerError.TheVariants.{Write, Memory}
 use Rattle.rv_commands.specs.Transcript.{IsAnswer}
-use Rattle.rv_commands.specs.Steps.{Gathered, LosesAnswers, Answered, StopsAtWrite, IsUnbroken}
+use Rattle.rv_commands.specs.Steps.{LosesOne, Gathered, LosesAnswers, StopsGathering, Answered, StopsAtWrite, IsUnbroken}
 use Rattle.rv_text.specs.BlockLaws.{waits_none, waits_then, waits_lost, waits_end, waits_end_lost}
 use Rattle.rv_commands.proofs.CutLemmas.{unbroken_append}
 use Rattle.rv_commands.proofs.TranscriptLemmas.{answers_append, answers_one}
@@ -58,6 +60,17 @@ gathered_loses old between bytes middle t0 t1 t2 p0 p1 a b = record {
   answers = answers_append old between b.new a.commands b.commands a.output b.output a.answers b.answers;
   taken = waits_lost t0 t1 t2 p0 p1 a.output b.output a.waits b.taken;
 }
+
+-- a command is not answered
+pub one_stops : (e : AnswerError) (old new : Text) (bytes command next : List ℕ) (t0 t1 : Option (List ℕ)) (p0 p1 : List ℕ) → bytes ≡ command ++ (10 ∷ next) → IsUnbroken command → LosesOne e (λ answer. IsAnswer old command answer new) t0 p0 t1 p1 → StopsGathering e old bytes t0 p0 t1 p1
+one_stops Write old new bytes command next t0 t1 p0 p1 e u a = loses_one old new bytes command next a.0 t0 t1 p0 e u a.1 a.2
+one_stops Memory old new bytes command next t0 t1 p0 p1 e u a = (bytes, old, rw (a.0, a.1) (gathered_none old bytes t0 p0))
+
+-- nor one of the next ones, after some that are
+pub gathered_stops : (e : AnswerError) (old between : Text) (bytes middle : List ℕ) (t0 t1 t2 : Option (List ℕ)) (p0 p1 p2 : List ℕ) → Gathered old bytes middle t0 p0 t1 p1 between → StopsGathering e between middle t1 p1 t2 p2 → StopsGathering e old bytes t0 p0 t2 p2
+gathered_stops Write old between bytes middle t0 t1 t2 p0 p1 p2 a b = gathered_loses old between bytes middle t0 t1 t2 p0 p1 a b
+gathered_stops Memory old between bytes middle t0 t1 t2 p0 p1 p2 a b =
+    (b.0, b.1, gathered_then old between b.1 bytes middle b.0 t0 t1 t2 p0 p1 p2 a b.2)
 
 -- what was gathered is written
 pub gathered_end : (old new : Text) (bytes rest : List ℕ) (t0 t1 t2 : Option (List ℕ)) (p : List ℕ) → Gathered old bytes rest t0 [] t1 p new → t2 ≡ after t1 p → Answered old bytes rest t0 t2 new

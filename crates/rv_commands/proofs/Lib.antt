@@ -3,9 +3,12 @@ pub mod TranscriptExamples
 pub mod TranscriptLemmas
 pub mod CutLemmas
 pub mod WordLemmas
+pub mod AnswerLemmas
 pub mod ChangeLemmas
+pub mod CodeRows
 pub mod EditAnswers
 pub mod EditedLemmas
+pub mod ItemTexts
 pub mod LineRows
 pub mod GatherLemmas
 pub mod StepLemmas

@@ -1,14 +1,15 @@
 -- From one read to the next, and how a run ends.
-use Rattle.std.proofs.Common.{◌≡◌, ℕ, ◌+◌, ◌-◌, ◌<◌, ◌≤◌, List, [], ◌∷◌, ◌++◌, length, take, Option, refl, ap, sym, ◌∙◌, append_assoc, arith, inl, inr, length-append, Result, Ok, Err, IfErr, OnOk}
+use Rattle.std.proofs.Common.{◌≡◌, ℕ, ◌+◌, ◌-◌, ◌<◌, ◌≤◌, List, [], ◌∷◌, ◌++◌, length, take, Option, refl, ap, sym, ◌∙◌, append_assoc, arith, inl, inr, length-append, Result, Ok, Err}
 use Rattle.std.proofs.lemmas.List.{append-nil, length-take-le}
 use Rattle.rv_text.specs.Streams.{before, after, WritesPrefix}
 use Rattle.rv_text.specs.StreamLaws.{after_after, after_none, before_before, before_none}
 use Rattle.rv_store.specs.Text.{Text}
-use Rattle.rv_commands.specs.declared.run_error.RunError.{RunError}
-use Rattle.rv_commands.specs.declared.run_error.RunError.TheVariants.{Read, Write, Memory}
+use Rattle.rv_commands.specs.declared.answer_error.AnswerError.{AnswerError}
+use Rattle.rv_commands.specs.declared.answer_error.AnswerError.TheVariants.{Write, Memory}
+use Rattle.rv_commands.specs.Faults.{run_error}
 use Rattle.rv_commands.specs.Transcript.{IsAnswer, AreAnswers, complete_commands, commands_of, unless_empty, empty_text}
 use Rattle.rv_commands.specs.Outcomes.{EndsWell, EndsByRead, EndsEarly}
-use Rattle.rv_commands.specs.Steps.{Answered, StopsAtWrite, StopsBy, ReadsChunk, TakesAll, TakesFront, Finishes, Progress, IsUnbroken}
+use Rattle.rv_commands.specs.Steps.{Answered, StopsAtWrite, StopsBy, ReadsChunk, TakesAll, TakesFront, LosesLast, Finishes, AnswersCommand, Progress, IsUnbroken}
 use Rattle.rv_commands.proofs.TranscriptLemmas.{answers_append, answers_one}
 use Rattle.rv_commands.proofs.CutLemmas.{complete_prefix, complete_unbroken, commands_whole}
 use Rattle.rv_commands.proofs.StepLemmas.{answered_none, answered_then, answered_stops, answered_onto}
@@ -79,8 +80,7 @@ ends_beyond base fb fa l0 l1 l2 t0 t1 p buffer text total n all some f g r = rec
 }
 
 -- a chunk could not be answered
-pub ends_in_chunk : (e : RunError) (base fb fa : ℕ) (l0 l1 l2 t0 t1 t2 : Option (List ℕ)) (p buffer chunk : List ℕ) (text : Text) (total n : ℕ) → chunk ≡ take n buffer → total ≤ 67108864 → Progress base l0 l1 t0 t1 p text total → ReadsChunk l1 l2 buffer (67108864 - total) n → StopsBy e text (p ++ chunk) t1 t2 → EndsEarly e base fb fa l0 l2 t0 t2
-ends_in_chunk Read base fb fa l0 l1 l2 t0 t1 t2 p buffer chunk text total n e few g r s = absurd s
+pub ends_in_chunk : (e : AnswerError) (base fb fa : ℕ) (l0 l1 l2 t0 t1 t2 : Option (List ℕ)) (p buffer chunk : List ℕ) (text : Text) (total n : ℕ) → chunk ≡ take n buffer → total ≤ 67108864 → Progress base l0 l1 t0 t1 p text total → ReadsChunk l1 l2 buffer (67108864 - total) n → StopsBy e text (p ++ chunk) t1 t2 → EndsEarly (run_error e) base fb fa l0 l2 t0 t2
 ends_in_chunk Write base fb fa l0 l1 l2 t0 t1 t2 p buffer chunk text total n e few g r s =
     let onto = answered_onto (empty_text base) text g.input p (take n buffer) t0 t1 g.answered in
     let a = answered_stops _ _ _ _ _ _ _ onto (rw e at s) in record {
@@ -117,9 +117,8 @@ nothing_read l1 l2 buffer most n none r =
     r.read ∙ rw empty (before_none l2)
 
 -- the input is at its end, and its last piece was answered
-pub ends_well : {A : Type 0} (result : Result A RunError) (base : ℕ) (l0 l1 l2 t0 t1 t2 : Option (List ℕ)) (p last buffer : List ℕ) (text : Text) (total most n : ℕ) → last ≡ p → n ≡ 0 → total ≤ 67108864 → Progress base l0 l1 t0 t1 p text total → ReadsChunk l1 l2 buffer most n → Finishes text last t1 result t2 → OnOk result (EndsWell base l0 l2 t0 t2)
-ends_well (Err e) base l0 l1 l2 t0 t1 t2 p last buffer text total most n same none few g r f = tt
-ends_well (Ok x) base l0 l1 l2 t0 t1 t2 p last buffer text total most n same none few g r f =
+pub ends_well : (base : ℕ) (l0 l1 l2 t0 t1 t2 : Option (List ℕ)) (p last buffer : List ℕ) (text : Text) (total most n : ℕ) → last ≡ p → n ≡ 0 → total ≤ 67108864 → Progress base l0 l1 t0 t1 p text total → ReadsChunk l1 l2 buffer most n → TakesAll text last t1 t2 → EndsWell base l0 l2 t0 t2
+ends_well base l0 l1 l2 t0 t1 t2 p last buffer text total most n same none few g r f =
     let all = rw same at f in record {
       input = g.input;
       output = g.answered.output ++ all.output;
@@ -133,12 +132,10 @@ ends_well (Ok x) base l0 l1 l2 t0 t1 t2 p last buffer text total most n same non
       taken = rw (all.taken, g.answered.taken) (after_after t0 g.answered.output all.output);
     }
 
--- the input is at its end, and a write failed within the answer to its last piece
-pub ends_in_last : {A : Type 0} (result : Result A RunError) (base fb fa : ℕ) (l0 l1 l2 t0 t1 t2 : Option (List ℕ)) (p last buffer : List ℕ) (text : Text) (total most n : ℕ) → last ≡ p → n ≡ 0 → total ≤ 67108864 → Progress base l0 l1 t0 t1 p text total → ReadsChunk l1 l2 buffer most n → Finishes text last t1 result t2 → IfErr result (λ e. EndsEarly e base fb fa l0 l2 t0 t2)
-ends_in_last (Ok x) base fb fa l0 l1 l2 t0 t1 t2 p last buffer text total most n same none few g r f = tt
-ends_in_last (Err e) base fb fa l0 l1 l2 t0 t1 t2 p last buffer text total most n same none few g r f =
-    let prefix = rw same at f.1 in
-    rw f.0 (record {
+-- the input is at its end, and its last piece was not answered
+pub ends_in_last : (e : AnswerError) (base fb fa : ℕ) (l0 l1 l2 t0 t1 t2 : Option (List ℕ)) (p last buffer : List ℕ) (text : Text) (total most n : ℕ) → last ≡ p → n ≡ 0 → total ≤ 67108864 → Progress base l0 l1 t0 t1 p text total → ReadsChunk l1 l2 buffer most n → LosesLast e text last t1 t2 → EndsEarly (run_error e) base fb fa l0 l2 t0 t2
+ends_in_last Write base fb fa l0 l1 l2 t0 t1 t2 p last buffer text total most n same none few g r f =
+    let prefix = rw same at f in record {
       input = g.input;
       commands = g.answered.commands ++ unless_empty p;
       output = g.answered.output ++ prefix.output;
@@ -149,17 +146,35 @@ ends_in_last (Err e) base fb fa l0 l1 l2 t0 t1 t2 p last buffer text total most 
       first = inr (r.end none, sym (whole_answered (empty_text base) text g.input p t0 t1 g.answered g.unbroken));
       answers = rw append_assoc (answers_append (empty_text base) text prefix.new g.answered.commands (unless_empty p) g.answered.output (prefix.output ++ prefix.lost) g.answered.answers prefix.answers);
       taken = rw (prefix.taken, g.answered.taken) (after_after t0 g.answered.output prefix.output);
-    })
+    }
+ends_in_last Memory base fb fa l0 l1 l2 t0 t1 t2 p last buffer text total most n same none few g r f = record {
+  input = g.input;
+  commands = g.answered.commands;
+  others = complete_commands p;
+  output = g.answered.output;
+  text = text;
+  read = g.read ∙ ap (before g.input) (nothing_read l1 l2 buffer most n none r);
+  few = rw g.size few;
+  first = first_answered (empty_text base) text g.input p t0 t1 g.answered;
+  answers = g.answered.answers;
+  taken = f ∙ g.answered.taken;
+}
 
 -- an empty last piece is no command
 pub takes_none : (old : Text) (piece : List ℕ) (taken : Option (List ℕ)) → length piece ≡ 0 → TakesAll old piece taken taken
 takes_none old [] taken e = record { output = []; new = old; answers = (refl, refl); taken = sym (after_none taken) }
 takes_none old (b ∷ piece) taken e = absurd (omega arith)
 
-pub takes_all : (old new : Text) (piece answer : List ℕ) (t0 t1 : Option (List ℕ)) → (length piece ≡ 0 → ⊥) → IsAnswer old piece answer new → t1 ≡ after t0 answer → TakesAll old piece t0 t1
+takes_all : (old new : Text) (piece answer : List ℕ) (t0 t1 : Option (List ℕ)) → (length piece ≡ 0 → ⊥) → IsAnswer old piece answer new → t1 ≡ after t0 answer → TakesAll old piece t0 t1
 takes_all old new [] answer t0 t1 some a t = absurd (some refl)
 takes_all old new (b ∷ piece) answer t0 t1 some a t = record { output = answer; new = new; answers = answers_one old new (b ∷ piece) answer a; taken = t }
 
-pub takes_prefix : (old new : Text) (piece answer : List ℕ) (t0 t1 : Option (List ℕ)) → (length piece ≡ 0 → ⊥) → IsAnswer old piece answer new → WritesPrefix t0 answer t1 → TakesFront old piece t0 t1
+takes_prefix : (old new : Text) (piece answer : List ℕ) (t0 t1 : Option (List ℕ)) → (length piece ≡ 0 → ⊥) → IsAnswer old piece answer new → WritesPrefix t0 answer t1 → TakesFront old piece t0 t1
 takes_prefix old new [] answer t0 t1 some a w = absurd (some refl)
 takes_prefix old new (b ∷ piece) answer t0 t1 some a w = record { output = w.prefix; lost = w.rest; new = new; answers = rw (← w.whole) (answers_one old new (b ∷ piece) answer a); taken = w.taken }
+
+-- the last piece is a command, which is answered or not
+pub finishes : {A : Type 0} (result : Result A AnswerError) (old new : Text) (piece : List ℕ) (t0 t1 : Option (List ℕ)) → (length piece ≡ 0 → ⊥) → AnswersCommand old piece t0 result t1 new → Finishes old piece t0 result t1
+finishes (Ok x) old new piece t0 t1 some a = takes_all old new piece a.0 t0 t1 some a.1 a.2
+finishes (Err Write) old new piece t0 t1 some a = takes_prefix old new piece a.0 t0 t1 some a.1 a.2
+finishes (Err Memory) old new piece t0 t1 some a = a.0

@@ -11,11 +11,12 @@ use Rattle.rv_commands.specs.declared.edits.LineEdit.TheVariants as edit
 use Rattle.rv_commands.specs.declared.pages.Page.{Page}
 use Rattle.rv_commands.specs.declared.pages.Page.TheVariants.{Image, Listing, Symbols, Faults, Lines}
 
--- what a command asks for: a line after the last one, an edit, or to show a page
+-- what a command asks for: a line after the last one, an edit, to show a page, or to disassemble `.text`
 pub data Request : Type 0 where
   Append : (line : List ℕ) → Request
   Change : (edit : Edit) → Request
   Show : (page : Page) → Request
+  Disassemble : Request
 
 -- an edit without where its line lies in memory
 abbrev pub edit_of : LineEdit → Edit
@@ -28,6 +29,7 @@ abbrev pub request : Command → Request
 request (command.Append line) = Append line.now
 request (command.Change edit) = Change (edit_of edit)
 request (command.Show page) = Show page
+request command.Disassemble = Disassemble
 
 -- a space ends a word
 abbrev pub is_space : ℕ → Bool
@@ -55,6 +57,10 @@ page_of name =
     else (if bytes_eq name (codes "text") then Some Lines
     else None))))
 
+-- what this name alone asks for
+abbrev pub request_named : List ℕ → Option Request
+request_named name = if bytes_eq name (codes "dis") then Some Disassemble else option_map Show (page_of name)
+
 -- the edit that a word asks for with what stands behind it
 abbrev pub change_of : (word rest : List ℕ) → Option Request
 change_of word rest =
@@ -66,4 +72,4 @@ change_of word rest =
 
 -- What the bytes of a command ask for, if anything. One space stands between the parts, and nothing after the last.
 abbrev pub request_of : List ℕ → Option Request
-request_of command = option_or (option_map Show (page_of command)) (change_of (first_word command) (after_word command))
+request_of command = option_or (request_named command) (change_of (first_word command) (after_word command))

@@ -1,7 +1,14 @@
 -- What the program says of a run that ended early, and its status.
 use Rattle.std.specs.Prelude.{ℕ, List, codes}
+use Rattle.rv_commands.specs.declared.answer_error.AnswerError.{AnswerError}
+use Rattle.rv_commands.specs.declared.answer_error.AnswerError.TheVariants as unanswered
 use Rattle.rv_commands.specs.declared.run_error.RunError.{RunError}
 use Rattle.rv_commands.specs.declared.run_error.RunError.TheVariants.{Read, Write, Memory}
+
+-- how a run ends where a command was not answered
+abbrev pub run_error : AnswerError → RunError
+run_error unanswered.Write = Write
+run_error unanswered.Memory = Memory
 
 -- the number of the error
 abbrev pub run_refusal_number : RunError → ℕ

@@ -1,5 +1,6 @@
 pub mod Commands
 pub mod Pages
+pub mod Disassembly
 pub mod Transcript
 pub mod Edited
 pub mod Outcomes

@@ -1,11 +1,11 @@
 -- What the parts of a run do.
-use Rattle.std.specs.Prelude.{◌≡◌, ℕ, ◌≤◌, List, [], ◌∷◌, ◌++◌, length, take, false, Option, Result, Ok, Err}
+use Rattle.std.specs.Prelude.{◌≡◌, ℕ, ◌+◌, ◌≤◌, List, [], ◌∷◌, ◌++◌, length, take, false, Option, Result, Ok, Err}
 use Rattle.std.specs.List.{flat_map, list_any}
-use Rattle.rv_text.specs.Streams.{before, after, IsAtEnd, Writes, WritesPrefix}
+use Rattle.rv_text.specs.Streams.{before, after, IsAtEnd, WritesPrefix}
 use Rattle.rv_store.specs.declared.edit_error.EditError.{EditError}
 use Rattle.rv_store.specs.Text.{Text, Edit}
-use Rattle.rv_commands.specs.declared.run_error.RunError.{RunError}
-use Rattle.rv_commands.specs.declared.run_error.RunError.TheVariants.{Read, Write, Memory}
+use Rattle.rv_commands.specs.declared.answer_error.AnswerError.{AnswerError}
+use Rattle.rv_commands.specs.declared.answer_error.AnswerError.TheVariants.{Write, Memory}
 use Rattle.rv_text.specs.Blocks.{Waits, Gathers}
 use Rattle.rv_commands.specs.Pages.{ended}
 use Rattle.rv_commands.specs.Transcript.{accepted, refused, IsEditAnswer, IsAnswer, AreAnswers, is_line_break, unless_empty, empty_text}
@@ -15,18 +15,41 @@ abbrev pub edit_answer : {A : Type 0} → ℕ → Result A EditError → List �
 edit_answer n (Ok _) = accepted n
 edit_answer n (Err reason) = refused reason
 
--- There is an answer to the command, and it was taken, or a prefix of it where a write failed.
-abbrev pub AnswersCommand : {A E : Type 0} → Text → List ℕ → Option (List ℕ) → Result A E → Option (List ℕ) → Text → Type 0
-AnswersCommand old command taken_before result taken_after new =
-    (answer : List ℕ) × IsAnswer old command answer new × Writes taken_before answer result taken_after
+-- An answer was not gathered: a prefix of what was waiting and of it was taken, where a write failed; and there is none,
+-- where memory ran out.
+abbrev pub LosesOne : AnswerError → (List ℕ → Type 0) → Option (List ℕ) → List ℕ → Option (List ℕ) → List ℕ → Type 0
+LosesOne Write Is taken_before waiting_before taken_after waiting_after =
+    (answer : List ℕ) × Is answer × WritesPrefix taken_before (waiting_before ++ answer) taken_after
+LosesOne Memory Is taken_before waiting_before taken_after waiting_after =
+    (taken_after ≡ taken_before) × (waiting_after ≡ waiting_before)
 
--- There is an answer to the command, and it was gathered, or a prefix of what was waiting and of it was taken where a
--- write failed.
-abbrev pub GathersAnswer : {A E : Type 0} → Text → List ℕ → Option (List ℕ) → List ℕ → Result A E → Option (List ℕ) → List ℕ → Text → Type 0
+-- an answer was gathered, or not
+abbrev pub GathersOne : {A : Type 0} → (List ℕ → Type 0) → Option (List ℕ) → List ℕ → Result A AnswerError → Option (List ℕ) → List ℕ → Type 0
+GathersOne Is taken_before waiting_before (Ok _) taken_after waiting_after =
+    (answer : List ℕ) × Is answer × Waits taken_before waiting_before answer taken_after waiting_after
+GathersOne Is taken_before waiting_before (Err e) taken_after waiting_after =
+    LosesOne e Is taken_before waiting_before taken_after waiting_after
+
+-- the answer to a command was gathered, or not
+abbrev pub GathersAnswer : {A : Type 0} → Text → List ℕ → Option (List ℕ) → List ℕ → Result A AnswerError → Option (List ℕ) → List ℕ → Text → Type 0
 GathersAnswer old command taken_before waiting_before result taken_after waiting_after new =
-    (answer : List ℕ) × IsAnswer old command answer new × Gathers taken_before waiting_before answer result taken_after waiting_after
+    GathersOne (λ answer. IsAnswer old command answer new) taken_before waiting_before result taken_after waiting_after
 
--- the same for the answer to an edit
+-- the answer to a command was taken, or not
+abbrev pub AnswersCommand : {A : Type 0} → Text → List ℕ → Option (List ℕ) → Result A AnswerError → Option (List ℕ) → Text → Type 0
+AnswersCommand old command taken_before (Ok _) taken_after new =
+    (answer : List ℕ) × IsAnswer old command answer new × (taken_after ≡ after taken_before answer)
+AnswersCommand old command taken_before (Err e) taken_after new =
+    LosesOne e (λ answer. IsAnswer old command answer new) taken_before [] taken_after []
+
+-- one more failure of the writer where a write failed, and none elsewhere
+abbrev pub failures_by_answer : {A : Type 0} → ℕ → Result A AnswerError → ℕ
+failures_by_answer failures (Ok _) = failures
+failures_by_answer failures (Err Write) = failures + 1
+failures_by_answer failures (Err Memory) = failures
+
+-- There is an answer to the edit, and it was gathered, or a prefix of what was waiting and of it was taken where a write
+-- failed.
 abbrev pub GathersEditAnswer : {A E : Type 0} → Text → Edit → Option (List ℕ) → List ℕ → Result A E → Option (List ℕ) → List ℕ → Text → Type 0
 GathersEditAnswer old edit taken_before waiting_before result taken_after waiting_after new =
     (answer : List ℕ) × IsEditAnswer old edit answer new × Gathers taken_before waiting_before answer result taken_after waiting_after
@@ -60,6 +83,12 @@ pub record LosesAnswers (old : Text) (bytes : List ℕ) (taken_before : Option (
   pub answers : AreAnswers old commands output new
   pub taken : WritesPrefix taken_before (waiting ++ output) taken_after
 
+-- Where gathering stops early: after a whole answer for want of memory, and within one where a write failed.
+abbrev pub StopsGathering : AnswerError → Text → List ℕ → Option (List ℕ) → List ℕ → Option (List ℕ) → List ℕ → Type 0
+StopsGathering Write old bytes taken_before waiting_before taken_after waiting_after = LosesAnswers old bytes taken_before waiting_before taken_after
+StopsGathering Memory old bytes taken_before waiting_before taken_after waiting_after =
+    (rest : List ℕ) × (new : Text) × Gathered old bytes rest taken_before waiting_before taken_after waiting_after new
+
 -- All commands of these bytes up to a rest are answered, and the answers were taken.
 pub record Answered (old : Text) (bytes rest : List ℕ) (taken_before taken_after : Option (List ℕ)) (new : Text) : Type 0 where
   pub commands : List (List ℕ)
@@ -82,8 +111,7 @@ pub record StopsAtWrite (old : Text) (bytes : List ℕ) (taken_before taken_afte
   pub taken : taken_after ≡ after taken_before output
 
 -- Where answering stops early: after a whole answer for want of memory, and within one where a write failed.
-abbrev pub StopsBy : RunError → Text → List ℕ → Option (List ℕ) → Option (List ℕ) → Type 0
-StopsBy Read old bytes taken_before taken_after = ⊥
+abbrev pub StopsBy : AnswerError → Text → List ℕ → Option (List ℕ) → Option (List ℕ) → Type 0
 StopsBy Write old bytes taken_before taken_after = StopsAtWrite old bytes taken_before taken_after
 StopsBy Memory old bytes taken_before taken_after =
     (rest : List ℕ) × (new : Text) × Answered old bytes rest taken_before taken_after new
@@ -110,10 +138,15 @@ pub record TakesFront (old : Text) (piece : List ℕ) (taken_before taken_after 
   pub answers : AreAnswers old (unless_empty piece) (output ++ lost) new
   pub taken : taken_after ≡ after taken_before output
 
--- the last piece of an input is answered
-abbrev pub Finishes : {A : Type 0} → Text → List ℕ → Option (List ℕ) → Result A RunError → Option (List ℕ) → Type 0
+-- The last piece was not answered.
+abbrev pub LosesLast : AnswerError → Text → List ℕ → Option (List ℕ) → Option (List ℕ) → Type 0
+LosesLast Write old piece taken_before taken_after = TakesFront old piece taken_before taken_after
+LosesLast Memory old piece taken_before taken_after = taken_after ≡ taken_before
+
+-- the last piece of an input is answered, or not
+abbrev pub Finishes : {A : Type 0} → Text → List ℕ → Option (List ℕ) → Result A AnswerError → Option (List ℕ) → Type 0
 Finishes old piece taken_before (Ok _) taken_after = TakesAll old piece taken_before taken_after
-Finishes old piece taken_before (Err e) taken_after = (e ≡ Write) × TakesFront old piece taken_before taken_after
+Finishes old piece taken_before (Err e) taken_after = LosesLast e old piece taken_before taken_after
 
 -- Where a run stands between two reads: what was read is answered up to a pending piece.
 pub record Progress (base : ℕ) (left_before left_now taken_before taken_now : Option (List ℕ)) (pending : List ℕ) (text : Text) (total : ℕ) : Type 0 where

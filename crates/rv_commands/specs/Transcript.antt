@@ -4,7 +4,8 @@ use Rattle.std.specs.List.{slice_split}
 use Rattle.rv_store.specs.declared.edit_error.EditError.{EditError}
 use Rattle.rv_store.specs.declared.edit_error.EditError.TheVariants.{Memory}
 use Rattle.rv_store.specs.Text.{Text, Edit, Insert, refusal_of, text_after, refusal_number}
-use Rattle.rv_commands.specs.Commands.{Request, Append, Change, Show, request_of}
+use Rattle.rv_commands.specs.Commands.{Request, Append, Change, Show, Disassemble, request_of}
+use Rattle.rv_commands.specs.Disassembly.{IsDisassembly}
 use Rattle.rv_commands.specs.Pages.{numbered, page_text}
 
 -- the answer to an edit that was made, after which there are n lines
@@ -32,6 +33,7 @@ abbrev pub IsAnswerTo : Text → Option Request → List ℕ → Text → Type 0
 IsAnswerTo old (Some (Append line)) answer new = IsEditAnswer old (Insert (length old.lines + 1) line) answer new
 IsAnswerTo old (Some (Change edit)) answer new = IsEditAnswer old edit answer new
 IsAnswerTo old (Some (Show page)) answer new = (answer ≡ page_text page old) × (new ≡ old)
+IsAnswerTo old (Some Disassemble) answer new = IsDisassembly old answer × (new ≡ old)
 IsAnswerTo old None answer new = (answer ≡ codes "bad\n") × (new ≡ old)
 
 -- the answer to a command, and the text afterwards

@@ -4,15 +4,19 @@ ghost use Rattle.std.specs.Prelude.{◌≡◌, ◌-◌, ◌^◌, ◌<◌, ◌≤
 ghost use Rattle.rv_text.specs.Streams.{failures_after};
 ghost use Rattle.rv_text.specs.Blocks.{Gathers};
 ghost use Rattle.rv_commands.specs.Commands.{edit_of};
+ghost use Rattle.rv_commands.specs.Disassembly.{IsDisassembly};
 ghost use Rattle.rv_commands.specs.Pages.{page_text};
-ghost use Rattle.rv_commands.specs.Steps.{edit_answer, AnswersCommand, GathersAnswer, GathersEditAnswer};
+ghost use Rattle.rv_commands.specs.Steps.{edit_answer, AnswersCommand, GathersAnswer, GathersEditAnswer, GathersOne, failures_by_answer};
 
+use crate::answer_error::AnswerError;
 use crate::command::{Command, read_command};
+use crate::disassembly::{code_rows, push_disassembly};
 use crate::edits::{LineEdit, make_edit};
 use crate::numbered::push_numbered;
 use crate::pages::{Page, write_page};
 use rv_store::{EditError, Store};
 use rv_text::{Failed, OutputBlock, Sink};
+use std::alloc::Global;
 
 // Answers an edit that was tried, after which there are `len` lines.
 fn answer_edit<W: Sink>(
@@ -27,8 +31,8 @@ fn answer_edit<W: Sink>(
     ensures count { W.failures sink.new ≡ failures_after (W.failures sink.old) result }
 {
     match edited {
-        Ok(_) => push_numbered(block, sink, b"ok ", len as u32),
-        Err(reason) => push_numbered(block, sink, b"refused ", u32::from(reason.number())),
+        Ok(_) => push_numbered(block, sink, b"ok ", len),
+        Err(reason) => push_numbered(block, sink, b"refused ", usize::from(reason.number())),
     }
 }
 
@@ -65,35 +69,64 @@ fn answer_page<W: Sink>(
     }
 }
 
+// Adds the disassembly of `.text`, once there is memory for all of it.
+fn answer_disassembly<W: Sink>(
+    alloc: Global,
+    block: &mut OutputBlock,
+    sink: &mut W,
+    store: &Store,
+) -> Result<(), AnswerError>
+    requires { W.failures sink.old < 2 ^ 64 - 1 }
+    ensures text { GathersOne (IsDisassembly store.now) (W.taken sink.old) block.old result (W.taken sink.new) block.new }
+    ensures count { W.failures sink.new ≡ failures_by_answer (W.failures sink.old) result }
+{
+    let rows = code_rows(alloc, store)?;
+    push_disassembly(block, sink, &rows)?;
+    Ok(())
+}
+
 /// Does what a command, without its line break, asks for, and gathers the answer.
 pub fn answer_command<W: Sink>(
+    alloc: Global,
     store: &mut Store,
     block: &mut OutputBlock,
     sink: &mut W,
     command: &[u8],
-) -> Result<(), Failed>
+) -> Result<(), AnswerError>
     requires { W.failures sink.old < 2 ^ 64 - 1 }
     ensures text { GathersAnswer store.old command.now (W.taken sink.old) block.old result (W.taken sink.new) block.new store.new }
-    ensures count { W.failures sink.new ≡ failures_after (W.failures sink.old) result }
+    ensures count { W.failures sink.new ≡ failures_by_answer (W.failures sink.old) result }
 {
     match read_command(command) {
         Some(Command::Append(line)) => {
             let last = store.len() as u32 + 1;
-            answer_change(store, block, sink, LineEdit::Insert(last, line))
+            let edit = LineEdit::Insert(last, line);
+            answer_change(store, block, sink, edit).map_err(AnswerError::from)
         }
-        Some(Command::Change(edit)) => answer_change(store, block, sink, edit),
-        Some(Command::Show(page)) => answer_page(block, sink, store, page),
-        None => block.push(sink, b"bad\n"),
+        Some(Command::Change(edit)) => {
+            answer_change(store, block, sink, edit).map_err(AnswerError::from)
+        }
+        Some(Command::Show(page)) => {
+            answer_page(block, sink, store, page).map_err(AnswerError::from)
+        }
+        Some(Command::Disassemble) => answer_disassembly(alloc, block, sink, store),
+        None => block.push(sink, b"bad\n").map_err(AnswerError::from),
     }
 }
 
 /// Answers a command, and writes the answer.
-pub fn answer_alone<W: Sink>(store: &mut Store, sink: &mut W, command: &[u8]) -> Result<(), Failed>
+pub fn answer_alone<W: Sink>(
+    alloc: Global,
+    store: &mut Store,
+    sink: &mut W,
+    command: &[u8],
+) -> Result<(), AnswerError>
     requires { W.failures sink.old < 2 ^ 64 - 1 }
     ensures text { AnswersCommand store.old command.now (W.taken sink.old) result (W.taken sink.new) store.new }
-    ensures count { W.failures sink.new ≡ failures_after (W.failures sink.old) result }
+    ensures count { W.failures sink.new ≡ failures_by_answer (W.failures sink.old) result }
 {
     let mut block = OutputBlock::new();
-    answer_command(store, &mut block, sink, command)?;
-    block.flush(sink)
+    answer_command(alloc, store, &mut block, sink, command)?;
+    block.flush(sink)?;
+    Ok(())
 }

@@ -2,7 +2,7 @@
 
 ghost use Rattle.std.specs.Prelude.{◌≡◌};
 ghost use Rattle.std.specs.Option.{option_map};
-ghost use Rattle.rv_commands.specs.Commands.{first_word, after_word, place_of, page_of, change_of, request, request_of};
+ghost use Rattle.rv_commands.specs.Commands.{first_word, after_word, place_of, page_of, request_named, change_of, request, request_of};
 
 use crate::edits::LineEdit;
 use crate::pages::Page;
@@ -18,6 +18,8 @@ pub enum Command<'a> {
     Change(LineEdit<'a>),
     /// Show a page.
     Show(Page),
+    /// Disassemble `.text`.
+    Disassemble,
 }
 
 // The first word of some bytes, and what stands behind the space after it.
@@ -66,6 +68,17 @@ fn read_page(name: &[u8]) -> Option<Page>
     None
 }
 
+// What this name alone asks for.
+fn read_name(name: &[u8]) -> Option<Command<'_>>
+    ensures { option_map request result ≡ request_named name.now }
+{
+    if name == b"dis".as_slice() {
+        return Some(Command::Disassemble);
+    }
+    let page = read_page(name)?;
+    Some(Command::Show(page))
+}
+
 // The edit that a word asks for with what stands behind it.
 fn read_change<'a>(word: &[u8], rest: &'a [u8]) -> Option<Command<'a>>
     ensures { option_map request result ≡ change_of word.now rest.entry.now }
@@ -93,8 +106,8 @@ fn read_change<'a>(word: &[u8], rest: &'a [u8]) -> Option<Command<'a>>
 pub fn read_command(command: &[u8]) -> Option<Command<'_>>
     ensures { option_map request result ≡ request_of command.now }
 {
-    if let Some(page) = read_page(command) {
-        return Some(Command::Show(page));
+    if let Some(named) = read_name(command) {
+        return Some(named);
     }
     let (word, rest) = split_word(command);
     read_change(word, rest)

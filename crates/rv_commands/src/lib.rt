@@ -2,8 +2,10 @@
 #![tactic(auto)]
 
 mod answer;
+mod answer_error;
 mod chunk;
 mod command;
+mod disassembly;
 mod edited;
 mod edits;
 mod numbered;
@@ -11,7 +13,7 @@ mod pages;
 mod run_error;
 mod running;
 
-pub use edited::incremental_equals_from_scratch;
+pub use edited::live_assembler_is_exact;
 pub use edits::LineEdit;
 pub use run_error::{RunError, message, status};
 pub use running::{MAX_INPUT, run};

@@ -59,7 +59,7 @@ fn push_text<W: Sink>(block: &mut OutputBlock, sink: &mut W, store: &Store) -> R
     ensures text { Gathers (W.taken sink.old) block.old (text_of store.now) result (W.taken sink.new) block.new }
     ensures count { W.failures sink.new ≡ failures_after (W.failures sink.old) result }
 {
-    push_numbered(block, sink, b"text ", store.len() as u32)?;
+    push_numbered(block, sink, b"text ", store.len())?;
     push_lines(block, sink, store)
 }
 

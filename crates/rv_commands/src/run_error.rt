@@ -1,10 +1,9 @@
 //! Why a run ends early.
 
 ghost use Rattle.std.specs.Prelude.{◌≡◌};
-ghost use Rattle.rv_commands.specs.declared.run_error.RunError.TheVariants.{Memory};
-ghost use Rattle.rv_commands.specs.Faults.{run_refusal_number, run_status, run_message};
+ghost use Rattle.rv_commands.specs.Faults.{run_error, run_refusal_number, run_status, run_message};
 
-use std::alloc::AllocError;
+use crate::answer_error::AnswerError;
 use thiserror::Error;
 
 /// Why a run ended early.
@@ -16,7 +15,7 @@ pub enum RunError {
     /// Not all of an answer was written.
     #[error("the writer failed")]
     Write,
-    /// There was no memory for a command.
+    /// There was no memory for a command or its answer.
     #[error("out of memory")]
     Memory,
 }
@@ -34,11 +33,14 @@ impl RunError {
     }
 }
 
-impl From<AllocError> for RunError {
-    ghost from_gives = { λ _ e. e ≡ Memory };
+impl From<AnswerError> for RunError {
+    ghost from_gives = { λ reason e. e ≡ run_error reason };
 
-    fn from(_: AllocError) -> Self {
-        RunError::Memory
+    fn from(reason: AnswerError) -> Self {
+        match reason {
+            AnswerError::Write => RunError::Write,
+            AnswerError::Memory => RunError::Memory,
+        }
     }
 }
 

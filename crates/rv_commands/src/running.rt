@@ -3,9 +3,10 @@
 ghost use Rattle.std.specs.Prelude.{◌≡◌, ◌-◌, ◌^◌, ◌<◌, true, OnOk, IfErr};
 ghost use Rattle.rv_store.specs.Text.{is_base};
 ghost use Rattle.rv_commands.specs.Outcomes.{EndsWell, EndsEarly, IsReadCount, failures_by_write};
-ghost use Rattle.rv_commands.specs.Steps.{Finishes};
+ghost use Rattle.rv_commands.specs.Steps.{Finishes, failures_by_answer};
 
 use crate::answer::answer_alone;
+use crate::answer_error::AnswerError;
 use crate::chunk::{answer_chunk, read_chunk};
 use crate::run_error::RunError;
 use rv_store::Store;
@@ -19,18 +20,20 @@ pub const MAX_INPUT: usize = 67108864;
 const CHUNK: usize = 8192;
 
 // Answers the last piece of the input, which is a command unless it is empty.
-fn finish<W: Sink>(store: &mut Store, sink: &mut W, piece: &[u8]) -> Result<(), RunError>
+fn finish<W: Sink>(
+    alloc: Global,
+    store: &mut Store,
+    sink: &mut W,
+    piece: &[u8],
+) -> Result<(), AnswerError>
     requires { W.failures sink.old < 2 ^ 64 - 1 }
     ensures text { Finishes store.old piece.now (W.taken sink.old) result (W.taken sink.new) }
-    ensures count { W.failures sink.new ≡ failures_by_write (W.failures sink.old) result }
+    ensures count { W.failures sink.new ≡ failures_by_answer (W.failures sink.old) result }
 {
     if piece.is_empty() {
         return Ok(());
     }
-    match answer_alone(store, sink, piece) {
-        Ok(()) => Ok(()),
-        Err(_) => Err(RunError::Write),
-    }
+    answer_alone(alloc, store, sink, piece)
 }
 
 /// Answers the commands of the input over a text that is empty at first and begins at the base. A command is answered
@@ -61,10 +64,11 @@ pub fn run<R: Source, W: Sink>(
             return Err(RunError::Read);
         };
         if n == 0 {
-            return finish(&mut store, sink, pending.as_slice());
+            finish(alloc, &mut store, sink, pending.as_slice())?;
+            return Ok(());
         }
         let (chunk, _) = buffer.split_at(n);
-        answer_chunk(&mut store, sink, &mut pending, chunk)?;
+        answer_chunk(alloc, &mut store, sink, &mut pending, chunk)?;
         total += n;
     }
     let Ok(beyond) = read_chunk(source, &mut buffer, 1) else {
@@ -73,5 +77,6 @@ pub fn run<R: Source, W: Sink>(
     if beyond > 0 {
         return Err(RunError::Read);
     }
-    finish(&mut store, sink, pending.as_slice())
+    finish(alloc, &mut store, sink, pending.as_slice())?;
+    Ok(())
 }

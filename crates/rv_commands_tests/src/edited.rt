@@ -1,9 +1,11 @@
-//! What is shown after a list of edits, and a writer that fails.
+//! What is shown after a list of edits, and of bytes, and a writer that fails.
 
 use crate::slow::SlowSink;
-use rv_commands::{LineEdit, incremental_equals_from_scratch};
+use rv_commands::{LineEdit, live_assembler_is_exact};
+use rv_dis::DisRow;
 use rv_store::EditError;
 use rv_text::{FailsAt, MemSink};
+use std::process::Abort;
 use std::test::Fail;
 
 // Edits, and whether each is made.
@@ -39,6 +41,28 @@ faults 1
 3 0 1 19 Duplicate
 ";
 
+// Bytes that begin at the last parcel of memory, of which GNU objdump 2.40 shows the same instruction, and the rows of them.
+const BYTES: [u8; 9] = [0x73, 0x00, 0x20, 0x30, 0x13, 0x05, 0x15, 0x00, 0x07];
+
+const ROWS: [(u32, u32, u8, &str); 4] = [
+    (0xfffffffe, 0x0073, 2, ".half 0x0073"),
+    (0x00000000, 0x3020, 2, ".half 0x3020"),
+    (0x00000002, 0x00150513, 4, "addi a0, a0, 1"),
+    (0x00000006, 0x07, 1, ".byte 0x07"),
+];
+
+// The rows are those of the bytes.
+fn check_rows<T: Abort>(rt: &T, rows: &[DisRow]) {
+    assert_eq!(rt; rows.len(), 4);
+    for at in 0..4 {
+        let (address, value, len, text) = ROWS[at];
+        assert_eq!(rt; rows[at].address, address, "at row {at}");
+        assert_eq!(rt; rows[at].value, value, "at row {at}");
+        assert_eq!(rt; rows[at].len, len, "at row {at}");
+        assert_eq!(rt; rows[at].text.as_str(), text, "at row {at}");
+    }
+}
+
 #[test]
 fn edits_are_shown(rt: HostRuntime) -> Result<(), Fail> {
     let edits = EDITS.map(|(edit, _)| edit);
@@ -48,7 +72,16 @@ fn edits_are_shown(rt: HostRuntime) -> Result<(), Fail> {
             inner: MemSink::new(rt.alloc(), 1000)?,
         };
         let mut sink = FailsAt::new(inner, m);
-        let done = incremental_equals_from_scratch(rt.alloc(), 0, &edits, &mut results, &mut sink);
+        let (done, rows) = live_assembler_is_exact(
+            rt.alloc(),
+            0,
+            &edits,
+            &mut results,
+            &mut sink,
+            &BYTES,
+            0xfffffffe,
+        );
+        check_rows(&rt, rows?.as_slice());
         for at in 0..11 {
             let wanted = if EDITS[at].1 {
                 Ok(())

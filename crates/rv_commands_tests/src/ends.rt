@@ -7,7 +7,7 @@ use std::alloc::{AllocError, Global};
 use std::test::Fail;
 
 // Commands, and the answer to each, as an independent program of the definitions in Python has it.
-const SESSION: [(&str, &str); 15] = [
+const SESSION: [(&str, &str); 16] = [
     ("a x: addi a0, a0, N", "ok 1\n"),
     ("i 1 .equ N, 5000", "ok 2\n"),
     (
@@ -30,6 +30,7 @@ const SESSION: [(&str, &str); 15] = [
         "image",
         ".text 0x00000000 4\n00000000: 13 05 15 00\n.rodata 0x00001000 0\n.data 0x00001000 0\n.bss 0x00001000 0\n",
     ),
+    ("dis", "dis 1\n00000000 00150513 addi a0, a0, 1\n"),
     ("i 1 x: .byte 1", "ok 3\n"),
     (
         "faults",

@@ -1,5 +1,6 @@
 //! What docs/TUTORIAL.md and docs/EDITOR.md show: blocks of commands and their answers. `tools/pages` sees that the tables
-//! are as the pages have them. An independent program of the definitions in Python gave the answers.
+//! are as the pages have them. An independent program of the definitions in Python gave the answers, and GNU objdump the
+//! instructions of the disassemblies.
 
 use crate::transcripts::check_output;
 use rv_text::MemSource;
@@ -8,7 +9,7 @@ use std::process::Abort;
 use std::test::Fail;
 
 // The blocks of docs/TUTORIAL.md, a session.
-const TUTORIAL: [(&str, &str); 4] = [
+const TUTORIAL: [(&str, &str); 5] = [
     (
         r#"a li a0, 0
 a loop: lw a3, 0(a1)
@@ -85,6 +86,22 @@ symbols 3
 .bss 0x00002000 0
 "#,
     ),
+    (
+        r#"dis
+"#,
+        r#"dis 10
+00000000 00001597 auipc a1, 0x1
+00000004 00058593 addi a1, a1, 0
+00000008 00300613 addi a2, zero, 3
+0000000c 00000513 addi a0, zero, 0
+00000010 0005a683 lw a3, 0(a1)
+00000014 00d50533 add a0, a0, a3
+00000018 00458593 addi a1, a1, 4
+0000001c fff60613 addi a2, a2, -1
+00000020 fe0618e3 bne a2, zero, 0x00000010
+00000024 00008067 jalr zero, 0(ra)
+"#,
+    ),
 ];
 
 // The blocks of docs/EDITOR.md, a session.
@@ -132,6 +149,7 @@ faults 0
 list
 syms
 image
+dis
 "#,
         r#"text 9
         .equ SIZE, 100
@@ -166,12 +184,16 @@ symbols 5
 .data 0x00002000 8
 00002000: 00 00 00 00 00 10 00 00
 .bss 0x00003000 100
+dis 3
+00000000 00001517 auipc a0, 0x1
+00000004 00050513 addi a0, a0, 0
+00000008 ff9ff06f jal zero, 0x00000000
 "#,
     ),
     (
         r#"d 10
 i 11 nop
-dis
+dis 1
 IMAGE
 "#,
         r#"refused 2

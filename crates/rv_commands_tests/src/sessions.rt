@@ -5,7 +5,7 @@ use rv_text::MemSource;
 use std::test::Fail;
 
 // Commands, and their answers.
-const SESSIONS: [(&str, &str); 18] = [
+const SESSIONS: [(&str, &str); 19] = [
     // Nothing is shown of an empty text.
     (
         r"image
@@ -23,7 +23,7 @@ listing 0
 symbols 0
 faults 0
 text 0
-bad
+dis 0
 ",
     ),
     // A line is replaced.
@@ -568,6 +568,38 @@ ok 4
 .rodata 0x00001000 0
 .data 0x00001000 0
 .bss 0x00001000 0
+",
+    ),
+    // What is no instruction in `.text` is data, and what other sections have is not shown.
+    (
+        r"a addi s0, s0, N
+a c.nop
+a .half 0x0073
+a .byte 1
+a .data
+a nop
+dis
+r 1 addi s0, s0, -1
+dis
+",
+        r"ok 1
+ok 2
+ok 3
+ok 4
+ok 5
+ok 6
+dis 5
+00000000 0000 .half 0x0000
+00000002 0000 .half 0x0000
+00000004 0001 c.nop
+00000006 0073 .half 0x0073
+00000008 01 .byte 0x01
+ok 6
+dis 4
+00000000 fff40413 addi s0, s0, -1
+00000004 0001 c.nop
+00000006 0073 .half 0x0073
+00000008 01 .byte 0x01
 ",
     ),
 ];

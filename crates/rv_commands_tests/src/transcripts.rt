@@ -15,7 +15,7 @@ const EMPTY: &str =
 const NEXT_PAGE: &str = ".rodata 0x00001000 0\n.data 0x00001000 0\n.bss 0x00001000 0\n";
 
 // An input, and its output in two parts.
-const TRANSCRIPTS: [(&str, &str, &str); 22] = [
+const TRANSCRIPTS: [(&str, &str, &str); 25] = [
     ("", "", ""),
     ("\n", "bad\n", ""),
     ("x\nd\nd 1\na\n", "bad\nbad\nrefused 2\nok 1\n", ""),
@@ -37,6 +37,13 @@ const TRANSCRIPTS: [(&str, &str, &str); 22] = [
         "",
     ),
     ("list\r\ni\ni \nimage\r\n", "bad\nbad\nbad\nbad\n", ""),
+    ("dis \nDIS\ndis 0\n dis\n", "bad\nbad\nbad\nbad\n", ""),
+    ("dis", "dis 0\n", ""),
+    (
+        "a addi a0, a0, 1\ndis\nd 1\ndis\n",
+        "ok 1\ndis 1\n00000000 00150513 addi a0, a0, 1\n",
+        "ok 0\ndis 0\n",
+    ),
     (
         "i  1 x\ni 1x\ni 1\tnop\nr 1234567890 x\ni -1 x\n",
         "bad\nbad\nbad\nbad\nbad\n",
@@ -148,6 +155,17 @@ fn long_lines_are_answered(rt: HostRuntime) -> Result<(), Fail> {
         assert_eq!(rt; done, Ok(()), "at {start} and {length}");
         assert_eq!(rt; sink.bytes(), output.as_bytes(), "at {start} and {length}");
     }
+    Ok(())
+}
+
+#[test]
+fn addresses_begin_at_the_base(rt: HostRuntime) -> Result<(), Fail> {
+    let mut source = MemSource::new(b"a j . - 4\ndis\n");
+    let mut sink = MemSink::new(rt.alloc(), 1000)?;
+    let done = run(rt.alloc(), &mut source, &mut sink, 0x80000000);
+    assert_eq!(rt; done, Ok(()));
+    let output = b"ok 1\ndis 1\n80000000 ffdff06f jal zero, 0x7ffffffc\n".as_slice();
+    assert_eq!(rt; sink.bytes(), output);
     Ok(())
 }
 

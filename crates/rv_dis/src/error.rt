@@ -3,7 +3,7 @@
 ghost use Rattle.std.specs.Prelude.{◌≡◌};
 ghost use Rattle.rv_dis.specs.declared.error.DisError.TheVariants.{Memory};
 
-use std::alloc::AllocError;
+use std::alloc::{AllocError, AllocFailed};
 use thiserror::Error;
 
 /// Why there is no text of an instruction, or are no rows of a stretch.
@@ -29,6 +29,14 @@ impl From<AllocError> for DisError {
     ghost from_gives = { λ _ e. e ≡ Memory };
 
     fn from(_error: AllocError) -> Self {
+        DisError::Memory
+    }
+}
+
+impl<T: Drop> From<AllocFailed<T>> for DisError {
+    ghost from_gives = { λ _ e. e ≡ Memory };
+
+    fn from(_error: AllocFailed<T>) -> Self {
         DisError::Memory
     }
 }

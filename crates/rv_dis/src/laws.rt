@@ -12,6 +12,8 @@ ghost use Rattle.rv_dis.specs.Rows.{Shows};
 ghost use Rattle.rv_dis.specs.Text.{instruction_text};
 ghost use Rattle.rv_dis.specs.declared.row.DisRow.{DisRow};
 
+use rv_code::words_tell_instructions_apart;
+
 /// The text of every instruction at every address is a line without labels and names, whose code there is the word of the
 /// instruction without a fault, whatever names mean.
 pub fn texts_are_instructions()
@@ -33,4 +35,6 @@ pub fn rows_give_the_bytes()
 /// Every stretch of bytes at an address has one list of rows at most.
 pub fn rows_are_unique()
     ensures { (a : ℕ) (bytes : List ℕ) (rows others : List DisRow) → Shows a bytes rows → Shows a bytes others → rows ≡ others }
-{}
+{
+    words_tell_instructions_apart();
+}

@@ -1,29 +1,51 @@
 //! The rows of a disassembly.
 
-ghost use Rattle.std.specs.Prelude.{◌≡◌, string_bytes};
+ghost use Rattle.std.specs.Prelude.{◌≡◌, ◌+◌, ◌<◌, ◌≤◌, [], ◌∷◌, ◌++◌, length};
 
+use arrayvec::ArrayString;
 use std::marker::Model;
 
-/// The text of a row. Contracts see its bytes. It is made from a `String` and gives it back, and takes no memory.
+/// The text of a row, of at most 48 bytes, which lie in the row itself. Contracts see its bytes.
 #[derive(Drop)]
 pub struct RowText {
-    text: String,
+    text: ArrayString<48>,
 }
 
 impl Model for RowText {
-    ghost use Rattle.std.specs.Prelude.{ℕ, List, string_bytes};
+    ghost use Rattle.std.specs.Prelude.{ℕ, List};
 
     ghost Value = { List ℕ };
 
-    ghost view = { λ t. string_bytes t.text };
+    ghost view = { λ t. t.text.bytes };
 }
 
 impl RowText {
-    /// The text.
-    pub fn new(text: String) -> Self
-        ensures { result ≡ string_bytes text }
+    // The empty text.
+    pub(crate) fn new() -> Self
+        ensures { result ≡ [] }
     {
-        RowText { text }
+        RowText {
+            text: ArrayString::new(),
+        }
+    }
+
+    // Appends a text, for which there must be room.
+    #[inline]
+    pub(crate) fn push_str(&mut self, text: &str)
+        requires { length self.old + length text.now ≤ 48 }
+        ensures { self.new ≡ self.old ++ text.now }
+    {
+        self.text.push_str(text);
+    }
+
+    // Appends an ASCII character, for which there must be room.
+    #[inline]
+    pub(crate) fn push(&mut self, c: char)
+        requires room { length self.old < 48 }
+        requires ascii { c < 128 }
+        ensures { self.new ≡ self.old ++ c ∷ [] }
+    {
+        self.text.push(c);
     }
 
     /// The text.
@@ -31,13 +53,6 @@ impl RowText {
         ensures { result.now ≡ self.now }
     {
         self.text.as_str()
-    }
-
-    /// The text.
-    pub fn into_string(self) -> String
-        ensures { string_bytes result ≡ self }
-    {
-        self.text
     }
 }
 

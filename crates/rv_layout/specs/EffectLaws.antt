@@ -1,5 +1,6 @@
 -- Effects joined: unit and associativity.
 use Rattle.std.proofs.Common.{◌≡◌, ℕ, zero, suc, ◌≤◌, List, [], ◌∷◌, length, arith, ap, sym, ◌∙◌, refl}
+use Rattle.rv_tree.specs.Sums.{JoinLaws}
 use Rattle.rv_layout.specs.declared.advance.Advance.{Advance}
 use Rattle.rv_layout.specs.declared.effect.Effect.{Effect}
 use Rattle.rv_layout.specs.declared.effect.Effect.TheVariants.{Plain, Switched}
@@ -95,3 +96,12 @@ join-IsEffect (Switched h s xs) (Switched k t ys) o p =
 
 pub no_lines-IsEffect : IsEffect no_lines
 no_lines-IsEffect = record { small = omega arith; before_fits = omega arith; after_fits = omega arith; plain = λ none. refl }
+
+pub effect_laws : JoinLaws IsEffect no_lines join
+effect_laws = record {
+  empty_is_value = no_lines-IsEffect;
+  op_is_value = join-IsEffect;
+  left_unit = no_lines-join;
+  right_unit = join-no_lines;
+  associative = join_assoc;
+}

@@ -10,10 +10,11 @@ use crate::effect::{Effect, join};
 use crate::measured::Measured;
 use crate::sections::{SECTIONS, section_number};
 use rv_stmt::Sect;
+use rv_tree::Joined;
 use std::marker::Model;
 
-/// What some lines do to the section and to the offsets of all sections. Layouts join: `start` is their unit, and `join` is
-/// associative. Offsets are modulo 2^64, so that this holds of all layouts; those of a text do not wrap.
+/// What some lines do to the section and to the offsets of all sections. Layouts join, so a tree can sum them: `start` is their
+/// unit. Offsets are modulo 2^64, so that the laws hold of all layouts; those of a text do not wrap.
 #[derive(Clone, Copy)]
 pub struct Layout {
     effect: Effect,
@@ -30,6 +31,32 @@ impl Model for Layout {
     ghost invariant = { λ l. IsEffect l.effect };
 
     ghost inverse = { λ e. record { effect = e } };
+}
+
+impl Joined for Layout {
+    ghost IsValue = { IsEffect };
+
+    ghost empty = { no_lines };
+
+    ghost op = { join };
+
+    fn unit() -> Layout {
+        Layout::start()
+    }
+
+    fn join(&self, other: &Layout) -> Layout {
+        Layout {
+            effect: join(&self.effect, &other.effect),
+        }
+    }
+
+    fn known(&self) {
+        let _effect = self.effect;
+    }
+
+    ghost use Rattle.rv_layout.specs.EffectLaws.{effect_laws};
+
+    ghost laws = { effect_laws };
 }
 
 // What one line does.
@@ -83,15 +110,6 @@ impl Layout {
     {
         Layout {
             effect: effect_of(measured),
-        }
-    }
-
-    /// The layout of these lines, then others.
-    pub fn join(&self, next: &Layout) -> Layout
-        ensures { result ≡ join self.now next.now }
-    {
-        Layout {
-            effect: join(&self.effect, &next.effect),
         }
     }
 

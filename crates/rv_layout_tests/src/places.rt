@@ -9,6 +9,7 @@ use crate::constants::{Constants, N_IS_5000, NONE};
 use crate::lines::layout_of;
 use rv_layout::{Layout, Measured, SECTIONS, bases, place};
 use rv_stmt::Sect;
+use rv_tree::Joined;
 use std::alloc::Global;
 use std::process::Abort;
 use std::test::Fail;

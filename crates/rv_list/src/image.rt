@@ -6,9 +6,9 @@ ghost use Rattle.rv_text.specs.Streams.{failures_after, Writes};
 ghost use Rattle.rv_layout.specs.Sections.{sections};
 ghost use Rattle.rv_list.specs.Image.{byte_row, byte_rows, section_row, section_name, section_text, image_text};
 
+use crate::bytes_left::SectionBytes;
 use crate::error::ListError;
 use crate::rows::push_number;
-use crate::section_bytes::SectionBytes;
 use crate::view::{SectionPlace, View, shows_bytes};
 use rv_layout::SECTIONS;
 use rv_text::{Failed, OutputBlock, OutputRow, Sink};

@@ -1,18 +1,20 @@
 //! What an editor shows of a text: its image, its listing, its symbols and its faults.
 #![tactic(auto)]
 
+mod bytes_left;
 mod error;
 mod faults;
 mod image;
 mod listing;
 mod rows;
-mod section_bytes;
 mod symbols;
 mod view;
 
+pub use bytes_left::section_bytes;
 pub use error::ListError;
 pub use faults::write_faults;
 pub use image::write_image;
 pub use listing::write_listing;
+pub use rows::push_row;
 pub use symbols::write_symbols;
 pub use view::{DefinitionPlace, LinePlace, LineView, SectionPlace, View};

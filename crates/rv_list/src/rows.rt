@@ -88,7 +88,11 @@ pub fn push_text<W: Sink>(block: &mut OutputBlock, sink: &mut W, text: &[u8]) ->
     write_all(sink, text)
 }
 
-/// Adds a row that ends with a text of any length.
+/// Adds a row that begins with columns, at most 64 bytes, and ends with a text of any length and a line break.
+///
+/// # Errors
+///
+/// `Failed` if a call of the writer failed.
 pub fn push_row<W: Sink>(
     block: &mut OutputBlock,
     sink: &mut W,

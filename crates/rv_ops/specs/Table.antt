@@ -1,6 +1,6 @@
 -- The table of the operations and the layouts of their encodings, as contracts see them.
 use denote.Enum.Declared.{tag_of}
-use Rattle.std.specs.Prelude.{◌≡◌, ℕ, pos, ◌%◌, Bool, true, List, [], map, filter, length, nat_eq, slice_index_or, Option}
+use Rattle.std.specs.Prelude.{◌≡◌, ℕ, pos, ◌%◌, Bool, true, List, [], map, nat_eq, slice_index_or, Option}
 use Rattle.std.specs.Str.{str_eq_ignore_ascii_case}
 use Rattle.rv_ops.specs.Names.{first_named}
 use Rattle.rv_ops.specs.declared.value_limits.Limits.{Limits}
@@ -57,10 +57,6 @@ is_full_code fixed = nat_eq (fixed % 4) 3
 -- whether the encodings of an operation have 32 bits
 abbrev pub is_full : Op → Bool
 is_full o = is_full_code (fixed_of o)
-
--- how many rows have encodings of 32 bits
-unfoldable pub full_count : ℕ
-full_count = length (filter (λ row. is_full_code row.3) TABLE)
 
 -- the operation and the mnemonic of each row
 unfoldable pub operation_names : List (Op × List ℕ)

@@ -7,9 +7,9 @@ use Rattle.rv_ops.specs.declared.op.Op.{Op}
 use Rattle.rv_ops.specs.declared.op.Op.TheVariants.{Lui, CNop, CAddi, CAddi16sp, CLui, CJr, CMv, CEbreak, CJalr, CAdd}
 use Rattle.rv_ops.specs.declared.op.Shape.{Shape}
 use Rattle.rv_ops.specs.declared.op.Shape.TheVariants.{Upper}
-use Rattle.rv_ops.specs.declared.table.TheConstants.{TABLE, FULL_COUNT}
+use Rattle.rv_ops.specs.declared.table.TheConstants.{TABLE}
 use Rattle.rv_ops.specs.contracts.op.Op.{the_type as op_type}
-use Rattle.rv_ops.specs.Table.{Row, number_of, row_of, layout_of, fixed_of, mask_of, is_full, full_count}
+use Rattle.rv_ops.specs.Table.{Row, number_of, row_of, layout_of, fixed_of, mask_of}
 
 -- an operation has a row
 number_of-test : (o : Op) → ltb (number_of o) (length TABLE) ≡ true
@@ -40,17 +40,6 @@ pub fixed_of-mask : (o : Op) → bit_and (fixed_of o) (mask_of o) ≡ fixed_of o
 unfolding row_of
 fixed_of-mask Lui = refl
 fixed_of-mask _ = refl
-
--- the rows of the encodings of 32 bits stand first
-pub is_full-first : (o : Op) → is_full o ≡ ltb (number_of o) full_count
-unfolding row_of full_count
-is_full-first Lui = refl
-is_full-first _ = refl
-
--- the constant of the code counts them
-pub full_count-constant : FULL_COUNT ≡ full_count
-unfolding full_count
-full_count-constant = refl
 
 abbrev pub is_same : Op → Op → Bool
 is_same o p = nat_eq (number_of o) (number_of p)

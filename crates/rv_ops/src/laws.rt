@@ -1,11 +1,11 @@
 //! What holds of the tables and of the limits, for the crates above.
-ghost use Rattle.std.specs.Prelude.{◌≡◌, ℤ, ◌<◌, ◌⊎◌, true, None, length, nat_lt, bit_and};
+ghost use Rattle.std.specs.Prelude.{◌≡◌, ℤ, ◌<◌, ◌⊎◌, true, None, length, bit_and};
 ghost use Rattle.rv_ops.specs.Limits.{InLimits, limit_fault};
-ghost use Rattle.rv_ops.specs.Table.{fixed_of, full_count, is_full, layout_of, mask_of, number_of, row_of};
+ghost use Rattle.rv_ops.specs.Table.{fixed_of, layout_of, mask_of, number_of, row_of};
 ghost use Rattle.rv_ops.specs.TableLaws.{is_overlapping_pair};
 ghost use Rattle.rv_ops.specs.declared.op.Op.{Op};
 ghost use Rattle.rv_ops.specs.declared.op.Shape.{Shape};
-ghost use Rattle.rv_ops.specs.declared.table.TheConstants.{FULL_COUNT, TABLE};
+ghost use Rattle.rv_ops.specs.declared.table.TheConstants.{TABLE};
 ghost use Rattle.rv_ops.specs.declared.value_limits.Limits.{Limits};
 
 /// Each operation has a row, and each row and each layout stands at its own place: the first column says so.
@@ -13,12 +13,6 @@ pub fn rows_are_in_order()
     ensures below { (o : Op) → number_of o < length TABLE }
     ensures row { (o : Op) → (row_of o).0 ≡ o }
     ensures layout { (s : Shape) → (layout_of s).0 ≡ s }
-{}
-
-/// The rows of the encodings of 32 bits stand first, and the constant counts them.
-pub fn full_rows_are_first()
-    ensures first { (o : Op) → is_full o ≡ nat_lt (number_of o) full_count }
-    ensures count { FULL_COUNT ≡ full_count }
 {}
 
 /// The fixed bits of a row lie in its mask.

@@ -6,9 +6,6 @@ use crate::op::{Op, Shape};
 /// these.
 pub type TableRow = (Op, &'static str, Shape, u32, u32);
 
-/// How many rows of the table have encodings of 32 bits. They stand first. The others have 16 bits.
-pub const FULL_COUNT: usize = 55;
-
 /// The operations, in the order of `Op`: RISC-V Unprivileged ISA 20191213, chapter 24 for the encodings of 32
 /// bits, and section 16.8 for those of 16. The columns are the operation, its mnemonic, its shape, its fixed bits and
 /// the mask of these.

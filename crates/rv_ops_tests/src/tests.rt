@@ -681,13 +681,6 @@ fn encodings(rt: HostRuntime) {
 }
 
 #[test]
-fn full_encodings(rt: HostRuntime) {
-    for (index, row) in TABLE.iter().enumerate() {
-        assert_eq!(rt; index < FULL_COUNT, !row.1.starts_with("c."), "{}", row.1);
-    }
-}
-
-#[test]
 fn taken_operands(rt: HostRuntime) {
     for taken in &TAKEN {
         let op = taken.op;

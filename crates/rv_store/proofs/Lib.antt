@@ -1,6 +1,9 @@
+pub mod Alignments
+pub mod ChangeLaws
 pub mod ConstantRows
 pub mod DefinitionLaws
 pub mod DefinitionRows
+pub mod EarlierLines
 pub mod EditExamples
 pub mod EditRefusals
 pub mod EndLaws
@@ -9,6 +12,7 @@ pub mod Examples
 pub mod FittingValues
 pub mod ImageExamples
 pub mod Items
+pub mod KeptLines
 pub mod LineNameLaws
 pub mod Lists
 pub mod LocalLines
@@ -24,4 +28,6 @@ pub mod SymbolLaws
 pub mod TextExamples
 pub mod TextLines
 pub mod UseExamples
+pub mod UsedConstants
+pub mod UsedValues
 pub mod ValueLaws

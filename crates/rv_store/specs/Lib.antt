@@ -7,6 +7,7 @@ pub mod Edits
 pub mod Ends
 pub mod Fits
 pub mod Items
+pub mod Kept
 pub mod Layout
 pub mod LineNames
 pub mod Locals

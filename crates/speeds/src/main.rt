@@ -1,8 +1,9 @@
-//! Says how fast calls are. Input: `tree`; `store N` or `text N` for a text of N mixed lines, which `text` prints; or `lines`
-//! and lines to assemble, after a line break.
+//! Says how fast calls are. Input: `tree`; `store N` or `text N` for a text of N mixed lines, which `text` prints; `lines`
+//! and lines to assemble, after a line break; or `rows` and bytes to disassemble, after a line break.
 #![tactic(auto)]
 
 mod lines;
+mod rows;
 mod store;
 mod texts;
 mod times;
@@ -34,6 +35,9 @@ fn main(rt: HostRuntime) -> Result<(), Fail> {
     if let Some(text) = input.strip_prefix(b"lines\n".as_slice()) {
         return lines::measure(&rt, text);
     }
-    println!(rt; "What can be measured: tree, store N, lines")?;
+    if let Some(bytes) = input.strip_prefix(b"rows\n".as_slice()) {
+        return rows::measure(&rt, bytes);
+    }
+    println!(rt; "What can be measured: tree, store N, lines, rows")?;
     Ok(())
 }

@@ -1,7 +1,8 @@
 use Rattle.std.proofs.Common.{◌≡◌, ◌%◌, nat_eq, true, false, subst, rules}
 use Rattle.std.specs.Prelude.{IfNone, IfSome}
 use Rattle.rv_code.specs.Encoding.{Fits, encoding_of}
-use Rattle.rv_code.specs.Decoding.{IsWordOfNone, half_codes}
+use Rattle.rv_code.specs.Decoding.{IsWordOfNone}
+use Rattle.rv_code.specs.Groups.{codes_of_half_group}
 use Rattle.rv_code.proofs.Decoded.{found_half, not_half, only_half}
 use Rattle.rv_code.proofs.decoding.decode16.Goals as goal
 
@@ -21,5 +22,5 @@ returns-clause-only c =
     let same : c.from.result ≡ c.args.word = search rules in
     let found = subst (λ n. IfSome c.first_instruction.result (λ i. Fits i.0 i.1 × (encoding_of i.0 i.1 ≡ n))) same c.first_instruction.ensures.found in
     let of_rows = subst (λ codes. IfNone c.first_instruction.result (IsWordOfNone codes c.from.result)) c.half_rows.ensures c.first_instruction.ensures.none in
-    let none = subst (λ n. IfNone c.first_instruction.result (IsWordOfNone half_codes n)) same of_rows in
+    let none = subst (λ n. IfNone c.first_instruction.result (IsWordOfNone (codes_of_half_group c.args.word) n)) same of_rows in
     only_half c.first_instruction.result c.args.word found none

@@ -1,52 +1,67 @@
-use Rattle.std.proofs.Common.{◌+◌, ◌<◌, ◌^◌, ◌∙◌, ap, sym, subst, arith, rules}
+use Rattle.std.proofs.Common.{◌+◌, ◌<◌, ◌≤◌, ◌^◌, ◌∙◌, ap, sym, subst, arith, rules}
 use Rattle.std.proofs.lemmas.Int.{to_z-of_z}
 use Rattle.std.specs.Int.{w32}
 use mir.Val.{SFits}
 use Rattle.rv_ops.specs.declared.layouts.Field.TheVariants.{Rd, Rs1, Rs2, Value}
-use Rattle.rv_ops.specs.Table.{classes_of, sign_of, shape_of}
+use Rattle.rv_ops.specs.Table.{classes_of, sign_of, shape_of, slices_of}
 use Rattle.rv_code.specs.Decoding.{fields_at, first_of, gathered, reach, value_of}
 use Rattle.rv_code.proofs.Reach.{rd_reach, rs1_reach, rs2_reach, value_reach}
 use Rattle.rv_code.proofs.Shapes.{fields_same}
 use Rattle.rv_code.proofs.decoding.fields_of.Goals as goal
 
-pub register-rd-requires-clause-reach : goal.register-rd-requires-clause-reach
-register-rd-requires-clause-reach c =
-    subst (λ k. first_of k.rd + reach Rd c.slices-its_slices.result.now < 32) (sym c.classes-registers.ensures)
-    (subst (λ ps. first_of (classes_of (shape_of c.args.op)).rd + reach Rd ps < 32) (sym c.slices-its_slices.ensures.value) (rd_reach (shape_of c.args.op)))
+pub gather-fields-requires-clause-rd : goal.gather-fields-requires-clause-rd
+gather-fields-requires-clause-rd c =
+    subst (λ ps. reach Rd ps < 2 ^ 30) (sym c.slices.ensures.value) (let r = rd_reach (shape_of c.args.op) in omega (arith, r))
 
-pub register-rs1-requires-clause-reach : goal.register-rs1-requires-clause-reach
-register-rs1-requires-clause-reach c =
-    subst (λ k. first_of k.rs1 + reach Rs1 c.slices-its_slices.result.now < 32) (sym c.classes-registers.ensures)
-    (subst (λ ps. first_of (classes_of (shape_of c.args.op)).rs1 + reach Rs1 ps < 32) (sym c.slices-its_slices.ensures.value) (rs1_reach (shape_of c.args.op)))
+pub gather-fields-requires-clause-rs1 : goal.gather-fields-requires-clause-rs1
+gather-fields-requires-clause-rs1 c =
+    subst (λ ps. reach Rs1 ps < 2 ^ 30) (sym c.slices.ensures.value) (let r = rs1_reach (shape_of c.args.op) in omega (arith, r))
 
-pub register-rs2-requires-clause-reach : goal.register-rs2-requires-clause-reach
-register-rs2-requires-clause-reach c =
-    subst (λ k. first_of k.rs2 + reach Rs2 c.slices-its_slices.result.now < 32) (sym c.classes-registers.ensures)
-    (subst (λ ps. first_of (classes_of (shape_of c.args.op)).rs2 + reach Rs2 ps < 32) (sym c.slices-its_slices.ensures.value) (rs2_reach (shape_of c.args.op)))
+pub gather-fields-requires-clause-rs2 : goal.gather-fields-requires-clause-rs2
+gather-fields-requires-clause-rs2 c =
+    subst (λ ps. reach Rs2 ps < 2 ^ 30) (sym c.slices.ensures.value) (let r = rs2_reach (shape_of c.args.op) in omega (arith, r))
 
-pub gather-number-requires-clause-reach : goal.gather-number-requires-clause-reach
-gather-number-requires-clause-reach c =
-    subst (λ ps. reach Value ps < 2 ^ 30) (sym c.slices-its_slices.ensures.value) (value_reach (shape_of c.args.op))
+pub gather-fields-requires-clause-value : goal.gather-fields-requires-clause-value
+gather-fields-requires-clause-value c =
+    subst (λ ps. reach Value ps < 2 ^ 30) (sym c.slices.ensures.value) (value_reach (shape_of c.args.op))
 
-pub signed-value-requires-clause-number : goal.signed-value-requires-clause-number
-signed-value-requires-clause-number c =
-    let most : reach Value c.slices-its_slices.result.now < 2 ^ 30 =
-    subst (λ ps. reach Value ps < 2 ^ 30) (sym c.slices-its_slices.ensures.value) (value_reach (shape_of c.args.op)) in
-    omega (arith, most, c.gather-number.ensures.most)
+pub register-requires : goal.register-requires
+register-requires c =
+    let most = subst (λ ps. c.gather-fields.result.rd ≤ reach Rd ps) c.slices.ensures.value c.gather-fields.ensures.most_rd in
+    let reaches = subst (λ k. first_of k.rd + reach Rd (slices_of (shape_of c.args.op)) < 32) (sym c.classes-registers.ensures) (rd_reach (shape_of c.args.op)) in
+    omega (arith, most, reaches)
+
+pub register-requires-2 : goal.register-requires-2
+register-requires-2 c =
+    let most = subst (λ ps. c.gather-fields.result.rs1 ≤ reach Rs1 ps) c.slices.ensures.value c.gather-fields.ensures.most_rs1 in
+    let reaches = subst (λ k. first_of k.rs1 + reach Rs1 (slices_of (shape_of c.args.op)) < 32) (sym c.classes-registers.ensures) (rs1_reach (shape_of c.args.op)) in
+    omega (arith, most, reaches)
+
+pub register-requires-3 : goal.register-requires-3
+register-requires-3 c =
+    let most = subst (λ ps. c.gather-fields.result.rs2 ≤ reach Rs2 ps) c.slices.ensures.value c.gather-fields.ensures.most_rs2 in
+    let reaches = subst (λ k. first_of k.rs2 + reach Rs2 (slices_of (shape_of c.args.op)) < 32) (sym c.classes-registers.ensures) (rs2_reach (shape_of c.args.op)) in
+    omega (arith, most, reaches)
+
+pub signed-requires-clause-number : goal.signed-requires-clause-number
+signed-requires-clause-number c =
+    let most = subst (λ ps. c.gather-fields.result.value ≤ reach Value ps) c.slices.ensures.value c.gather-fields.ensures.most_value in
+    let reaches = value_reach (shape_of c.args.op) in
+    omega (arith, most, reaches)
 
 pub returns : goal.returns
 unfolding fields_at
 returns c =
-    let fits : SFits w32 c.signed-value.result = search rules in
+    let fits : SFits w32 c.signed.result = search rules in
     let word = c.args.word in
-    let its_slices = c.slices-its_slices.result.now in
-    let same_slices = c.slices-its_slices.ensures.value in
-    let same_classes = c.classes-registers.ensures in
-    let classes = classes_of (shape_of c.args.op) in
+    let shape = shape_of c.args.op in
+    let its_slices = c.slices.ensures.value in
+    let its_classes = c.classes-registers.ensures in
+    let found = c.gather-fields in
     fields_same
-    (c.register-rd.ensures ∙ ap (λ k. first_of k.rd + gathered Rd word its_slices) same_classes ∙ ap (λ ps. first_of classes.rd + gathered Rd word ps) same_slices)
-    (c.register-rs1.ensures ∙ ap (λ k. first_of k.rs1 + gathered Rs1 word its_slices) same_classes ∙ ap (λ ps. first_of classes.rs1 + gathered Rs1 word ps) same_slices)
-    (c.register-rs2.ensures ∙ ap (λ k. first_of k.rs2 + gathered Rs2 word its_slices) same_classes ∙ ap (λ ps. first_of classes.rs2 + gathered Rs2 word ps) same_slices)
-    (to_z-of_z w32 c.signed-value.result fits ∙ c.signed-value.ensures
-    ∙ ap (λ s. value_of s c.gather-number.result) c.sign.ensures.value
-    ∙ ap (λ n. value_of (sign_of (shape_of c.args.op)) n) (c.gather-number.ensures.value ∙ ap (λ ps. gathered Value word ps) same_slices))
+    (c.register.ensures ∙ ap (λ k. first_of k.rd + found.result.rd) its_classes ∙ ap (λ n. first_of (classes_of shape).rd + n) (found.ensures.rd ∙ ap (gathered Rd word) its_slices))
+    (c.register-2.ensures ∙ ap (λ k. first_of k.rs1 + found.result.rs1) its_classes ∙ ap (λ n. first_of (classes_of shape).rs1 + n) (found.ensures.rs1 ∙ ap (gathered Rs1 word) its_slices))
+    (c.register-3.ensures ∙ ap (λ k. first_of k.rs2 + found.result.rs2) its_classes ∙ ap (λ n. first_of (classes_of shape).rs2 + n) (found.ensures.rs2 ∙ ap (gathered Rs2 word) its_slices))
+    (to_z-of_z w32 c.signed.result fits ∙ c.signed.ensures
+    ∙ ap (λ s. value_of s found.result.value) c.sign.ensures.value
+    ∙ ap (value_of (sign_of shape)) (found.ensures.value ∙ ap (gathered Value word) its_slices))

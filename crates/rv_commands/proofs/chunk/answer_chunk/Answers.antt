@@ -18,14 +18,15 @@ returns-in_err-extend_from_slice-2-clause-err g c =
     let failed = err_from_is_err_and c.from_residual-in_err-extend_from_slice-2.result c.from_residual-in_err-extend_from_slice-2.ensures.1 in
     rw (failed.1, failed.2) (c.args.pending.now.items ++ c.args.chunk.now, c.args.store.now, answered_none _ _ _)
 
-pub returns-in_default-answer_all-clause-err : goal.returns-in_default-answer_all-clause-err
-returns-in_default-answer_all-clause-err g c =
+pub returns-in_err-rest-clause-err : goal.returns-in_err-rest-clause-err
+returns-in_err-rest-clause-err g c =
     let pending = c.args.pending.now.items in
     let chunk = c.args.chunk.now in
     let at = c.in-Some.at in
     let command : c.as_slice.result.now ≡ pending ++ take at chunk = rw (c.as_slice.ensures.value, c.in_ok-extend_from_slice-2.ensures.items, c.split_at.ensures.front) refl in
     let next : c.split_at-2.result.1.now ≡ drop 1 (drop at chunk) = rw (c.split_at-2.ensures.back, c.split_at.ensures.back) refl in
-    rw (cut_joined pending chunk _ _ at c.in-Some.ensures command next) c.in_default-answer_all.ensures.err
+    let failed = err_from_is_err_and c.from_residual-in_err-rest.result c.from_residual-in_err-rest.ensures.1 in
+    rw (failed.1, failed.2, cut_joined pending chunk _ _ at c.in-Some.ensures command next) c.in_err-rest.ensures.err
 
 pub returns-in_err-extend_from_slice-3-clause-err : goal.returns-in_err-extend_from_slice-3-clause-err
 returns-in_err-extend_from_slice-3-clause-err g c =
@@ -35,7 +36,7 @@ returns-in_err-extend_from_slice-3-clause-err g c =
     let at = c.in-Some.at in
     let command : c.as_slice.result.now ≡ pending ++ take at chunk = rw (c.as_slice.ensures.value, c.in_ok-extend_from_slice-2.ensures.items, c.split_at.ensures.front) refl in
     let next : c.split_at-2.result.1.now ≡ drop 1 (drop at chunk) = rw (c.split_at-2.ensures.back, c.split_at.ensures.back) refl in
-    rw (failed.1, failed.2, cut_joined pending chunk _ _ at c.in-Some.ensures command next) (c.in-Ok.rest.now, c.answer_all.new.store, c.in-Ok.ensures.ok)
+    rw (failed.1, failed.2, cut_joined pending chunk _ _ at c.in-Some.ensures command next) (c.in_ok-rest.rest.now, c.answer_all.new.store, c.in_ok-rest.ensures.ok)
 
 pub returns-clause-ok : goal.returns-clause-ok
 returns-clause-ok g c =
@@ -44,7 +45,7 @@ returns-clause-ok g c =
     let at = c.in-Some.at in
     let command : c.as_slice.result.now ≡ pending ++ take at chunk = rw (c.as_slice.ensures.value, c.in_ok-extend_from_slice-2.ensures.items, c.split_at.ensures.front) refl in
     let next : c.split_at-2.result.1.now ≡ drop 1 (drop at chunk) = rw (c.split_at-2.ensures.back, c.split_at.ensures.back) refl in
-    rw (c.in_ok-extend_from_slice-3.ensures.items, c.clear.ensures.items, cut_joined pending chunk _ _ at c.in-Some.ensures command next) c.in-Ok.ensures.ok
+    rw (c.in_ok-extend_from_slice-3.ensures.items, c.clear.ensures.items, cut_joined pending chunk _ _ at c.in-Some.ensures command next) c.in_ok-rest.ensures.ok
 
 pub answer_all-requires-clause-unbroken : goal.answer_all-requires-clause-unbroken
 answer_all-requires-clause-unbroken g c =

@@ -1,0 +1,75 @@
+//! The disassembly of `.text`.
+
+ghost use Rattle.std.specs.Prelude.{◌≡◌, ◌-◌, ◌^◌, ◌<◌, ◌≤◌, All, IfOk};
+ghost use Rattle.std.specs.List.{flat_map};
+ghost use Rattle.rv_text.specs.Blocks.{Gathers};
+ghost use Rattle.rv_text.specs.Streams.{failures_after};
+ghost use Rattle.rv_store.specs.Shown.{shown_of};
+ghost use Rattle.rv_commands.specs.Disassembly.{disassembly_row, disassembly_text, ShowsCode};
+
+use crate::numbered::push_numbered;
+use rv_dis::{DisError, DisRow, disassemble};
+use rv_layout::section_number;
+use rv_list::{View, push_row, section_bytes};
+use rv_stmt::Sect;
+use rv_store::Store;
+use rv_text::{Failed, OutputBlock, OutputRow, Sink};
+use std::alloc::Global;
+
+/// The rows that show the bytes of `.text`.
+pub fn code_rows(alloc: Global, store: &Store) -> Result<Vec<DisRow>, DisError>
+    ensures { IfOk result (λ rows. ShowsCode (shown_of store.now) rows.items) }
+{
+    let section = section_number(Sect::Text);
+    let bytes = section_bytes(alloc, store, section)?;
+    disassemble(alloc, bytes.as_slice(), store.section(section).base)
+}
+
+// Adds a row.
+#[tactic(auto, unfolding(crate::specs::Disassembly::disassembly_row))]
+fn push_code_row<W: Sink>(block: &mut OutputBlock, sink: &mut W, row: &DisRow) -> Result<(), Failed>
+    requires size { row.now.len ≤ 4 }
+    requires failures { W.failures sink.old < 2 ^ 64 - 1 }
+    ensures text { Gathers (W.taken sink.old) block.old (disassembly_row row.now) result (W.taken sink.new) block.new }
+    ensures count { W.failures sink.new ≡ failures_after (W.failures sink.old) result }
+{
+    let mut columns = OutputRow::new();
+    columns.push_hex(8, row.address);
+    columns.push_text(b" ");
+    columns.push_hex(2 * row.len, row.value);
+    columns.push_text(b" ");
+    push_row(block, sink, columns.bytes(), row.text.as_str().as_bytes())
+}
+
+// Adds the rows.
+fn push_code_rows<W: Sink>(
+    block: &mut OutputBlock,
+    sink: &mut W,
+    rows: &[DisRow],
+) -> Result<(), Failed>
+    requires sizes { All (λ row. row.len ≤ 4) rows.now }
+    requires failures { W.failures sink.old < 2 ^ 64 - 1 }
+    ensures text { Gathers (W.taken sink.old) block.old (flat_map disassembly_row rows.now) result (W.taken sink.new) block.new }
+    ensures count { W.failures sink.new ≡ failures_after (W.failures sink.old) result }
+{
+    for row in rows {
+        push_code_row(block, sink, row)?;
+    }
+    Ok(())
+}
+
+/// Adds how many rows there are, and then the rows.
+#[tactic(auto, unfolding(crate::specs::Disassembly::disassembly_text))]
+pub fn push_disassembly<W: Sink>(
+    block: &mut OutputBlock,
+    sink: &mut W,
+    rows: &[DisRow],
+) -> Result<(), Failed>
+    requires sizes { All (λ row. row.len ≤ 4) rows.now }
+    requires failures { W.failures sink.old < 2 ^ 64 - 1 }
+    ensures text { Gathers (W.taken sink.old) block.old (disassembly_text rows.now) result (W.taken sink.new) block.new }
+    ensures count { W.failures sink.new ≡ failures_after (W.failures sink.old) result }
+{
+    push_numbered(block, sink, b"dis ", rows.len())?;
+    push_code_rows(block, sink, rows)
+}

@@ -1,5 +1,0 @@
-use Rattle.rv_list.proofs.LaterLines.{none_taken}
-use Rattle.rv_list.proofs.section_bytes.SectionBytes.new.Goals as goal
-
-pub returns : goal.returns
-returns g c = none_taken (g.V.View.shown c.args.view.now) c.args.section
