@@ -124,7 +124,7 @@ fn shown_size<V: View>(view: &V, section: usize) -> usize
     }
 }
 
-/// The bytes of a section of a text, by the number of the section. `.bss` has none.
+/// The bytes that the lines of a text have in a section, by the number of the section.
 ///
 /// # Errors
 ///
