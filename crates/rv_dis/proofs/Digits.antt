@@ -6,10 +6,6 @@ use Rattle.std.proofs.lemmas.Bool.{cases_lt}
 use Rattle.std.proofs.lemmas.Nat.{shr-shr}
 use Rattle.rv_text.specs.Rows.{hex, hex_digit}
 
-pub hex_none : (n : ℕ) → hex 0 n ≡ []
-unfolding hex
-hex_none n = refl
-
 abbrev spelled : ℕ → ℕ → List ℕ → List ℕ
 spelled k n acc = digits_onto k 16 false n acc
 
@@ -44,11 +40,3 @@ pub digits_step : (n : ℕ) → 16 ≤ n → n < 2 ^ 32 → digits 16 false n �
 unfolding digits
 digits_step n h small =
     spelled_next 63 n [] h ∙ spelled_enough 62 63 (n / 16) (hex_digit (n % 16) ∷ []) (omega arith) (omega arith) ∙ spelled_append 64 (n / 16) (hex_digit (n % 16) ∷ [])
-
--- the first digit before the others
-pub hex_first : (count n : ℕ) → hex (suc count) n ≡ hex_digit (n / 2 ^ (4 * count) % 16) ∷ hex count n
-unfolding hex
-hex_first zero n = ap (λ m. hex_digit (m % 16) ∷ []) (sym (div-one n))
-hex_first (suc count) n =
-    let further : n / 16 / 2 ^ (4 * count) ≡ n / 2 ^ (4 * suc count) = shr-shr n 4 (4 * count) ∙ ap (λ k. n / 2 ^ k) (omega arith) in
-    ap (λ xs. xs ++ hex_digit (n % 16) ∷ []) (hex_first count (n / 16)) ∙ ap (λ m. hex_digit (m % 16) ∷ hex (suc count) n) further

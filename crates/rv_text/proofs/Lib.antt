@@ -1,6 +1,5 @@
 pub mod ContentSteps
 pub mod DigitSteps
-pub mod RowLemmas
 pub mod Runs
 pub mod Steps
 pub mod StreamLemmas

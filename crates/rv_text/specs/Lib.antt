@@ -7,6 +7,7 @@ pub mod Strings
 pub mod Lexing
 pub mod Lexical
 pub mod Rows
+pub mod RowLaws
 pub mod Streams
 pub mod StreamLaws
 pub mod TokenLaws

@@ -1,6 +1,6 @@
 //! Rows of output text.
 
-ghost use Rattle.std.specs.Prelude.{◌≡◌, ◌+◌, ◌<◌, ◌≤◌, ◌++◌, ◌∷◌, [], length, decimal};
+ghost use Rattle.std.specs.Prelude.{◌≡◌, ◌+◌, ◌*◌, ◌/◌, ◌%◌, ◌^◌, ◌<◌, ◌≤◌, ◌++◌, ◌∷◌, [], length, decimal};
 ghost use Rattle.rv_text.specs.Rows.{hex, hex_digit};
 
 use arrayvec::ArrayVec;
@@ -29,6 +29,18 @@ fn hex_digit(n: u8) -> u8
     ensures { result ≡ hex_digit n }
 {
     if n < 10 { b'0' + n } else { b'a' + (n - 10) }
+}
+
+// The hexadecimal digit at a place of a number, the last at 0.
+fn nibble(n: u32, place: u8) -> u8
+    ensures digit { result ≡ n / 2 ^ (4 * place) % 16 }
+    ensures small { result < 16 }
+{
+    if place < 8 {
+        ((n >> (4 * place)) % 16) as u8
+    } else {
+        0
+    }
 }
 
 impl OutputRow {
@@ -74,11 +86,11 @@ impl OutputRow {
         ensures text { self.new ≡ self.old ++ hex digits n }
         ensures length { length self.new ≡ length self.old + digits }
     {
-        if digits == 0 {
-            return;
+        let mut left = digits;
+        while left > 0 {
+            left -= 1;
+            self.push_byte(hex_digit(nibble(n, left)));
         }
-        self.push_hex(digits - 1, n / 16);
-        self.push_byte(hex_digit((n % 16) as u8));
     }
 
     /// The bytes of the row.

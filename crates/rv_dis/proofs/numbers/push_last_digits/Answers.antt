@@ -1,7 +1,7 @@
 use Rattle.std.proofs.Common.{◌≡◌, suc, ◌-◌, ◌++◌, [], ◌∷◌, length, sym, ap, ◌∙◌, append_assoc, length-append, arith}
 use Rattle.std.proofs.lemmas.List.{append-nil}
 use Rattle.rv_text.specs.Rows.{hex}
-use Rattle.rv_dis.proofs.Digits.{hex_first, hex_none}
+use Rattle.rv_text.specs.RowLaws.{hex_first, hex_none}
 use Rattle.rv_dis.proofs.numbers.push_last_digits.Goals as goal
 
 pub loop-left-preserved : goal.loop-left-preserved
