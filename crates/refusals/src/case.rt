@@ -17,6 +17,7 @@ pub enum Case {
     LineAlone,
     InstructionText,
     Rows,
+    SectionBytes,
     Edit(Edit),
     Tree(TreeCall),
 }
@@ -48,6 +49,7 @@ pub fn read_case(input: &[u8]) -> Option<(Case, u32)> {
         (b"line_alone ", Case::LineAlone),
         (b"instruction_text ", Case::InstructionText),
         (b"rows ", Case::Rows),
+        (b"section_bytes ", Case::SectionBytes),
         (b"insert ", Case::Edit(Edit::Insert)),
         (b"delete ", Case::Edit(Edit::Delete)),
         (b"replace ", Case::Edit(Edit::Replace)),

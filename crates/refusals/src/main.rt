@@ -8,6 +8,7 @@
 mod case;
 mod dis_case;
 mod fix_case;
+mod list_case;
 mod statement_case;
 mod store_case;
 mod text_case;
@@ -16,6 +17,7 @@ mod tree_case;
 use case::{Case, Outcome, read_case};
 use dis_case::{instruction_text_refused, rows_refused};
 use fix_case::{code_refused, line_alone_refused, values_refused};
+use list_case::section_bytes_refused;
 use statement_case::{Line, expression_refused, statement_refused};
 use std::io;
 use std::io::Read;
@@ -52,6 +54,7 @@ fn main(rt: HostRuntime) -> io::Result<()> {
         Case::LineAlone => line_alone_refused(rt.alloc(), pads),
         Case::InstructionText => instruction_text_refused(rt.alloc(), pads),
         Case::Rows => rows_refused(rt.alloc(), pads),
+        Case::SectionBytes => section_bytes_refused(rt.alloc(), pads),
         Case::Edit(edit) => edit_refused(rt.alloc(), pads, edit),
         Case::Tree(call) => tree_call_refused(rt.alloc(), pads, call),
     };

@@ -1,10 +1,11 @@
 //! The bytes of a line.
 
-ghost use Rattle.std.specs.Prelude.{◌≡◌, ◌<◌, length, replicate, true, Some, IsTrue, ◌↔◌};
+ghost use Rattle.std.specs.Prelude.{◌≡◌, ◌<◌, ◌++◌, length, replicate, true, Some, IsTrue, OnOk, ◌↔◌};
 ghost use Rattle.std.specs.List.{slice_get};
 ghost use Rattle.rv_fix.specs.Padding.{padding};
 
 use crate::line_bytes::LineBytes;
+use std::alloc::AllocError;
 use std::marker::Model;
 
 // How the bytes are kept.
@@ -127,6 +128,33 @@ impl Payload {
                     None
                 }
             }
+        }
+    }
+
+    // Appends the bytes to a list, one after another.
+    fn append_each(&self, list: &mut Vec<u8>) -> Result<(), AllocError>
+        ensures { OnOk result (list.new.items ≡ list.old.items ++ self.now) }
+    {
+        for place in 0..self.len() {
+            let Some(byte) = self.byte(place) else {
+                unreachable!()
+            };
+            list.push(byte)?;
+        }
+        Ok(())
+    }
+
+    /// Appends the bytes to a list.
+    ///
+    /// # Errors
+    ///
+    /// `AllocError` if there is no memory for them.
+    pub fn append_to(&self, list: &mut Vec<u8>) -> Result<(), AllocError>
+        ensures { OnOk result (list.new.items ≡ list.old.items ++ self.now) }
+    {
+        match &self.form {
+            Form::Bytes(bytes) => list.extend_from_slice(bytes.as_slice()),
+            _ => self.append_each(list),
         }
     }
 

@@ -1,6 +1,6 @@
 //! The bytes of a section, one after another.
 
-ghost use Rattle.std.specs.Prelude.{◌≡◌, ◌∷◌, [], ◌+◌, ◌-◌, ◌^◌, ◌<◌, ◌≤◌, take, drop, slice_get, unwrap_or, IfOk, IfSome, IfNone};
+ghost use Rattle.std.specs.Prelude.{◌≡◌, ◌∷◌, [], ◌+◌, ◌-◌, ◌^◌, ◌<◌, ◌≤◌, ◌++◌, take, drop, slice_get, unwrap_or, IfOk, IfSome, IfNone, OnOk};
 ghost use Rattle.std.specs.Option.{option_map};
 ghost use Rattle.rv_layout.specs.Sections.{sections};
 ghost use Rattle.rv_list.specs.Image.{bytes_in, section_bytes};
@@ -124,6 +124,23 @@ fn shown_size<V: View>(view: &V, section: usize) -> usize
     }
 }
 
+// Appends the bytes that line number `k` has in a section.
+fn append_line<V: View>(
+    bytes: &mut Vec<u8>,
+    view: &V,
+    section: usize,
+    k: u32,
+) -> Result<(), AllocError>
+    requires first { 1 ≤ k }
+    requires last { k ≤ (V.shown view.now).count }
+    ensures { OnOk result (bytes.new.items ≡ bytes.old.items ++ bytes_in section ((V.shown view.now).line k)) }
+{
+    match payload_on(view, section, k) {
+        Some(payload) => payload.append_to(bytes),
+        None => Ok(()),
+    }
+}
+
 /// The bytes that the lines of a text have in a section, by the number of the section.
 ///
 /// # Errors
@@ -138,9 +155,8 @@ pub fn section_bytes<V: View>(
     ensures { IfOk result (λ bytes. bytes.items ≡ section_bytes (V.shown view.now) section) }
 {
     let mut bytes = Vec::with_capacity(alloc, shown_size(view, section))?;
-    let mut left = SectionBytes::new(view, section);
-    'taking: while let Some(byte) = left.next() {
-        bytes.push(byte)?;
+    for k in 0..view.line_count() {
+        append_line(&mut bytes, view, section, k + 1)?;
     }
     Ok(bytes)
 }

@@ -4,11 +4,11 @@ use crate::table::{Defined, Row, Table};
 use rv_fix::{AssembleError, Coded, assemble_at};
 use rv_layout::SECTIONS;
 use rv_list::{
-    DefinitionPlace, LinePlace, ListError, SectionPlace, View, write_faults, write_image,
-    write_listing, write_symbols,
+    DefinitionPlace, LinePlace, ListError, SectionPlace, View, push_row, section_bytes,
+    write_faults, write_image, write_listing, write_symbols,
 };
 use rv_stmt::{Sect, read_line};
-use rv_text::{FailsAt, MemSink, Tally};
+use rv_text::{FailsAt, MemSink, OutputBlock, Tally};
 use std::alloc::Global;
 use std::process::Abort;
 use std::test::Fail;
@@ -312,6 +312,54 @@ fn writes_texts(rt: HostRuntime) -> Result<(), Fail> {
             assert!(rt; answer.is_ok());
             assert_eq!(rt; str::from_utf8(sink.bytes()), Ok(*want), "{kind:?}");
         }
+    }
+    Ok(())
+}
+
+// Code, padding of six bytes, and equal bytes.
+const FILLED: Case = Case {
+    lines: &[
+        ("c.nop", Sect::Text, 4096, 2),
+        (".balign 8", Sect::Text, 4098, 6),
+        (".zero 3", Sect::Text, 4104, 3),
+        (".byte 7", Sect::Rodata, 8192, 1),
+    ],
+    sections: [(4096, 11), (8192, 1), (8192, 0), (8192, 0)],
+    names: &[],
+    texts: &[],
+};
+
+// The bytes of sections by their numbers.
+#[test]
+fn gathers_bytes_of_sections(rt: HostRuntime) -> Result<(), Fail> {
+    for (case, section, bytes) in [
+        (EMPTY, 0, b"".as_slice()),
+        (ODD, 0, b"\x01\x13\x05\x15\0\0"),
+        (ODD, 2, b""),
+        (DATA, 0, b""),
+        (DATA, 2, b"\x01\xff\x41\x34\x12\x09\0\0\0hi\n\0\x01\0\0\0\x02\0\0\0\x03\0\0\0"),
+        (FILLED, 0, b"\x01\0\x01\0\x13\0\0\0\0\0\0"),
+        (FILLED, 1, b"\x07"),
+    ] {
+        let table = table(&rt, rt.alloc(), case.lines, case.sections, case.names)?;
+        let found = section_bytes(rt.alloc(), &table, section)?;
+        assert_eq!(rt; found.as_slice(), bytes);
+    }
+    Ok(())
+}
+
+// A row of columns and a text, also of one that is longer than a block.
+#[test]
+fn pushes_rows(rt: HostRuntime) -> Result<(), Fail> {
+    let long = [b'x'; 5000];
+    for text in [b"c.nop".as_slice(), &long] {
+        let mut sink = MemSink::new(rt.alloc(), 6000)?;
+        let mut block = OutputBlock::new();
+        assert!(rt; push_row(&mut block, &mut sink, b"00001000 ", text).is_ok());
+        assert!(rt; block.flush(&mut sink).is_ok());
+        let (columns, rest) = sink.bytes().split_at(9);
+        assert_eq!(rt; columns, b"00001000 ".as_slice());
+        assert_eq!(rt; rest.strip_suffix(b"\n"), Some(text));
     }
     Ok(())
 }

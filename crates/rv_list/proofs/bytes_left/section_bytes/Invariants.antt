@@ -1,10 +1,8 @@
-use Rattle.std.proofs.Common.{◌≡◌, ◌++◌, length}
-use Rattle.rv_list.specs.Image.{section_bytes}
+use Rattle.std.proofs.Common.{◌≡◌, ◌+◌}
+use Rattle.rv_list.specs.Image.{bytes_in}
+use Rattle.rv_list.specs.Joined.{joined}
 use Rattle.rv_list.proofs.bytes_left.section_bytes.Given as goal
 
--- the bytes so far and those that are left are those of the section
-abbrev pub invariant-taking : goal.invariant-taking
-invariant-taking g l = record { whole : l.bytes.items ++ l.left ≡ section_bytes (g.V.View.shown l.view) l.section }
-
-abbrev pub decreases-taking : goal.decreases-taking
-decreases-taking g l = length l.left
+-- the bytes of the lines so far
+abbrev pub invariant-loop-k : goal.invariant-loop-k
+invariant-loop-k g l = l.bytes.items ≡ joined (λ k. bytes_in l.section ((g.V.View.shown l.view).line (k + 1))) l.k

@@ -1,0 +1,41 @@
+//! Calls of `rv_list`.
+
+use crate::case::{Outcome, pad};
+use rv_list::section_bytes;
+use rv_store::Store;
+use rv_text::Tally;
+use std::alloc::{AllocError, Global};
+
+// Whether these are the bytes of `addi a0, a0, 1`.
+fn are_bytes(found: &Result<Vec<u8>, AllocError>) -> bool {
+    match found {
+        Ok(bytes) => bytes.as_slice() == [0x13, 0x05, 0x15, 0x00].as_slice(),
+        Err(_) => false,
+    }
+}
+
+/// `section_bytes` of a text.
+pub fn section_bytes_refused(alloc: Global, pads: u32) -> Outcome {
+    let Ok(mut store) = Store::new(alloc, 0x1000) else {
+        return Outcome::Unprepared;
+    };
+    if store
+        .insert(1, b"addi a0, a0, 1", &mut Tally::new())
+        .is_err()
+    {
+        return Outcome::Unprepared;
+    }
+    if !pad(alloc, pads) {
+        return Outcome::Unprepared;
+    }
+    let first = section_bytes(alloc, &store, 0);
+    if are_bytes(&first) {
+        return Outcome::Made;
+    }
+    let again = section_bytes(alloc, &store, 0);
+    if first.is_err() && are_bytes(&again) {
+        Outcome::Refused
+    } else {
+        Outcome::Wrong
+    }
+}

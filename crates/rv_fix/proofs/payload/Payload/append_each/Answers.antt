@@ -1,0 +1,15 @@
+use Rattle.std.proofs.Common.{◌≡◌, ◌+◌, ◌++◌, [], ◌∷◌, Some, take, slice_get, ap, sym, ◌∙◌, add-one, append_assoc}
+use Rattle.std.proofs.lemmas.Option.{get_or_from_slice_get, slice_get_within}
+use Rattle.std.proofs.Math.Seq.{take-suc}
+use Rattle.rv_fix.proofs.payload.Payload.append_each.Goals as goal
+
+pub loop-place-preserved : goal.loop-place-preserved
+loop-place-preserved c =
+    let bytes = c.args.self.now in
+    let before = c.args.list.now.items in
+    let k = c.loop-place.place in
+    let byte = c.in-Some.byte in
+    let found : slice_get bytes k ≡ Some byte = sym c.in-Some.ensures in
+    let more : take (k + 1) bytes ≡ take k bytes ++ byte ∷ [] =
+    rw add-one (take-suc bytes k byte (slice_get_within bytes k byte found) ∙ ap (λ x. take k bytes ++ x ∷ []) (get_or_from_slice_get bytes k byte byte found)) in
+    c.in_ok-push.ensures.items ∙ ap (λ xs. xs ++ byte ∷ []) c.loop-place.invariant ∙ append_assoc before (take k bytes) (byte ∷ []) ∙ ap (λ xs. before ++ xs) (sym more)
