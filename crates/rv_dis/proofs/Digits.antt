@@ -1,10 +1,8 @@
 -- Hexadecimal digits one by one.
-use Rattle.std.proofs.Common.{◌≡◌, ℕ, zero, suc, ◌*◌, ◌/◌, ◌%◌, ◌^◌, ◌<◌, ◌≤◌, false, cond, List, [], ◌∷◌, ◌++◌, refl, sym, ap, ◌∙◌, ⊎_elim, append_assoc, arith, eq-eqb, ne_eqb}
+use Rattle.std.proofs.Common.{◌≡◌, ℕ, zero, suc, ◌/◌, ◌%◌, ◌^◌, ◌<◌, ◌≤◌, false, cond, List, [], ◌∷◌, ◌++◌, refl, sym, ap, ◌∙◌, ⊎_elim, append_assoc, arith, eq-eqb, ne_eqb}
 use Rattle.std.specs.Fmt.{digits, digits_onto}
-use Rattle.std.proofs.Math.Nat.{div-one}
 use Rattle.std.proofs.lemmas.Bool.{cases_lt}
-use Rattle.std.proofs.lemmas.Nat.{shr-shr}
-use Rattle.rv_text.specs.Rows.{hex, hex_digit}
+use Rattle.rv_text.specs.Rows.{hex_digit}
 
 abbrev spelled : ℕ → ℕ → List ℕ → List ℕ
 spelled k n acc = digits_onto k 16 false n acc

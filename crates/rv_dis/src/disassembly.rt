@@ -1,6 +1,6 @@
 //! The rows of stretches of bytes.
 
-ghost use Rattle.std.specs.Prelude.{◌≡◌, ◌≤◌, ◌++◌, IfOk, IfSome, IfNone, length};
+ghost use Rattle.std.specs.Prelude.{◌≡◌, [], ◌≤◌, ◌++◌, IfOk, IfSome, IfNone, length};
 ghost use Rattle.rv_ops.specs.declared.op.Op.{Op};
 ghost use Rattle.rv_code.specs.declared.instruction.Fields.{Fields};
 ghost use Rattle.rv_code.specs.Encoding.{word_of};
@@ -12,7 +12,7 @@ use crate::error::DisError;
 use crate::laws::rows_give_the_bytes;
 use crate::numbers::push_hexadecimal_of;
 use crate::row::{DisRow, RowText};
-use crate::text::row_text;
+use crate::text::write_instruction;
 use rv_code::{Ins, Word, decode16, decode32};
 use std::alloc::Global;
 
@@ -38,69 +38,61 @@ fn instruction_at(bytes: &[u8]) -> Option<(Ins, Word)>
     }
 }
 
-// The row of an instruction, whose word is given.
-fn instruction_row(address: u32, ins: &Ins, word: Word) -> DisRow
-    requires { word_of ins.now.0 ins.now.1 ≡ word }
-    ensures { result ≡ instruction_row address ins.now.0 ins.now.1 }
+// Makes an empty row that of an instruction, whose word is given.
+fn set_instruction(row: &mut DisRow, ins: &Ins, word: Word)
+    requires word { word_of ins.now.0 ins.now.1 ≡ word }
+    requires text { row.old.text ≡ [] }
+    ensures { row.new ≡ instruction_row row.old.address ins.now.0 ins.now.1 }
 {
     let (value, len) = match word {
         Word::Half(number) => (u32::from(number), 2),
         Word::Full(number) => (number, 4),
     };
-    DisRow {
-        address,
-        value,
-        len,
-        text: row_text(ins, address),
-    }
+    row.value = value;
+    row.len = len;
+    write_instruction(&mut row.text, ins, row.address);
 }
 
-// The text of a number as an operand of a directive.
-fn data_text(directive: &str, digits: u32, value: u32) -> RowText
+// Writes a number as an operand of a directive into an empty text.
+fn write_data(text: &mut RowText, directive: &str, digits: u32, value: u32)
     requires directive { length directive.now ≤ 8 }
     requires digits { digits ≤ 8 }
-    ensures { result ≡ directive.now ++ hexadecimal_of digits value }
+    requires text { text.old ≡ [] }
+    ensures { text.new ≡ directive.now ++ hexadecimal_of digits value }
 {
-    let mut text = RowText::new();
     text.push_str(directive);
-    push_hexadecimal_of(&mut text, digits, value);
-    text
+    push_hexadecimal_of(text, digits, value);
 }
 
-// The row of two bytes with which no instruction begins.
-fn half_row(address: u32, value: u16) -> DisRow
-    ensures { result ≡ half_row address value }
+// Makes an empty row that of two bytes with which no instruction begins.
+fn set_half(row: &mut DisRow, value: u16)
+    requires { row.old.text ≡ [] }
+    ensures { row.new ≡ half_row row.old.address value }
 {
-    let value = u32::from(value);
-    DisRow {
-        address,
-        value,
-        len: 2,
-        text: data_text(".half ", 4, value),
-    }
+    row.value = u32::from(value);
+    row.len = 2;
+    write_data(&mut row.text, ".half ", 4, row.value);
 }
 
-// The row of a last byte without a second.
-fn byte_row(address: u32, value: u8) -> DisRow
-    ensures { result ≡ byte_row address value }
+// Makes an empty row that of a last byte without a second.
+fn set_byte(row: &mut DisRow, value: u8)
+    requires { row.old.text ≡ [] }
+    ensures { row.new ≡ byte_row row.old.address value }
 {
-    let value = u32::from(value);
-    DisRow {
-        address,
-        value,
-        len: 1,
-        text: data_text(".byte ", 2, value),
-    }
+    row.value = u32::from(value);
+    row.len = 1;
+    write_data(&mut row.text, ".byte ", 2, row.value);
 }
 
-// The row that stands first in two bytes or more.
-fn first_row(bytes: &[u8], address: u32) -> DisRow
-    requires { 2 ≤ length bytes.now }
-    ensures { IsFirst address bytes.now result }
+// Makes an empty row the one that stands first in two bytes or more.
+fn set_first(row: &mut DisRow, bytes: &[u8])
+    requires bytes { 2 ≤ length bytes.now }
+    requires text { row.old.text ≡ [] }
+    ensures { IsFirst row.old.address bytes.now row.new }
 {
     match instruction_at(bytes) {
-        Some((ins, word)) => instruction_row(address, &ins, word),
-        None => half_row(address, u16::from_le_bytes([bytes[0], bytes[1]])),
+        Some((ins, word)) => set_instruction(row, &ins, word),
+        None => set_half(row, u16::from_le_bytes([bytes[0], bytes[1]])),
     }
 }
 
@@ -118,13 +110,14 @@ pub fn disassemble(alloc: Global, bytes: &[u8], address: u32) -> Result<Vec<DisR
     let mut at = address;
     let mut rest = bytes;
     while rest.len() >= 2 {
-        let row = first_row(rest, at);
+        let row = rows.push_mut(DisRow::at(at))?;
+        set_first(row, rest);
         at = at.wrapping_add(u32::from(row.len));
         rest = &rest[usize::from(row.len)..];
-        rows.push(row)?;
     }
     if rest.len() == 1 {
-        rows.push(byte_row(at, rest[0]))?;
+        let row = rows.push_mut(DisRow::at(at))?;
+        set_byte(row, rest[0]);
     }
     rows_give_the_bytes();
     Ok(rows)

@@ -68,3 +68,19 @@ pub struct DisRow {
     /// The line that assembles to the bytes: an instruction, `.half` or `.byte`.
     pub text: RowText,
 }
+
+impl DisRow {
+    // A row of no bytes at an address.
+    #[inline]
+    pub(crate) fn at(address: u32) -> Self
+        ensures address { result.address ≡ address }
+        ensures text { result.text ≡ [] }
+    {
+        DisRow {
+            address,
+            value: 0,
+            len: 0,
+            text: RowText::new(),
+        }
+    }
+}

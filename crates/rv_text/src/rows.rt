@@ -23,12 +23,15 @@ impl Model for OutputRow {
     ghost invariant = { λ r. length r.bytes.items ≤ 64 };
 }
 
+// The digits of the numbers below 16.
+const HEX_DIGITS: [u8; 16] = *b"0123456789abcdef";
+
 // The digit of a number below 16, in lower case.
 fn hex_digit(n: u8) -> u8
     requires { n < 16 }
     ensures { result ≡ hex_digit n }
 {
-    if n < 10 { b'0' + n } else { b'a' + (n - 10) }
+    HEX_DIGITS[usize::from(n)]
 }
 
 // The hexadecimal digit at a place of a number, the last at 0.

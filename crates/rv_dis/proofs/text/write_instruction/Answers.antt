@@ -6,21 +6,21 @@ use Rattle.rv_stmt.specs.Forms.{slots_of}
 use Rattle.rv_dis.specs.Text.{after_comma, operand_text, instruction_text}
 use Rattle.rv_dis.proofs.Joining.{name_alone, text_begins, operands_go_on, operands_end}
 use Rattle.rv_dis.proofs.Lengths.{name_short, text_short, first_fits, next_fits}
-use Rattle.rv_dis.proofs.text.row_text.Goals as goal
+use Rattle.rv_dis.proofs.text.write_instruction.Goals as goal
 
 pub push_str-requires : goal.push_str-requires
-push_str-requires c = omega (arith, ap length c.new-out.ensures, ap length c.name_of.ensures.value, name_short c.op.result)
+push_str-requires c = omega (arith, ap length c.requires, ap length c.name_of.ensures.value, name_short c.op.result)
 
 pub returns-in_default : goal.returns-in_default
 returns-in_default c = name_alone c.args.address c.args.ins.now.0 c.args.ins.now.1 c.push_str.new.self c.operand_slots.result.now
-    (c.push_str.ensures ∙ ap (λ xs. xs ++ c.name_of.result.now) c.new-out.ensures ∙ c.name_of.ensures.value ∙ ap operation_name c.op.ensures.value)
+    (c.push_str.ensures ∙ ap (λ xs. xs ++ c.name_of.result.now) c.requires ∙ c.name_of.ensures.value ∙ ap operation_name c.op.ensures.value)
     (c.operand_slots.ensures ∙ ap slots_of (c.shape.ensures ∙ ap shape_of c.op-2.ensures.value))
     c.in_default.len_below
 
 pub push_str-requires-2 : goal.push_str-requires-2
 push_str-requires-2 c =
     let begins = text_begins c.args.address c.args.ins.now.0 c.args.ins.now.1 c.push_str.new.self c.operand_slots.result.now Rd
-    (c.push_str.ensures ∙ ap (λ xs. xs ++ c.name_of.result.now) c.new-out.ensures ∙ c.name_of.ensures.value ∙ ap operation_name c.op.ensures.value)
+    (c.push_str.ensures ∙ ap (λ xs. xs ++ c.name_of.result.now) c.requires ∙ c.name_of.ensures.value ∙ ap operation_name c.op.ensures.value)
     (c.operand_slots.ensures ∙ ap slots_of (c.shape.ensures ∙ ap shape_of c.op-2.ensures.value))
     c.in-len1-up.len_at_least in
     omega (arith, first_fits c.push_str.new.self (operand_text c.args.address (shape_of c.args.ins.now.0) c.args.ins.now.1 (get_or c.operand_slots.result.now 0 Rd)) (after_comma (map (operand_text c.args.address (shape_of c.args.ins.now.0) c.args.ins.now.1) (take (length c.operand_slots.result.now - 1) (drop 1 c.operand_slots.result.now)))) (instruction_text c.args.address c.args.ins.now.0 c.args.ins.now.1) begins (text_short c.args.address c.args.ins.now.0 c.args.ins.now.1 c.op.ensures.fits))
@@ -28,7 +28,7 @@ push_str-requires-2 c =
 pub push_operand-requires : goal.push_operand-requires
 push_operand-requires c =
     let begins = text_begins c.args.address c.args.ins.now.0 c.args.ins.now.1 c.push_str.new.self c.operand_slots.result.now Rd
-    (c.push_str.ensures ∙ ap (λ xs. xs ++ c.name_of.result.now) c.new-out.ensures ∙ c.name_of.ensures.value ∙ ap operation_name c.op.ensures.value)
+    (c.push_str.ensures ∙ ap (λ xs. xs ++ c.name_of.result.now) c.requires ∙ c.name_of.ensures.value ∙ ap operation_name c.op.ensures.value)
     (c.operand_slots.ensures ∙ ap slots_of (c.shape.ensures ∙ ap shape_of c.op-2.ensures.value))
     c.in-len1-up.len_at_least in
     let room = first_fits c.push_str.new.self (operand_text c.args.address (shape_of c.args.ins.now.0) c.args.ins.now.1 (get_or c.operand_slots.result.now 0 Rd)) (after_comma (map (operand_text c.args.address (shape_of c.args.ins.now.0) c.args.ins.now.1) (take (length c.operand_slots.result.now - 1) (drop 1 c.operand_slots.result.now)))) (instruction_text c.args.address c.args.ins.now.0 c.args.ins.now.1) begins (text_short c.args.address c.args.ins.now.0 c.args.ins.now.1 c.op.ensures.fits) in
@@ -37,7 +37,7 @@ push_operand-requires c =
 pub loop-slot-init : goal.loop-slot-init
 loop-slot-init c =
     let begins = text_begins c.args.address c.args.ins.now.0 c.args.ins.now.1 c.push_str.new.self c.operand_slots.result.now Rd
-    (c.push_str.ensures ∙ ap (λ xs. xs ++ c.name_of.result.now) c.new-out.ensures ∙ c.name_of.ensures.value ∙ ap operation_name c.op.ensures.value)
+    (c.push_str.ensures ∙ ap (λ xs. xs ++ c.name_of.result.now) c.requires ∙ c.name_of.ensures.value ∙ ap operation_name c.op.ensures.value)
     (c.operand_slots.ensures ∙ ap slots_of (c.shape.ensures ∙ ap shape_of c.op-2.ensures.value))
     c.in-len1-up.len_at_least in
     rw (c.push_operand.ensures, c.push_str-2.ensures) begins

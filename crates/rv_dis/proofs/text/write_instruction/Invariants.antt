@@ -1,7 +1,7 @@
 use Rattle.std.proofs.Common.{◌≡◌, ◌++◌, drop, map}
 use Rattle.rv_ops.specs.Table.{shape_of}
 use Rattle.rv_dis.specs.Text.{after_comma, operand_text, instruction_text}
-use Rattle.rv_dis.proofs.text.row_text.Given as goal
+use Rattle.rv_dis.proofs.text.write_instruction.Given as goal
 
 -- the text so far, and then the operands that are left, are the whole
 abbrev pub invariant-loop-slot : goal.invariant-loop-slot
