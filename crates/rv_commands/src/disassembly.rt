@@ -1,8 +1,9 @@
 //! The disassembly of `.text`.
 
-ghost use Rattle.std.specs.Prelude.{◌≡◌, ◌-◌, ◌^◌, ◌<◌, ◌≤◌, All, IfOk};
+ghost use Rattle.std.specs.Prelude.{◌≡◌, ◌+◌, ◌*◌, ◌-◌, ◌^◌, ◌<◌, ◌≤◌, ◌++◌, length, All, IfOk};
 ghost use Rattle.std.specs.List.{flat_map};
 ghost use Rattle.rv_text.specs.Blocks.{Gathers};
+ghost use Rattle.rv_text.specs.Rows.{hex};
 ghost use Rattle.rv_text.specs.Streams.{failures_after};
 ghost use Rattle.rv_store.specs.Shown.{shown_of};
 ghost use Rattle.rv_commands.specs.Disassembly.{disassembly_row, disassembly_text, ShowsCode};
@@ -25,6 +26,20 @@ pub fn code_rows(alloc: Global, store: &Store) -> Result<Vec<DisRow>, DisError>
     disassemble(alloc, bytes.as_slice(), store.section(section).base)
 }
 
+// Adds the number of a row to its columns, with two digits for each byte. With a known number of digits there is no loop.
+fn push_value(columns: &mut OutputRow, row: &DisRow)
+    requires size { row.now.len ≤ 4 }
+    requires room { length columns.old + 8 ≤ 64 }
+    ensures text { columns.new ≡ columns.old ++ hex (2 * row.now.len) row.now.value }
+    ensures length { length columns.new ≤ length columns.old + 8 }
+{
+    match row.len {
+        4 => columns.push_hex(8, row.value),
+        2 => columns.push_hex(4, row.value),
+        len => columns.push_hex(2 * len, row.value),
+    }
+}
+
 // Adds a row.
 #[tactic(auto, unfolding(crate::specs::Disassembly::disassembly_row))]
 fn push_code_row<W: Sink>(block: &mut OutputBlock, sink: &mut W, row: &DisRow) -> Result<(), Failed>
@@ -36,7 +51,7 @@ fn push_code_row<W: Sink>(block: &mut OutputBlock, sink: &mut W, row: &DisRow) -
     let mut columns = OutputRow::new();
     columns.push_hex(8, row.address);
     columns.push_text(b" ");
-    columns.push_hex(2 * row.len, row.value);
+    push_value(&mut columns, row);
     columns.push_text(b" ");
     push_row(block, sink, columns.bytes(), row.text.as_str().as_bytes())
 }

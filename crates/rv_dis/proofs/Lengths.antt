@@ -31,7 +31,7 @@ use Rattle.rv_dis.proofs.Digits.{digits_last, digits_step}
 
 -- names of at most so many bytes
 
-row_name_test : (o : Op) → ltb (length (operation_name o)) 13 ≡ true
+row_name_test : (o : Op) → ltb (length (operation_name o)) 11 ≡ true
 unfolding operation_name row_of
 row_name_test Lui = refl
 row_name_test _ = refl
@@ -155,7 +155,7 @@ abbrev most_texts : List Slot → ℕ
 most_texts [] = 0
 most_texts (s ∷ ss) = 2 + (most_text s + most_texts ss)
 
-most_texts_test : (s : Shape) → ltb (most_texts (slots_of s)) 37 ≡ true
+most_texts_test : (s : Shape) → ltb (most_texts (slots_of s)) 31 ≡ true
 unfolding slots_of
 most_texts_test Upper = refl
 most_texts_test _ = refl
@@ -206,25 +206,25 @@ after_name_short : (g : Slot → List ℕ) → ((s : Slot) → length (g s) ≤ 
 after_name_short g h [] = omega arith
 after_name_short g h (s ∷ ss) = omega (arith, length-append (g s) (after_comma (map g ss)), h s, after_comma_short g h ss)
 
-pub name_short : (o : Op) → length (operation_name o) ≤ 12
-name_short o = omega (arith, ltb-true (length (operation_name o)) 13 (row_name_test o))
+pub name_short : (o : Op) → length (operation_name o) ≤ 10
+name_short o = omega (arith, ltb-true (length (operation_name o)) 11 (row_name_test o))
 
 -- a row has room for the text of every instruction
-pub text_short : (a : ℕ) (o : Op) (f : Fields) → Fits o f → length (instruction_text a o f) ≤ 48
+pub text_short : (a : ℕ) (o : Op) (f : Fields) → Fits o f → length (instruction_text a o f) ≤ 40
 unfolding instruction_text
 text_short a o f h =
     let rs1 = class_below (classes_of (shape_of o)).rs1 f.rs1 h.rs1 in
     let each : (slot : Slot) → length (operand_text a (shape_of o) f slot) ≤ most_text slot = λ slot. operand_short a (shape_of o) f slot rs1 (value_small o f h) in
     let operands = map (operand_text a (shape_of o) f) (slots_of (shape_of o)) in
-    omega (arith, length-append (operation_name o) (after_name operands), name_short o, after_name_short (operand_text a (shape_of o) f) each (slots_of (shape_of o)), ltb-true (most_texts (slots_of (shape_of o))) 37 (most_texts_test (shape_of o)))
+    omega (arith, length-append (operation_name o) (after_name operands), name_short o, after_name_short (operand_text a (shape_of o) f) each (slots_of (shape_of o)), ltb-true (most_texts (slots_of (shape_of o))) 31 (most_texts_test (shape_of o)))
 
 -- the first operand has room, with the space before it
-pub first_fits : (name t rest whole : List ℕ) → (name ++ codes " " ++ t) ++ rest ≡ whole → length whole ≤ 48 → length name + (1 + length t) ≤ 48
+pub first_fits : (name t rest whole : List ℕ) → (name ++ codes " " ++ t) ++ rest ≡ whole → length whole ≤ 40 → length name + (1 + length t) ≤ 40
 first_fits name t rest whole e short =
     omega (arith, ap length e, length-append (name ++ codes " " ++ t) rest, length-append (name ++ codes " ") t, length-append name (codes " "))
 
 -- the next operand has room, with the comma before it
-pub next_fits : (g : Slot → List ℕ) (items : List Slot) (i : ℕ) (d : Slot) (out whole : List ℕ) → i < length items → out ++ after_comma (map g (drop i items)) ≡ whole → length whole ≤ 48 → length out + (2 + length (g (get_or items i d))) ≤ 48
+pub next_fits : (g : Slot → List ℕ) (items : List Slot) (i : ℕ) (d : Slot) (out whole : List ℕ) → i < length items → out ++ after_comma (map g (drop i items)) ≡ whole → length whole ≤ 40 → length out + (2 + length (g (get_or items i d))) ≤ 40
 next_fits g items i d out whole within so_far short =
     let rest = after_comma (map g (drop (i + 1) items)) in
     let t = g (get_or items i d) in

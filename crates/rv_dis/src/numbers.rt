@@ -21,7 +21,7 @@ fn hex_digit(n: u32) -> char
 // The last hexadecimal digits of a number, exactly as many as are wanted.
 fn push_last_digits(out: &mut RowText, count: u32, n: u32)
     requires count { count ≤ 8 }
-    requires room { length out.old + count ≤ 48 }
+    requires room { length out.old + count ≤ 40 }
     ensures { out.new ≡ out.old ++ hex count n }
 {
     let mut left = count;
@@ -33,7 +33,7 @@ fn push_last_digits(out: &mut RowText, count: u32, n: u32)
 
 // The hexadecimal digits of a number, without leading zeros.
 fn push_digits(out: &mut RowText, n: u32)
-    requires { length out.old + length (digits 16 false n) ≤ 48 }
+    requires { length out.old + length (digits 16 false n) ≤ 40 }
     ensures { out.new ≡ out.old ++ digits 16 false n }
 {
     if n >= 16 {
@@ -44,7 +44,7 @@ fn push_digits(out: &mut RowText, n: u32)
 
 /// `0x` and the hexadecimal digits of a number, without leading zeros. There must be room.
 pub fn push_hexadecimal(out: &mut RowText, n: u32)
-    requires { length out.old + length (hexadecimal n) ≤ 48 }
+    requires { length out.old + length (hexadecimal n) ≤ 40 }
     ensures { out.new ≡ out.old ++ hexadecimal n }
 {
     out.push_str("0x");
@@ -55,7 +55,7 @@ pub fn push_hexadecimal(out: &mut RowText, n: u32)
 #[inline(never)]
 pub fn push_hexadecimal_of(out: &mut RowText, count: u32, n: u32)
     requires count { count ≤ 8 }
-    requires room { length out.old + length (hexadecimal_of count n) ≤ 48 }
+    requires room { length out.old + length (hexadecimal_of count n) ≤ 40 }
     ensures { out.new ≡ out.old ++ hexadecimal_of count n }
 {
     out.push_str("0x");
@@ -64,7 +64,7 @@ pub fn push_hexadecimal_of(out: &mut RowText, count: u32, n: u32)
 
 /// A number in decimal, with `-` where it is negative. There must be room.
 pub fn push_decimal(out: &mut RowText, n: i32)
-    requires { length out.old + length (signed_decimal n) ≤ 48 }
+    requires { length out.old + length (signed_decimal n) ≤ 40 }
     ensures { out.new ≡ out.old ++ signed_decimal n }
 {
     let mut buffer = Buffer::new();

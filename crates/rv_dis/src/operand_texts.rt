@@ -28,7 +28,7 @@ fn target(address: u32, displacement: i32) -> u32
 
 // An immediate.
 fn push_immediate(out: &mut RowText, shape: Shape, value: i32)
-    requires { length out.old + length (immediate_text shape value) ≤ 48 }
+    requires { length out.old + length (immediate_text shape value) ≤ 40 }
     ensures { out.new ≡ out.old ++ immediate_text shape value }
 {
     match shape {
@@ -39,7 +39,7 @@ fn push_immediate(out: &mut RowText, shape: Shape, value: i32)
 
 // `offset(register)`.
 fn push_memory(out: &mut RowText, offset: i32, base: Reg)
-    requires { length out.old + length (memory_text offset base) ≤ 48 }
+    requires { length out.old + length (memory_text offset base) ≤ 40 }
     ensures { out.new ≡ out.old ++ memory_text offset base }
 {
     push_decimal(out, offset);
@@ -63,7 +63,7 @@ fn known_csr(number: u32) -> Option<&'static str>
 
 // A control and status register.
 fn push_csr(out: &mut RowText, number: u32)
-    requires { length out.old + length (csr_text (csr_name number) number) ≤ 48 }
+    requires { length out.old + length (csr_text (csr_name number) number) ≤ 40 }
     ensures { out.new ≡ out.old ++ csr_text (csr_name number) number }
 {
     match known_csr(number) {
@@ -74,7 +74,7 @@ fn push_csr(out: &mut RowText, number: u32)
 
 // A set of a fence.
 fn push_set(out: &mut RowText, set: Reg)
-    requires { length out.old + length (set_text (set_name set)) ≤ 48 }
+    requires { length out.old + length (set_text (set_name set)) ≤ 40 }
     ensures { out.new ≡ out.old ++ set_text (set_name set) }
 {
     match set_name(set) {
@@ -85,7 +85,7 @@ fn push_set(out: &mut RowText, set: Reg)
 
 /// An operand of an instruction at an address.
 pub fn push_operand(out: &mut RowText, ins: &Ins, slot: Slot, address: u32)
-    requires { length out.old + length (operand_text address (shape_of ins.now.0) ins.now.1 slot) ≤ 48 }
+    requires { length out.old + length (operand_text address (shape_of ins.now.0) ins.now.1 slot) ≤ 40 }
     ensures { out.new ≡ out.old ++ operand_text address (shape_of ins.now.0) ins.now.1 slot }
 {
     let fields = ins.fields();

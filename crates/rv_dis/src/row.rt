@@ -5,10 +5,10 @@ ghost use Rattle.std.specs.Prelude.{◌≡◌, ◌+◌, ◌<◌, ◌≤◌, [], 
 use arrayvec::ArrayString;
 use std::marker::Model;
 
-/// The text of a row, of at most 48 bytes, which lie in the row itself. Contracts see its bytes.
+/// The text of a row, of at most 40 bytes, which lie in the row itself. Contracts see its bytes.
 #[derive(Drop)]
 pub struct RowText {
-    text: ArrayString<48>,
+    text: ArrayString<40>,
 }
 
 impl Model for RowText {
@@ -32,7 +32,7 @@ impl RowText {
     // Appends a text, for which there must be room.
     #[inline]
     pub(crate) fn push_str(&mut self, text: &str)
-        requires { length self.old + length text.now ≤ 48 }
+        requires { length self.old + length text.now ≤ 40 }
         ensures { self.new ≡ self.old ++ text.now }
     {
         self.text.push_str(text);
@@ -41,7 +41,7 @@ impl RowText {
     // Appends an ASCII character, for which there must be room.
     #[inline]
     pub(crate) fn push(&mut self, c: char)
-        requires room { length self.old < 48 }
+        requires room { length self.old < 40 }
         requires ascii { c < 128 }
         ensures { self.new ≡ self.old ++ c ∷ [] }
     {
@@ -63,10 +63,10 @@ pub struct DisRow {
     pub address: u32,
     /// The number that its bytes are, the lowest first.
     pub value: u32,
-    /// How many bytes it has: 4, 2 or 1.
-    pub len: u8,
     /// The line that assembles to the bytes: an instruction, `.half` or `.byte`.
     pub text: RowText,
+    /// How many bytes it has: 4, 2 or 1.
+    pub len: u8,
 }
 
 impl DisRow {
@@ -79,8 +79,8 @@ impl DisRow {
         DisRow {
             address,
             value: 0,
-            len: 0,
             text: RowText::new(),
+            len: 0,
         }
     }
 }

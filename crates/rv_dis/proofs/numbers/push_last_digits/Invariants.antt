@@ -6,7 +6,7 @@ use Rattle.rv_dis.proofs.numbers.push_last_digits.Given as goal
 abbrev pub invariant-loop-left : goal.invariant-loop-left
 invariant-loop-left l = record {
   few : l.left ≤ 8;
-  room : length l.out + l.left ≤ 48;
+  room : length l.out + l.left ≤ 40;
   text : l.out ++ hex l.left l.n ≡ l.initial.out ++ hex l.count l.n;
 }
 
