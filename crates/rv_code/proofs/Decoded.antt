@@ -1,7 +1,7 @@
 -- A word has at most one instruction, and the row of its operation has it.
 use Rattle.std.proofs.Common.{◌≡◌, ℕ, ◌-◌, ◌%◌, ◌<◌, refl, arith, bit_and, sym, ap, subst, ◌∙◌, Bool, true, false, nat_eq, cond, List, [], ◌∷◌, zero, suc, length, get_or, true≢false, Option, Some, None}
 use Rattle.std.specs.Option.{IfSome}
-use Rattle.std.specs.Prelude.{IfNone}
+use Rattle.std.specs.Prelude.{IfNone, IsSome, ◌↔◌}
 use Rattle.rv_ops.specs.declared.op.Op.{Op}
 use Rattle.rv_ops.specs.TableLaws.{row_of-operation}
 use Rattle.rv_ops.specs.Table.{no_row, number_of, row_of, fixed_of, mask_of, shape_of, is_full}
@@ -25,9 +25,7 @@ fields_at-word : (o : Op) (f : Fields) (w : ℕ) → IsInstruction o f w → fie
 fields_at-word o f w h = ap (fields_at (shape_of o)) (sym h.word) ∙ fields_at-encoding o f h.fits
 
 is_word_of : (o : Op) (f : Fields) (w : ℕ) → IsInstruction o f w → IsWordOf o w
-is_word_of o f w h =
-    let e = fields_at-word o f w h in
-    record { fits = subst (Fits o) (sym e) h.fits; word = ap (encoding_of o) e ∙ h.word }
+is_word_of o f w h = subst (Fits o) (sym (fields_at-word o f w h)) h.fits
 
 -- one number has one instruction
 pub one : (o p : Op) (f g : Fields) (w : ℕ) → IsInstruction o f w → IsInstruction p g w → ◌≡◌ {A = Op × Fields} (o, f) (p, g)
@@ -90,6 +88,11 @@ module _ (o : Op) (f : Fields) (w : ℕ) (h : IsInstruction o f w) where
 -- what the search for an instruction says of it
 abbrev IsFound : ℕ → Op × Fields → Type 0
 IsFound w i = Fits i.0 i.1 × (encoding_of i.0 i.1 ≡ w)
+
+-- what an operation takes of the fields that a word has is found
+pub found_fields : (r : Option (Op × Fields)) (o : Op) (f : Fields) (w : ℕ) → encoding_of o f ≡ w → (IsSome r ↔ Fits o f) → IfSome r (λ i. i ≡ (o, f)) → IfSome r (IsFound w)
+found_fields None o f w e fits same = tt
+found_fields (Some i) o f w e fits same = subst (IsFound w) (sym same) (fits.0 refl, e)
 
 pub found_full : (r : Option (Op × Fields)) (w : ℕ) → nat_eq (w % 4) 3 ≡ true → IfSome r (IsFound w) → IfSome r (λ i. Fits i.0 i.1 × (word_of i.0 i.1 ≡ Full w))
 found_full None w low h = tt

@@ -1,15 +1,19 @@
 -- The row of each operation stands in the group of its words.
-use Rattle.std.proofs.Common.{◌≡◌, ℕ, ◌+◌, ◌-◌, ◌/◌, ◌%◌, ◌<◌, ◌≤◌, refl, arith, bit_and, sym, ap, ◌∙◌, Bool, true, false, cond, ◌&&◌, nat_eq, ltb, leb, ltb-true, leb-true, eqb-true, List, map, take, drop, length, get_or, get_or-take, get_or-drop, length-drop}
-use Rattle.std.proofs.lemmas.Bool.{and_parts}
+use Rattle.std.proofs.Common.{◌≡◌, ℕ, ◌+◌, ◌-◌, ◌/◌, ◌%◌, ◌^◌, ◌<◌, ◌≤◌, refl, arith, bit_and, sym, ap, ◌∙◌, Bool, true, false, cond, ◌&&◌, ◌||◌, nat_eq, ltb, leb, ltb-true, leb-true, eqb-true, zero, suc, lt-ltb, List, [], ◌∷◌, map, take, drop, length, get_or, get_or-take, get_or-drop, length-drop}
+use Rattle.std.proofs.lemmas.Bool.{and_parts, false≢true}
 use Rattle.std.proofs.lemmas.List.{take-map, drop-map, get_or-map, length-map, length-take}
 use Rattle.std.proofs.lemmas.Nat.{and_assoc}
+use Rattle.std.specs.Cmp.Derive.{both_true}
+use Rattle.std.specs.List.{list_all}
+use Rattle.std.specs.Prelude.{slice_index_or}
+use Rattle.rv_code.specs.declared.groups.TheConstants.{FULL_GROUPS, HALF_GROUPS}
 use Rattle.rv_ops.specs.declared.op.Op.{Op}
 use Rattle.rv_ops.specs.declared.op.Op.TheVariants.{Lui}
 use Rattle.rv_ops.specs.declared.table.TheConstants.{TABLE}
 use Rattle.rv_ops.specs.Table.{no_row, number_of, row_of, fixed_of, mask_of, is_full}
 use Rattle.rv_ops.specs.TableLaws.{number_of-below}
-use Rattle.rv_code.specs.Decoding.{code_of}
-use Rattle.rv_code.specs.Groups.{table_codes, codes_of_group, full_number, half_number, full_group, half_group}
+use Rattle.rv_code.specs.Decoding.{Code, code_of, is_code_for}
+use Rattle.rv_code.specs.Groups.{table_codes, codes_of_group, codes_of_full_group, codes_of_half_group, full_number, half_number, full_group, half_group}
 
 -- what a part of some rows is mapped to
 pub mapped_part : {A B : Type 0} (f : A → B) (part rows : List A) (mapped : List B) (first count : ℕ) → part ≡ take count (drop first rows) → map f rows ≡ mapped → map f part ≡ take count (drop first mapped)
@@ -94,3 +98,61 @@ half_row o w half e =
     let same : half_number (fixed_of o) ≡ half_number w = ap (λ n. n / 2048 + n % 4) (same_bits w (mask_of o) (fixed_of o) 0xe003 e h.mask) in
     let its : HasRow o (half_group (fixed_of o)) = record { first = h.first; end = h.end } in
     rw same at its
+
+-- the fixed bits and the mask of a code are those of its operation, and the word has no more bits than its encodings
+pub record IsCodeFor (w : ℕ) (c : Code) : Type 0 where
+  pub fixed : c.1 ≡ fixed_of c.0
+  pub mask : c.2 ≡ mask_of c.0
+  pub size : is_full c.0 ≡ false → w < 2 ^ 16
+
+pub is_code_for-true : (w : ℕ) (c : Code) → is_code_for w c ≡ true → IsCodeFor w c
+is_code_for-true w c e =
+    let size = is_full c.0 || ltb w (2 ^ 16) in
+    let parts = and_parts (nat_eq c.1 (fixed_of c.0)) (nat_eq c.2 (mask_of c.0) && size) e in
+    let more = and_parts (nat_eq c.2 (mask_of c.0)) size parts.1 in
+    record {
+      fixed = eqb-true _ _ parts.0;
+      mask = eqb-true _ _ more.0;
+      size = λ half. ltb-true w (2 ^ 16) (ap (λ full. full || ltb w (2 ^ 16)) (sym half) ∙ more.1);
+    }
+
+of_size : (fixed mask full v w : Bool) → (v ≡ true → w ≡ true) → (fixed && (mask && (full || v))) ≡ true → (fixed && (mask && (full || w))) ≡ true
+of_size true true true v w h e = refl
+of_size true true false v w h e = h e
+of_size true false full v w h e = absurd (cc)
+of_size false mask full v w h e = absurd (cc)
+
+all_of_size : (v w : ℕ) (cs : List Code) → (ltb v (2 ^ 16) ≡ true → ltb w (2 ^ 16) ≡ true) → list_all (is_code_for v) cs ≡ true → list_all (is_code_for w) cs ≡ true
+all_of_size v w [] h e = refl
+all_of_size v w (c ∷ cs) h e =
+    let parts = and_parts (is_code_for v c) (list_all (is_code_for v) cs) e in
+    both_true (of_size (nat_eq c.1 (fixed_of c.0)) (nat_eq c.2 (mask_of c.0)) (is_full c.0) (ltb v (2 ^ 16)) (ltb w (2 ^ 16)) h parts.0) (all_of_size v w cs h parts.1)
+
+in_groups : (p : ℕ × ℕ → Bool) (gs : List (ℕ × ℕ)) (number : ℕ) (d : ℕ × ℕ) → list_all p gs ≡ true → p d ≡ true → p (slice_index_or gs number d) ≡ true
+in_groups p [] number d all e = e
+in_groups p (g ∷ gs) zero d all e = (and_parts (p g) (list_all p gs) all).0
+in_groups p (g ∷ gs) (suc number) d all e = in_groups p gs number d (and_parts (p g) (list_all p gs) all).1 e
+
+are_codes : ℕ → ℕ × ℕ → Bool
+are_codes w g = list_all (is_code_for w) (codes_of_group g)
+
+full_codes : list_all (are_codes (2 ^ 32)) FULL_GROUPS ≡ true
+unfolding are_codes table_codes row_of
+full_codes = refl
+
+half_codes : list_all (are_codes 0) HALF_GROUPS ≡ true
+unfolding are_codes table_codes row_of
+half_codes = refl
+
+-- the operations of a group have the size of its words
+pub in_full_codes : (cs : List Code) (v w : ℕ) → cs ≡ codes_of_full_group w → list_all (is_code_for v) cs ≡ true
+unfolding are_codes
+in_full_codes cs v w e =
+    ap (list_all (is_code_for v)) e
+    ∙ all_of_size (2 ^ 32) v (codes_of_full_group w) (λ t. absurd (false≢true t)) (in_groups (are_codes (2 ^ 32)) FULL_GROUPS (full_number w) (0, 0) full_codes refl)
+
+pub in_half_codes : (cs : List Code) (v w : ℕ) → cs ≡ codes_of_half_group w → v < 2 ^ 16 → list_all (is_code_for v) cs ≡ true
+unfolding are_codes
+in_half_codes cs v w e h =
+    ap (list_all (is_code_for v)) e
+    ∙ all_of_size 0 v (codes_of_half_group w) (λ t. lt-ltb v (2 ^ 16) h) (in_groups (are_codes 0) HALF_GROUPS (half_number w) (0, 0) half_codes refl)

@@ -2,6 +2,7 @@ pub mod Apart
 pub mod Classes
 pub mod Decoded
 pub mod Examples
+pub mod Filled
 pub mod FittingFields
 pub mod GroupLaws
 pub mod Reach

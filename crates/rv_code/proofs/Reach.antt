@@ -1,7 +1,8 @@
 -- The slices of a layout give its registers no number above 31, and its value no number above thirty bits.
-use Rattle.std.proofs.Common.{◌≡◌, ◌+◌, ◌<◌, ◌^◌, true, refl, ltb, ltb-true}
+use Rattle.std.proofs.Common.{◌≡◌, ◌+◌, ◌<◌, ◌^◌, true, refl, arith, ltb, ltb-true}
 use Rattle.rv_ops.specs.declared.op.Shape.{Shape}
 use Rattle.rv_ops.specs.declared.op.Shape.TheVariants.{Upper}
+use Rattle.rv_ops.specs.declared.layouts.Field.{Field}
 use Rattle.rv_ops.specs.declared.layouts.Field.TheVariants.{Rd, Rs1, Rs2, Value}
 use Rattle.rv_ops.specs.Table.{layout_of, classes_of, slices_of}
 use Rattle.rv_code.specs.Decoding.{first_of, reach}
@@ -37,3 +38,9 @@ value_reach_test _ = refl
 
 pub value_reach : (s : Shape) → reach Value (slices_of s) < 2 ^ 30
 value_reach s = ltb-true _ _ (value_reach_test s)
+
+pub field_reach : (s : Shape) (f : Field) → reach f (slices_of s) < 2 ^ 30
+field_reach s Rd = let most = rd_reach s in omega (arith, most)
+field_reach s Rs1 = let most = rs1_reach s in omega (arith, most)
+field_reach s Rs2 = let most = rs2_reach s in omega (arith, most)
+field_reach s Value = value_reach s

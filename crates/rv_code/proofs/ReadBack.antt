@@ -12,7 +12,7 @@ use Rattle.rv_code.proofs.Shapes.{FitsShape, IsRead, mask_of_shape, same_fields,
 use Rattle.rv_code.proofs.Values.{multiple_back, value_back}
 
 -- the runs of ones of a shape's mask
-abbrev runs_of : Shape → Runs
+abbrev pub runs_of : Shape → Runs
 runs_of Upper = (0, 7) ∷ []
 runs_of Jump = (0, 7) ∷ []
 runs_of JumpRegister = (0, 7) ∷ (5, 3) ∷ []
@@ -45,7 +45,7 @@ runs_of CJumpRegister = (0, 7) ∷ (5, 4) ∷ []
 runs_of CTwoRegisters = (0, 2) ∷ (10, 4) ∷ []
 runs_of CStoreStack = (0, 2) ∷ (11, 3) ∷ []
 
-runs-mask : (s : Shape) → mask_of_runs (runs_of s) ≡ mask_of_shape s
+pub runs-mask : (s : Shape) → mask_of_runs (runs_of s) ≡ mask_of_shape s
 unfolding mask_of_shape layout_of
 runs-mask Upper = refl
 runs-mask _ = refl

@@ -12,7 +12,7 @@ use Rattle.rv_code.proofs.Runs.{and_ones}
 use Rattle.rv_code.proofs.Shapes.{IsRead, fits_shape, mask_of_shape}
 
 -- the mask of the row is that of its shape
-mask-shape : (o : Op) → mask_of o ≡ mask_of_shape (shape_of o)
+pub mask-shape : (o : Op) → mask_of o ≡ mask_of_shape (shape_of o)
 unfolding row_of layout_of mask_of_shape
 mask-shape Lui = refl
 mask-shape _ = refl

@@ -31,9 +31,13 @@ fits_shape o f h = record {
   value = in_limits _ _ h.value;
 }
 
--- the bits that no field fills: the first 13 shapes have 32 bits, the others 16
+-- how many bits the encodings of a shape have: the first 13 shapes have 32, the others 16
+abbrev pub size_of_shape : Shape → ℕ
+size_of_shape s = cond (ltb (tag_of shape_type s) 13) 32 16
+
+-- the bits that no field fills
 unfoldable pub mask_of_shape : Shape → ℕ
-mask_of_shape s = cond (ltb (tag_of shape_type s) 13) (2 ^ 32 - 1) (2 ^ 16 - 1) - room (slices_of s)
+mask_of_shape s = 2 ^ size_of_shape s - 1 - room (slices_of s)
 
 -- a word of these fixed bits and fields gives them back
 pub record IsRead (s : Shape) (n : ℕ) (f : Fields) : Type 0 where

@@ -1,7 +1,7 @@
 -- Reading a word as an instruction of an operation. No public contract cites these definitions: they serve the
 -- private steps of decoding.
 use denote.Enum.Declared.{tag_of}
-use Rattle.std.specs.Prelude.{◌≡◌, ℕ, ℤ, pos, ◌+◌, ◌-◌, ◌*◌, ◌/◌, ◌%◌, ◌^◌, ◌-ℤ◌, List, [], ◌∷◌, nat_eq, int_lt, cond, bit_and}
+use Rattle.std.specs.Prelude.{◌≡◌, ℕ, ℤ, pos, ◌+◌, ◌-◌, ◌*◌, ◌/◌, ◌%◌, ◌^◌, ◌-ℤ◌, List, [], ◌∷◌, Bool, ◌&&◌, ◌||◌, nat_eq, nat_lt, slice_index_or, int_lt, cond, bit_and}
 use Rattle.rv_ops.specs.declared.op.Op.{Op}
 use Rattle.rv_ops.specs.declared.op.Shape.{Shape}
 use Rattle.rv_ops.specs.declared.layouts.Field.{Field}
@@ -11,14 +11,18 @@ use Rattle.rv_ops.specs.declared.layouts.RegisterClass.TheVariants.{Absent, Any,
 use Rattle.rv_ops.specs.contracts.layouts.Field.{the_type as field_type}
 use Rattle.rv_ops.specs.declared.layouts.FieldSlice.{FieldSlice}
 use Rattle.rv_ops.specs.declared.layouts.SignExtension.{SignExtension}
-use Rattle.rv_ops.specs.Table.{Row, shape_of, classes_of, sign_of, slices_of}
+use Rattle.rv_ops.specs.Table.{Row, fixed_of, is_full, mask_of, shape_of, classes_of, sign_of, slices_of}
 use Rattle.rv_code.specs.declared.instruction.Fields.{Fields}
-use Rattle.rv_code.specs.Encoding.{Fits, encoding_of}
+use Rattle.rv_code.specs.Encoding.{Fits}
 
 -- the bits of a slice at their places in the field, if it is a slice of this one
 abbrev pub bits_from_slice : Field → ℕ → FieldSlice → ℕ
 bits_from_slice field w s =
     cond (nat_eq (tag_of field_type field) (tag_of field_type s.field)) ((w / 2 ^ s.word_bit % 2 ^ s.width) * 2 ^ s.field_bit) 0
+
+-- the number of a field, in a list of one for each in their order
+abbrev pub number_at : Field → List ℕ → ℕ
+number_at field numbers = slice_index_or numbers (tag_of field_type field) 0
 
 -- all of them together
 abbrev pub gathered : Field → ℕ → List FieldSlice → ℕ
@@ -47,10 +51,9 @@ fields_at s w = record {
   value = value_of (sign_of s) (gathered Value w (slices_of s));
 }
 
--- the operation takes the fields that the word has by its shape, and the word is their encoding
-pub record IsWordOf (o : Op) (w : ℕ) : Type 0 where
-  pub fits : Fits o (fields_at (shape_of o) w)
-  pub word : encoding_of o (fields_at (shape_of o) w) ≡ w
+-- the operation takes the fields that the word has by its shape
+abbrev pub IsWordOf : Op → ℕ → Type 0
+IsWordOf o w = Fits o (fields_at (shape_of o) w)
 
 -- an operation with its fixed bits and their mask
 abbrev pub Code : Type 0
@@ -60,7 +63,11 @@ Code = Op × ℕ × ℕ
 abbrev pub code_of : Row → Code
 code_of row = (row.0, row.3, row.4)
 
--- the word encodes none of the operations, nor can it encode one whose fixed bits it lacks
+-- the fixed bits and the mask are those of the operation, and the word has no more bits than its encodings
+abbrev pub is_code_for : ℕ → Code → Bool
+is_code_for w c = nat_eq c.1 (fixed_of c.0) && (nat_eq c.2 (mask_of c.0) && (is_full c.0 || nat_lt w (2 ^ 16)))
+
+-- no operation whose fixed bits the word has takes the fields of the word
 abbrev pub IsWordOfNone : List Code → ℕ → Type 0
 IsWordOfNone [] w = Unit
 IsWordOfNone (c ∷ cs) w = (bit_and w c.2 ≡ c.1 → IsWordOf c.0 w → ⊥) × IsWordOfNone cs w

@@ -1,22 +1,20 @@
 //! The instructions that words encode.
-ghost use Rattle.std.specs.Prelude.{◌≡◌, ◌+◌, ◌<◌, ◌≤◌, ◌^◌, ◌≤ℤ◌, IsTrue, Some, IfSome, IfNone, map, pos, negsuc, bit_and};
+ghost use Rattle.std.specs.Prelude.{◌≡◌, ◌+◌, ◌<◌, ◌≤◌, ◌^◌, ◌≤ℤ◌, IsTrue, false, Some, IfSome, IfNone, map, pos, negsuc, bit_and};
 ghost use Rattle.std.specs.List.{list_all};
+ghost use Rattle.rv_ops.specs.declared.layouts.Field.{Field};
 ghost use Rattle.rv_ops.specs.declared.layouts.Field.TheVariants.{Rd, Rs1, Rs2, Value};
 ghost use Rattle.rv_ops.specs.declared.op.Op.{Op};
 ghost use Rattle.rv_ops.specs.Room.{is_slice};
-ghost use Rattle.rv_ops.specs.Table.{shape_of};
+ghost use Rattle.rv_ops.specs.Table.{fixed_of, is_full, mask_of, shape_of};
 ghost use Rattle.rv_code.specs.declared.instruction.Fields.{Fields};
 ghost use Rattle.rv_code.specs.declared.word.Word.TheVariants.{Half, Full};
 ghost use Rattle.rv_code.specs.Encoding.{Fits, encoding_of, word_of};
-ghost use Rattle.rv_code.specs.Decoding.{IsWordOf, IsWordOfNone, bits_from_slice, fields_at, first_of, gathered, most_from_slice, reach, value_of};
+ghost use Rattle.rv_code.specs.Decoding.{IsWordOf, IsWordOfNone, bits_from_slice, fields_at, first_of, gathered, is_code_for, most_from_slice, number_at, reach, value_of};
 
-use crate::encoding::{bits, cut};
-use crate::fitting::fits;
+use crate::encoding::cut;
 use crate::groups::{full_rows, half_rows};
 use crate::instruction::{Fields, Ins};
-use rv_ops::{
-    Field, FieldSlice, Op, Reg, RegisterClass, SignExtension, TableRow, classes, sign, slices,
-};
+use rv_ops::{FieldSlice, Op, Reg, RegisterClass, SignExtension, TableRow, classes, sign, slices};
 
 /// What the slices of a word give each field.
 #[derive(Clone, Copy)]
@@ -36,64 +34,20 @@ fn slice_bits(word: u32, slice: &FieldSlice) -> u32
     cut(word, slice.word_bit, slice.width) << slice.field_bit
 }
 
-/// The bits of one more slice, for its field.
-fn with_slice(fields: Gathered, word: u32, slice: &FieldSlice) -> Gathered
+/// Adds the bits of a slice to the number of its field. There is one for each field, in the order of `Field`.
+fn add_slice(numbers: &mut [u32; 4], word: u32, slice: &FieldSlice)
     requires slice { IsTrue (is_slice slice.now) }
-    requires rd { fields.rd + most_from_slice Rd slice.now < 2 ^ 32 }
-    requires rs1 { fields.rs1 + most_from_slice Rs1 slice.now < 2 ^ 32 }
-    requires rs2 { fields.rs2 + most_from_slice Rs2 slice.now < 2 ^ 32 }
-    requires value { fields.value + most_from_slice Value slice.now < 2 ^ 32 }
-    ensures rd { result.rd ≡ fields.rd + bits_from_slice Rd word slice.now }
-    ensures rs1 { result.rs1 ≡ fields.rs1 + bits_from_slice Rs1 word slice.now }
-    ensures rs2 { result.rs2 ≡ fields.rs2 + bits_from_slice Rs2 word slice.now }
-    ensures value { result.value ≡ fields.value + bits_from_slice Value word slice.now }
-    ensures most_rd { result.rd ≤ fields.rd + most_from_slice Rd slice.now }
-    ensures most_rs1 { result.rs1 ≤ fields.rs1 + most_from_slice Rs1 slice.now }
-    ensures most_rs2 { result.rs2 ≤ fields.rs2 + most_from_slice Rs2 slice.now }
-    ensures most_value { result.value ≤ fields.value + most_from_slice Value slice.now }
+    requires room { (f : Field) → number_at f numbers.old + most_from_slice f slice.now < 2 ^ 32 }
+    ensures value { (f : Field) → number_at f numbers.new ≡ number_at f numbers.old + bits_from_slice f word slice.now }
+    ensures most { (f : Field) → number_at f numbers.new ≤ number_at f numbers.old + most_from_slice f slice.now }
 {
-    let bits = slice_bits(word, slice);
-    let Gathered {
-        rd,
-        rs1,
-        rs2,
-        value,
-    } = fields;
-    match slice.field {
-        Field::Rd => Gathered {
-            rd: rd + bits,
-            rs1,
-            rs2,
-            value,
-        },
-        Field::Rs1 => Gathered {
-            rd,
-            rs1: rs1 + bits,
-            rs2,
-            value,
-        },
-        Field::Rs2 => Gathered {
-            rd,
-            rs1,
-            rs2: rs2 + bits,
-            value,
-        },
-        Field::Value => Gathered {
-            rd,
-            rs1,
-            rs2,
-            value: value + bits,
-        },
-    }
+    numbers[slice.field as usize] += slice_bits(word, slice);
 }
 
 /// The fields of a word: what the slices of each add up to.
 fn gather(word: u32, mut slices: &[FieldSlice]) -> Gathered
     requires slices { IsTrue (list_all is_slice slices.now) }
-    requires rd { reach Rd slices.now < 2 ^ 30 }
-    requires rs1 { reach Rs1 slices.now < 2 ^ 30 }
-    requires rs2 { reach Rs2 slices.now < 2 ^ 30 }
-    requires value { reach Value slices.now < 2 ^ 30 }
+    requires reach { (f : Field) → reach f slices.now < 2 ^ 30 }
     ensures rd { result.rd ≡ gathered Rd word slices.entry.now }
     ensures rs1 { result.rs1 ≡ gathered Rs1 word slices.entry.now }
     ensures rs2 { result.rs2 ≡ gathered Rs2 word slices.entry.now }
@@ -103,28 +57,29 @@ fn gather(word: u32, mut slices: &[FieldSlice]) -> Gathered
     ensures most_rs2 { result.rs2 ≤ reach Rs2 slices.entry.now }
     ensures most_value { result.value ≤ reach Value slices.entry.now }
 {
-    let mut fields = Gathered {
-        rd: 0,
-        rs1: 0,
-        rs2: 0,
-        value: 0,
-    };
+    let mut numbers = [0; 4];
     while let [slice, rest @ ..] = slices {
-        fields = with_slice(fields, word, slice);
+        add_slice(&mut numbers, word, slice);
         slices = rest;
     }
-    fields
+    let [rd, rs1, rs2, value] = numbers;
+    Gathered {
+        rd,
+        rs1,
+        rs2,
+        value,
+    }
 }
+
+/// The register for which the bits 0 stand, for each class: x8 where there are three bits.
+const FIRSTS: [u32; 6] = [0, 0, 0, 0, 8, 0];
 
 /// The number of the register for which the bits 0 stand.
 fn first(class: RegisterClass) -> u32
     ensures value { result ≡ first_of class }
     ensures most { result ≤ 8 }
 {
-    match class {
-        RegisterClass::Prime => 8,
-        _ => 0,
-    }
+    FIRSTS[class as usize]
 }
 
 /// The register for which a number in the word stands.
@@ -133,7 +88,8 @@ fn register(class: RegisterClass, number: u32) -> Reg
     ensures { result ≡ first_of class + number }
 {
     let number = first(class) + number;
-    let Some(register) = Reg::new(number as u8) else {
+    // It is below 32; the remainder lets the compiler see that it is.
+    let Some(register) = Reg::new((number % 32) as u8) else {
         unreachable!()
     };
     register
@@ -168,23 +124,21 @@ fn fields_of(op: Op, word: u32) -> Fields
     }
 }
 
-/// The instruction of the operation that a word encodes, if it does.
+/// The instruction of an operation whose fixed bits a word has, if the operation takes the fields of the word.
+#[inline(always)]
 fn instruction_of(op: Op, word: u32) -> Option<Ins>
+    requires fixed { bit_and word (mask_of op) ≡ fixed_of op }
+    requires size { is_full op ≡ false → word < 2 ^ 16 }
     ensures found { IfSome result (λ i. Fits i.0 i.1 × (encoding_of i.0 i.1 ≡ word)) }
     ensures none { IfNone result (IsWordOf op word → ⊥) }
 {
-    let fields = fields_of(op, word);
-    if !fits(op, &fields) {
-        return None;
-    }
-    if bits(op, &fields) != word {
-        return None;
-    }
-    Some(Ins::new(op, fields))
+    Ins::try_new(op, fields_of(op, word))
 }
 
-/// The instruction of a row that a word encodes, if it does. Most words fail the test of the fixed bits.
+/// The instruction of a row that a word encodes, if it does.
+#[inline(always)]
 fn instruction_of_row(row: &TableRow, word: u32) -> Option<Ins>
+    requires { IsTrue (is_code_for word (row.now.0, row.now.3, row.now.4)) }
     ensures found { IfSome result (λ i. Fits i.0 i.1 × (encoding_of i.0 i.1 ≡ word)) }
     ensures none { IfNone result (bit_and word row.now.4 ≡ row.now.3 → IsWordOf row.now.0 word → ⊥) }
 {
@@ -195,7 +149,9 @@ fn instruction_of_row(row: &TableRow, word: u32) -> Option<Ins>
 }
 
 /// The instruction that a word encodes by the first row that has one.
+#[inline(always)]
 fn first_instruction(mut rows: &[TableRow], word: u32) -> Option<Ins>
+    requires { IsTrue (list_all (is_code_for word) (map (λ row. (row.0, row.3, row.4)) rows.now)) }
     ensures found { IfSome result (λ i. Fits i.0 i.1 × (encoding_of i.0 i.1 ≡ word)) }
     ensures none { IfNone result (IsWordOfNone (map (λ row. (row.0, row.3, row.4)) rows.entry.now) word) }
 {

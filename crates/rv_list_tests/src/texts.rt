@@ -337,7 +337,11 @@ fn gathers_bytes_of_sections(rt: HostRuntime) -> Result<(), Fail> {
         (ODD, 0, b"\x01\x13\x05\x15\0\0"),
         (ODD, 2, b""),
         (DATA, 0, b""),
-        (DATA, 2, b"\x01\xff\x41\x34\x12\x09\0\0\0hi\n\0\x01\0\0\0\x02\0\0\0\x03\0\0\0"),
+        (
+            DATA,
+            2,
+            b"\x01\xff\x41\x34\x12\x09\0\0\0hi\n\0\x01\0\0\0\x02\0\0\0\x03\0\0\0",
+        ),
         (FILLED, 0, b"\x01\0\x01\0\x13\0\0\0\0\0\0"),
         (FILLED, 1, b"\x07"),
     ] {

@@ -1,5 +1,5 @@
 //! The limits of the values.
-ghost use Rattle.std.specs.Prelude.{◌≡◌};
+ghost use Rattle.std.specs.Prelude.{◌≡◌, ◌%◌, nat_eq, unsigned_abs};
 ghost use Rattle.rv_ops.specs.Limits.{is_beyond, is_in_gap, limit_fault};
 
 /// The values that an operation takes: from the least to the greatest, each a multiple of a number, without
@@ -45,6 +45,19 @@ impl Limits {
         self.is_in_gap(value)
     }
 
+    /// Whether a value is a multiple. Where the compiler knows of what, it need not divide, which is slow.
+    fn is_multiple(&self, value: i64) -> bool
+        ensures { result ≡ nat_eq (unsigned_abs value % self.now.multiple) 0 }
+    {
+        let magnitude = value.unsigned_abs();
+        match self.multiple {
+            1 => true,
+            2 => magnitude.is_multiple_of(2),
+            4 => magnitude.is_multiple_of(4),
+            multiple => magnitude.is_multiple_of(multiple),
+        }
+    }
+
     /// What is wrong with a value, if anything. A value that is out of range is not tried for a multiple.
     #[tactic(auto, unfolding(crate::specs::Limits::limit_fault))]
     pub fn fault(&self, value: i64) -> Option<LimitFault>
@@ -52,7 +65,7 @@ impl Limits {
     {
         if self.is_beyond(value) {
             Some(LimitFault::Range)
-        } else if value.unsigned_abs().is_multiple_of(self.multiple) {
+        } else if self.is_multiple(value) {
             None
         } else {
             Some(LimitFault::Multiple)

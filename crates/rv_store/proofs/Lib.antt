@@ -14,12 +14,14 @@ pub mod ImageExamples
 pub mod Items
 pub mod KeptLines
 pub mod LineNameLaws
+pub mod LineSums
 pub mod Lists
 pub mod LocalLines
 pub mod NameRows
 pub mod NextHighs
 pub mod Programs
 pub mod Sameness
+pub mod Renewals
 pub mod ShapeRows
 pub mod ShownLines
 pub mod Stores

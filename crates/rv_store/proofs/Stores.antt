@@ -1,11 +1,11 @@
 -- What a store answers, by what it holds.
 use Rattle.std.proofs.Common.{◌≡◌, ℕ, zero, suc, ◌-◌, ◌<◌, ◌≤◌, ◌==◌, List, length, map, get_or, arith, ap, sym, ◌∙◌, refl, ◌⊎◌, inl, inr, Some, None, slice_get, if◌then◌else◌}
-use Rattle.std.specs.Prelude.{Bool, true, false, nat_le, ◌&&◌}
+use Rattle.std.specs.Prelude.{false}
 use Rattle.std.specs.Option.{option_map}
 use Rattle.std.proofs.lemmas.Bool.{cases_lt, ne_eqb}
 use Rattle.std.proofs.lemmas.Bool.Decides.{nat_tests}
 use Rattle.std.proofs.lemmas.Grind.{common_steps}
-use Rattle.std.proofs.lemmas.Option.{slice_get-get_or, slice_get_past, slice_get-map}
+use Rattle.std.proofs.lemmas.Option.{slice_get-get_or, slice_get_past, slice_get-map, slice_get_cases, get_or_from_slice_get, none-some}
 use Rattle.rv_store.specs.declared.survey.Survey.{Survey}
 use Rattle.rv_store.specs.Program.{Program, for_lines}
 use Rattle.rv_store.specs.Rows.{Grows}
@@ -38,13 +38,6 @@ row_at_line lines f row (suc j) made = rw (past_zero j) (at (cases_lt j (length 
         let past : slice_get row (suc j - 1) ≡ None = ap (slice_get row) place ∙ slice_get_past row j (rw count m) in
         grind (arith, nat_tests, common_steps)
 
-pub map_at_line : {A B : Type 0} (g : A → B) (lines : List (List ℕ)) (k : ℕ) (x : A) → option_map g (at_line lines k x) ≡ at_line lines k (g x)
-map_at_line g lines k x = at (nat_le 1 k && nat_le k (length lines))
-  where
-    at : (b : Bool) → option_map g (if b then Some x else None) ≡ (if b then Some (g x) else None)
-    at true = refl
-    at false = refl
-
 -- more numbered names change nothing
 pub survey_grown : (base : ℕ) (program : Program) (old new : List (List ℕ)) (s : Survey) → Grows old new → IsSurvey base program old s → IsSurvey base program new s
 survey_grown base program old new s grows is = record {
@@ -74,3 +67,22 @@ part_at_line lines f v items zero made = refl
 part_at_line lines f v items (suc j) made =
     let there : (if suc j == 0 then None else slice_get (map v items) (suc j - 1)) ≡ at_line lines (suc j) (f (suc j)) = row_at_line lines f (map v items) (suc j) made in
     rw (past_zero j) (sym (slice_get-map v items (suc j - 1)) ∙ rw (past_zero j) at there)
+
+-- a look-up of a line that there is finds it
+
+pub found_line : {A : Type 0} (xs : List A) (k : ℕ) (x : A) → 1 ≤ k → Some x ≡ (if k == 0 then None else slice_get xs (k - 1)) → x ≡ get_or xs (k - 1) x
+found_line xs zero x first found = absurd (let no : 1 ≤ 0 = first in omega (arith, no))
+found_line xs (suc j) x first found = sym (get_or_from_slice_get xs (suc j - 1) x x (sym (rw (past_zero j) at found)))
+
+pub missing_line : {A : Type 0} (xs : List A) (k : ℕ) → 1 ≤ k → k ≤ length xs → None ≡ (if k == 0 then None else slice_get xs (k - 1)) → ⊥
+missing_line xs zero first last missing = absurd (let no : 1 ≤ 0 = first in omega (arith, no))
+missing_line xs (suc j) first last missing = at (slice_get_cases xs (suc j - 1)).1
+  where
+    at : ((x : _) × (suc j - 1 < length xs) × (slice_get xs (suc j - 1) ≡ Some x) × (get_or xs (suc j - 1) x ≡ x)) ⊎ ((length xs ≤ suc j - 1) × (slice_get xs (suc j - 1) ≡ None)) → ⊥
+    at (inl there) = none-some there.0 (rw (past_zero j) at missing ∙ there.2)
+    at (inr past) = absurd (omega (arith, last, past.0))
+
+-- what is asked of a line that there is, and of one that there isn't
+
+pub at_line_there : {A : Type 0} (lines : List (List ℕ)) (k : ℕ) (x : A) → 1 ≤ k → k ≤ length lines → at_line lines k x ≡ Some x
+at_line_there lines k x first last = grind (arith, nat_tests, common_steps)

@@ -10,12 +10,14 @@ pub mod Items
 pub mod Kept
 pub mod Layout
 pub mod LineNames
+pub mod LineSums
 pub mod Locals
 pub mod NextHighs
 pub mod Pairs
 pub mod Program
 pub mod ReadLines
 pub mod References
+pub mod Renewals
 pub mod Rows
 pub mod Sameness
 pub mod Shown
@@ -24,5 +26,6 @@ pub mod Surveys
 pub mod Symbols
 pub mod Text
 pub mod TextRows
+pub mod TreeRefusals
 pub mod Uses
 pub mod ValueRows

@@ -13,5 +13,6 @@ pub record IsStored (base : ℕ) (lines names : List (List ℕ)) (survey : Surve
   pub based : is_base base ≡ true
   pub lined : AllPass is_line lines
   pub few : length lines ≤ 16384
+  pub listed : survey.lines.items ≡ lines
   pub surveyed : IsSurvey base (program_of lines) names survey
   pub assembled : AreItems base lines items

@@ -2,11 +2,13 @@
 
 ghost use Rattle.std.specs.Prelude.{◌≡◌};
 ghost use Rattle.rv_store.specs.declared.edit_error.EditError.TheVariants.{Memory};
+ghost use Rattle.rv_store.specs.TreeRefusals.{refusal_by_tree};
 ghost use Rattle.rv_store.specs.Text.{refusal_number};
 
 use rv_fix::FixError;
 use rv_stmt::StmtError;
 use rv_text::TextError;
+use rv_tree::TreeError;
 use std::alloc::{AllocError, AllocFailed};
 use thiserror::Error;
 
@@ -82,5 +84,17 @@ impl From<FixError> for EditError {
 
     fn from(_: FixError) -> Self {
         EditError::Memory
+    }
+}
+
+impl From<TreeError> for EditError {
+    ghost from_gives = { λ refused e. e ≡ refusal_by_tree refused };
+
+    fn from(refused: TreeError) -> Self {
+        match refused {
+            TreeError::Place => EditError::Place,
+            TreeError::Full => EditError::TooMany,
+            TreeError::Memory => EditError::Memory,
+        }
     }
 }

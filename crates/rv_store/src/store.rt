@@ -14,17 +14,20 @@ mod shown;
 use crate::base::base_ok;
 use crate::changed::Changed;
 use crate::edit_error::EditError;
-use crate::item::{Item, renewed_all};
+use crate::item::Item;
 use crate::limits::MAX_LINES;
 use crate::line::Line;
 use crate::names::NameTable;
 use crate::refusals::{delete_refused, insert_refused, replace_refused};
+use crate::renewal::renewed_all;
 use crate::survey::Survey;
 use crate::symbols::SymValue;
 use crate::text_rows::address_in;
 use rv_fix::Coded;
+use rv_layout::{layouts_tell_places, place};
 use rv_list::{DefinitionPlace, View};
 use rv_text::Count;
+use rv_tree::SumTree;
 use std::alloc::{AllocError, Global};
 use std::marker::Model;
 
@@ -35,7 +38,7 @@ pub struct Store {
     base: u32,
     names: NameTable,
     survey: Survey,
-    items: Vec<Item>,
+    items: SumTree<Item>,
 }
 
 impl Model for Store {
@@ -50,24 +53,16 @@ impl Model for Store {
     ghost invariant = { λ s. IsStored s.base (map (λ i. i.line) s.items.items) s.names s.survey s.items.items };
 }
 
-// The lines of the items, in a list with room for one more.
-fn shared_lines(alloc: Global, items: &[Item]) -> Result<Vec<Line>, AllocError>
-    requires { length items.now ≤ MAX_LINES }
-    ensures { IfOk result (λ lines. lines.items ≡ map (λ i. i.line) items.now) }
+// The lines once more, in a list with room for one more.
+fn shared_lines(alloc: Global, lines: &[Line]) -> Result<Vec<Line>, AllocError>
+    requires { length lines.now ≤ MAX_LINES }
+    ensures { IfOk result (λ shared. shared.items ≡ lines.now) }
 {
-    let mut lines = Vec::with_capacity(alloc, items.len() + 1)?;
-    for item in items {
-        lines.push(item.line.share()?)?;
+    let mut shared = Vec::with_capacity(alloc, lines.len() + 1)?;
+    for line in lines {
+        shared.push(line.share()?)?;
     }
-    Ok(lines)
-}
-
-// What a row by lines holds for line number `k`, from 1 on.
-fn of_line<T>(row: &[T], k: u32) -> Option<&T>
-    ensures { option_map (λ x. x.now) result ≡ (if k == 0 then None else slice_get row.now (k - 1)) }
-{
-    let at = (k as usize).checked_sub(1)?;
-    row.get(at)
+    Ok(shared)
 }
 
 impl Store {
@@ -85,7 +80,7 @@ impl Store {
             base,
             names: NameTable::new(alloc),
             survey: Survey::empty(alloc),
-            items: Vec::new(alloc),
+            items: SumTree::new(alloc),
         })
     }
 
@@ -94,7 +89,7 @@ impl Store {
         ensures value { result ≡ length self.now.lines }
         ensures few { result ≤ MAX_LINES }
     {
-        self.items.len()
+        self.items.len() as usize
     }
 
     /// Line number `k`, from 1 on, if there is one: at most `MAX_LINE_LENGTH` bytes, none of them 0x0A.
@@ -102,7 +97,7 @@ impl Store {
         ensures value { option_map (λ l. l.now) result ≡ (if k == 0 then None else slice_get self.now.lines (k - 1)) }
         ensures line { IfSome result (λ l. is_line l.now ≡ true) }
     {
-        match of_line(&self.items, k) {
+        match self.items.get(k) {
             Some(item) => Some(item.line.text()),
             None => None,
         }
@@ -112,17 +107,20 @@ impl Store {
     pub fn address(&self, k: u32) -> Option<u32>
         ensures { result ≡ at_line self.now.lines k (address_at self.now.base (program_of self.now.lines) k) }
     {
-        match of_line(&self.survey.places, k) {
-            Some(place) => Some(place.address),
-            None => None,
+        if k == 0 || k > self.items.len() {
+            return None;
         }
+        layouts_tell_places();
+        let before = self.items.prefix(k - 1);
+        let total = self.items.total();
+        Some(place(&before.layout, self.base, &total.layout))
     }
 
     /// The code of line number `k`, if there is such a line: its bytes, and the fault of its body.
     pub fn coded(&self, k: u32) -> Option<&Coded>
         ensures { option_map (λ c. c.now) result ≡ at_line self.now.lines k (code_at self.now.base (program_of self.now.lines) k) }
     {
-        match of_line(&self.items, k) {
+        match self.items.get(k) {
             Some(item) => Some(&item.code),
             None => None,
         }
@@ -142,22 +140,28 @@ impl Store {
         }
     }
 
-    // Makes these lines the text. Where there is no memory for that, the text stays.
-    fn assemble<C: Count>(&mut self, lines: &[Line], counter: &mut C) -> Result<(), EditError>
-        requires few { length lines.now ≤ MAX_LINES }
-        requires lines { AllPass is_line lines.now }
+    // Makes these lines the text; the items are theirs. Where there is no memory for that, the text stays.
+    fn assemble<C: Count>(
+        &mut self,
+        lines: Vec<Line>,
+        items: &SumTree<Item>,
+        counter: &mut C,
+    ) -> Result<(), EditError>
+        requires few { length lines.items ≤ MAX_LINES }
+        requires lines { AllPass is_line lines.items }
+        requires items { map (λ i. i.line) items.now.items ≡ lines.items }
         requires valued { C.valued_count counter.old ≤ 2 ^ 63 }
         requires encoded { C.encoded_count counter.old ≤ 2 ^ 63 }
-        ensures ok { OnOk result (self.new ≡ record { base = self.old.base; lines = lines.now }) }
+        ensures ok { OnOk result (self.new ≡ record { base = self.old.base; lines = lines.items }) }
         ensures err { OnErr result (self.new ≡ self.old) }
         ensures memory { IfErr result (λ e. e ≡ EditError.Memory) }
         ensures parsed { C.parsed_count counter.new ≡ C.parsed_count counter.old }
-        ensures valued { (C.valued_count counter.old ≤ C.valued_count counter.new) × (C.valued_count counter.new ≤ C.valued_count counter.old + 1004 * length lines.now) }
-        ensures encoded { (C.encoded_count counter.old ≤ C.encoded_count counter.new) × (C.encoded_count counter.new ≤ C.encoded_count counter.old + length lines.now) }
+        ensures valued { (C.valued_count counter.old ≤ C.valued_count counter.new) × (C.valued_count counter.new ≤ C.valued_count counter.old + 1004 * length lines.items) }
+        ensures encoded { (C.encoded_count counter.old ≤ C.encoded_count counter.new) × (C.encoded_count counter.new ≤ C.encoded_count counter.old + length lines.items) }
     {
         let survey = Survey::of(self.alloc, self.base, lines, &mut self.names, counter)?;
-        let rows = survey.rows(self.base, lines, &self.names);
-        let items = renewed_all(self.alloc, &rows, counter)?;
+        let rows = survey.rows(self.base, &self.names);
+        let items = renewed_all(self.alloc, &rows, items, counter)?;
         self.survey = survey;
         self.items = items;
         Ok(())
@@ -183,14 +187,16 @@ impl Store {
         ensures valued { (C.valued_count counter.old ≤ C.valued_count counter.new) × (C.valued_count counter.new < C.valued_count counter.old + 2 ^ 32) }
         ensures encoded { (C.encoded_count counter.old ≤ C.encoded_count counter.new) × (C.encoded_count counter.new < C.encoded_count counter.old + 2 ^ 32) }
     {
-        if let Some(e) = insert_refused(self.items.len(), k, line) {
+        if let Some(e) = insert_refused(self.len(), k, line) {
             return Err(e);
         }
         let changed = Changed::of(self.alloc, k)?;
         let entered = Line::read(self.alloc, line, counter)?;
-        let mut lines = shared_lines(self.alloc, &self.items)?;
-        lines.insert(k as usize - 1, entered)?;
-        self.assemble(&lines, counter)?;
+        let mut lines = shared_lines(self.alloc, &self.survey.lines)?;
+        lines.insert(k as usize - 1, entered.share()?)?;
+        let item = Item::entered(self.alloc, entered)?;
+        let items = self.items.inserted(k, item)?;
+        self.assemble(lines, &items, counter)?;
         Ok(changed)
     }
 
@@ -207,12 +213,13 @@ impl Store {
         ensures valued { (C.valued_count counter.old ≤ C.valued_count counter.new) × (C.valued_count counter.new < C.valued_count counter.old + 2 ^ 32) }
         ensures encoded { (C.encoded_count counter.old ≤ C.encoded_count counter.new) × (C.encoded_count counter.new < C.encoded_count counter.old + 2 ^ 32) }
     {
-        if let Some(e) = delete_refused(self.items.len(), k) {
+        if let Some(e) = delete_refused(self.len(), k) {
             return Err(e);
         }
-        let mut lines = shared_lines(self.alloc, &self.items)?;
+        let mut lines = shared_lines(self.alloc, &self.survey.lines)?;
         let _ = lines.remove(k as usize - 1);
-        self.assemble(&lines, counter)?;
+        let items = self.items.deleted(k)?;
+        self.assemble(lines, &items, counter)?;
         Ok(Changed::none(self.alloc))
     }
 
@@ -234,14 +241,16 @@ impl Store {
         ensures valued { (C.valued_count counter.old ≤ C.valued_count counter.new) × (C.valued_count counter.new < C.valued_count counter.old + 2 ^ 32) }
         ensures encoded { (C.encoded_count counter.old ≤ C.encoded_count counter.new) × (C.encoded_count counter.new < C.encoded_count counter.old + 2 ^ 32) }
     {
-        if let Some(e) = replace_refused(self.items.len(), k, line) {
+        if let Some(e) = replace_refused(self.len(), k, line) {
             return Err(e);
         }
         let changed = Changed::of(self.alloc, k)?;
         let entered = Line::read(self.alloc, line, counter)?;
-        let mut lines = shared_lines(self.alloc, &self.items)?;
-        lines[k as usize - 1] = entered;
-        self.assemble(&lines, counter)?;
+        let mut lines = shared_lines(self.alloc, &self.survey.lines)?;
+        lines[k as usize - 1] = entered.share()?;
+        let item = Item::entered(self.alloc, entered)?;
+        let items = self.items.replaced(k, item)?;
+        self.assemble(lines, &items, counter)?;
         Ok(changed)
     }
 }

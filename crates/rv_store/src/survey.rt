@@ -30,6 +30,8 @@ use std::alloc::{AllocError, Global};
 /// the first line on.
 #[derive(Drop)]
 pub struct Survey {
+    /// The lines.
+    pub lines: Vec<Line>,
     /// Where each name is defined.
     pub definitions: Vec<DefinitionPlace>,
     /// The constant that each name is, if it is one.
@@ -51,9 +53,11 @@ pub struct Survey {
 impl Survey {
     /// That of no lines, which takes no memory.
     pub fn empty(alloc: Global) -> Self
-        ensures { (base : ℕ) → IsSurvey base [] [] result }
+        ensures survey { (base : ℕ) → IsSurvey base [] [] result }
+        ensures lines { result.lines.items ≡ [] }
     {
         Survey {
+            lines: Vec::new(alloc),
             definitions: Vec::new(alloc),
             constants: Vec::new(alloc),
             shapes: Vec::new(alloc),
@@ -70,28 +74,30 @@ impl Survey {
     pub fn of<C: Count>(
         alloc: Global,
         base: u32,
-        lines: &[Line],
+        lines: Vec<Line>,
         names: &mut NameTable,
         counter: &mut C,
     ) -> Result<Survey, AllocError>
         requires base { IsBase base }
-        requires few { length lines.now ≤ MAX_LINES }
+        requires few { length lines.items ≤ MAX_LINES }
         requires valued { C.valued_count counter.old ≤ 2 ^ 63 }
-        ensures survey { IfOk result (λ s. IsSurvey base (program_of lines.now) names.new s) }
+        ensures survey { IfOk result (λ s. IsSurvey base (program_of lines.items) names.new s) }
+        ensures lines { IfOk result (λ s. s.lines.items ≡ lines.items) }
         ensures names { Grows names.old names.new }
         ensures least { C.valued_count counter.old ≤ C.valued_count counter.new }
-        ensures most { C.valued_count counter.new ≤ C.valued_count counter.old + 4 * length lines.now }
+        ensures most { C.valued_count counter.new ≤ C.valued_count counter.old + 4 * length lines.items }
         ensures parsed { C.parsed_count counter.new ≡ C.parsed_count counter.old }
         ensures encoded { C.encoded_count counter.new ≡ C.encoded_count counter.old }
     {
-        let definitions = definitions(alloc, lines, names)?;
-        let sized = shapes(alloc, lines, names, &definitions, counter)?;
+        let column: &[Line] = &lines;
+        let definitions = definitions(alloc, column, names)?;
+        let sized = shapes(alloc, column, names, &definitions, counter)?;
         let total = total_layout(&sized.shapes);
         let places = places(alloc, base, &sized.shapes, &total)?;
-        let locals = Locals::of(alloc, lines)?;
+        let locals = Locals::of(alloc, column)?;
         let text = TextRows {
             base,
-            lines,
+            lines: column,
             names,
             definitions: &definitions,
             places: &places,
@@ -100,6 +106,7 @@ impl Survey {
         let equ_values = equ_values(alloc, &text, counter)?;
         let paired_highs = paired_highs(alloc, &text, &equ_values, counter)?;
         Ok(Survey {
+            lines,
             definitions,
             constants: sized.constants,
             shapes: sized.shapes,
@@ -128,16 +135,16 @@ impl Survey {
     }
 
     /// The rows from which the values of the lines are computed.
-    pub fn rows<'a>(&'a self, base: u32, lines: &'a [Line], names: &'a NameTable) -> ValueRows<'a>
-        requires { IsSurvey base (program_of lines.now) names.now self.now }
+    pub fn rows<'a>(&'a self, base: u32, names: &'a NameTable) -> ValueRows<'a>
+        requires { IsSurvey base (program_of self.now.lines.items) names.now self.now }
         ensures rows { AreValueRows result }
         ensures base { result.text.base ≡ base }
-        ensures lines { result.text.lines.now ≡ lines.now }
+        ensures lines { result.text.lines.now ≡ self.now.lines.items }
     {
         ValueRows {
             text: TextRows {
                 base,
-                lines,
+                lines: &self.lines,
                 names,
                 definitions: &self.definitions,
                 places: &self.places,

@@ -18,7 +18,10 @@ impl Store {
         requires last { k ≤ length self.now.lines }
         ensures { IsItem self.now.base self.now.lines k result.now }
     {
-        &self.items[k as usize - 1]
+        let Some(item) = self.items.get(k) else {
+            unreachable!()
+        };
+        item
     }
 }
 

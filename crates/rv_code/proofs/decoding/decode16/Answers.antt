@@ -1,10 +1,16 @@
-use Rattle.std.proofs.Common.{◌≡◌, ◌%◌, nat_eq, true, false, subst, rules}
+use Rattle.std.proofs.Common.{◌≡◌, ◌%◌, ◌<◌, ◌^◌, arith, nat_eq, true, false, subst, rules}
 use Rattle.std.specs.Prelude.{IfNone, IfSome}
 use Rattle.rv_code.specs.Encoding.{Fits, encoding_of}
 use Rattle.rv_code.specs.Decoding.{IsWordOfNone}
 use Rattle.rv_code.specs.Groups.{codes_of_half_group}
 use Rattle.rv_code.proofs.Decoded.{found_half, not_half, only_half}
+use Rattle.rv_code.proofs.GroupLaws.{in_half_codes}
 use Rattle.rv_code.proofs.decoding.decode16.Goals as goal
+
+pub first_instruction-requires : goal.first_instruction-requires
+first_instruction-requires c =
+    let below : c.from.result < 2 ^ 16 = search rules in
+    in_half_codes _ _ c.args.word c.half_rows.ensures (omega (arith, below))
 
 pub returns-then-word-eq3-clause-only : goal.returns-then-word-eq3-clause-only
 returns-then-word-eq3-clause-only c =

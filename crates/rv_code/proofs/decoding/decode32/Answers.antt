@@ -2,7 +2,11 @@ use Rattle.std.proofs.Common.{◌≡◌, ◌%◌, nat_eq, true, false, subst, ru
 use Rattle.std.specs.Prelude.{IfNone}
 use Rattle.rv_code.specs.Decoding.{IsWordOfNone}
 use Rattle.rv_code.proofs.Decoded.{found_full, not_full, only_full}
+use Rattle.rv_code.proofs.GroupLaws.{in_full_codes}
 use Rattle.rv_code.proofs.decoding.decode32.Goals as goal
+
+pub first_instruction-requires : goal.first_instruction-requires
+first_instruction-requires c = in_full_codes _ _ c.args.word c.full_rows.ensures
 
 pub returns-then-word-ne3-clause-only : goal.returns-then-word-ne3-clause-only
 returns-then-word-ne3-clause-only c =

@@ -2,28 +2,17 @@ use Rattle.std.proofs.Common.{◌+◌, ◌<◌, ◌≤◌, ◌^◌, ◌∙◌, a
 use Rattle.std.proofs.lemmas.Int.{to_z-of_z}
 use Rattle.std.specs.Int.{w32}
 use mir.Val.{SFits}
+use Rattle.rv_ops.specs.declared.layouts.Field.{Field}
 use Rattle.rv_ops.specs.declared.layouts.Field.TheVariants.{Rd, Rs1, Rs2, Value}
 use Rattle.rv_ops.specs.Table.{classes_of, sign_of, shape_of, slices_of}
 use Rattle.rv_code.specs.Decoding.{fields_at, first_of, gathered, reach, value_of}
-use Rattle.rv_code.proofs.Reach.{rd_reach, rs1_reach, rs2_reach, value_reach}
+use Rattle.rv_code.proofs.Reach.{field_reach, rd_reach, rs1_reach, rs2_reach, value_reach}
 use Rattle.rv_code.proofs.Shapes.{fields_same}
 use Rattle.rv_code.proofs.decoding.fields_of.Goals as goal
 
-pub gather-fields-requires-clause-rd : goal.gather-fields-requires-clause-rd
-gather-fields-requires-clause-rd c =
-    subst (λ ps. reach Rd ps < 2 ^ 30) (sym c.slices.ensures.value) (let r = rd_reach (shape_of c.args.op) in omega (arith, r))
-
-pub gather-fields-requires-clause-rs1 : goal.gather-fields-requires-clause-rs1
-gather-fields-requires-clause-rs1 c =
-    subst (λ ps. reach Rs1 ps < 2 ^ 30) (sym c.slices.ensures.value) (let r = rs1_reach (shape_of c.args.op) in omega (arith, r))
-
-pub gather-fields-requires-clause-rs2 : goal.gather-fields-requires-clause-rs2
-gather-fields-requires-clause-rs2 c =
-    subst (λ ps. reach Rs2 ps < 2 ^ 30) (sym c.slices.ensures.value) (let r = rs2_reach (shape_of c.args.op) in omega (arith, r))
-
-pub gather-fields-requires-clause-value : goal.gather-fields-requires-clause-value
-gather-fields-requires-clause-value c =
-    subst (λ ps. reach Value ps < 2 ^ 30) (sym c.slices.ensures.value) (value_reach (shape_of c.args.op))
+pub gather-fields-requires-clause-reach : goal.gather-fields-requires-clause-reach
+gather-fields-requires-clause-reach c =
+    subst (λ ps. (f : Field) → reach f ps < 2 ^ 30) (sym c.slices.ensures.value) (field_reach (shape_of c.args.op))
 
 pub register-requires : goal.register-requires
 register-requires c =

@@ -1,5 +1,5 @@
-use Rattle.std.proofs.Common.{◌≡◌, map, take}
+use Rattle.std.proofs.Common.{◌≡◌, take}
 use Rattle.rv_store.proofs.store.shared_lines.Given as goal
 
-abbrev pub invariant-loop-item : goal.invariant-loop-item
-invariant-loop-item l = l.lines.items ≡ map (λ i. i.line) (take l.item-index l.items)
+abbrev pub invariant-loop-line : goal.invariant-loop-line
+invariant-loop-line l = l.shared.items ≡ take l.line-index l.lines

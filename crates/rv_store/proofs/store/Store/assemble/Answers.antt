@@ -6,6 +6,7 @@ invariant_of-self g c = record {
   based = c.self.invariant.based;
   lined = c.self.invariant.lined;
   few = c.self.invariant.few;
+  listed = c.self.invariant.listed;
   surveyed = survey_grown _ _ _ _ _ c.of.ensures.names c.self.invariant.surveyed;
   assembled = c.self.invariant.assembled;
 }
@@ -15,6 +16,7 @@ invariant_of-self-in_err-items g c = record {
   based = c.self.invariant.based;
   lined = c.self.invariant.lined;
   few = c.self.invariant.few;
+  listed = c.self.invariant.listed;
   surveyed = survey_grown _ _ _ _ _ c.of.ensures.names c.self.invariant.surveyed;
   assembled = c.self.invariant.assembled;
 }
