@@ -253,28 +253,29 @@ fn shows(store: &Store, sink: &mut MemSink, shown: &Shown) -> bool
         && sink.bytes() == shown.image.as_bytes()
 }
 
+// An edit of a store of the three lines, and once more where it is refused. There is a writer for each image.
+fn edit_twice(store: &mut Store, first: &mut MemSink, second: &mut MemSink, edit: Edit) -> Outcome
+    requires first { first.old.failures ≡ 0 }
+    requires second { second.old.failures ≡ 0 }
+{
+    let after = edit.shown_after();
+    match make(store, edit) {
+        Ok(_) if shows(store, first, &after) => Outcome::Made,
+        Err(EditError::Memory)
+            if shows(store, first, &BEFORE)
+                && make(store, edit).is_ok()
+                && shows(store, second, &after) => { Outcome::Refused }
+        _ => Outcome::Wrong,
+    }
+}
+
 /// An edit of three lines, and once more where it is refused.
 pub fn edit_refused(alloc: Global, pads: u32, edit: Edit) -> Outcome {
-    let Ok(
-        Trial {
-            mut store,
-            mut first,
-            mut second,
-        },
-    ) = make_trial(alloc)
-    else {
+    let Ok(mut trial) = make_trial(alloc) else {
         return Outcome::Unprepared;
     };
     if !pad(alloc, pads) {
         return Outcome::Unprepared;
     }
-    let after = edit.shown_after();
-    match make(&mut store, edit) {
-        Ok(_) if shows(&store, &mut first, &after) => Outcome::Made,
-        Err(EditError::Memory)
-            if shows(&store, &mut first, &BEFORE)
-                && make(&mut store, edit).is_ok()
-                && shows(&store, &mut second, &after) => { Outcome::Refused }
-        _ => Outcome::Wrong,
-    }
+    edit_twice(&mut trial.store, &mut trial.first, &mut trial.second, edit)
 }
