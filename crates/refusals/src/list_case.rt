@@ -14,28 +14,28 @@ fn are_bytes(found: &Result<Vec<u8>, AllocError>) -> bool {
     }
 }
 
-/// `section_bytes` of a text.
-pub fn section_bytes_refused(alloc: Global, pads: u32) -> Outcome {
-    let Ok(mut store) = Store::new(alloc, 0x1000) else {
-        return Outcome::Unprepared;
-    };
-    if store
-        .insert(1, b"addi a0, a0, 1", &mut Tally::new())
-        .is_err()
-    {
+// `section_bytes` of a store, to which a line is added first.
+fn bytes_refused(alloc: Global, pads: u32, store: &mut Store) -> Outcome {
+    let line = store.insert(1, b"addi a0, a0, 1", &mut Tally::new());
+    if line.is_err() || !pad(alloc, pads) {
         return Outcome::Unprepared;
     }
-    if !pad(alloc, pads) {
-        return Outcome::Unprepared;
-    }
-    let first = section_bytes(alloc, &store, 0);
+    let first = section_bytes(alloc, store, 0);
     if are_bytes(&first) {
         return Outcome::Made;
     }
-    let again = section_bytes(alloc, &store, 0);
+    let again = section_bytes(alloc, store, 0);
     if first.is_err() && are_bytes(&again) {
         Outcome::Refused
     } else {
         Outcome::Wrong
+    }
+}
+
+/// `section_bytes` of a text.
+pub fn section_bytes_refused(alloc: Global, pads: u32) -> Outcome {
+    match Store::new(alloc, 0x1000) {
+        Ok(mut store) => bytes_refused(alloc, pads, &mut store),
+        Err(_) => Outcome::Unprepared,
     }
 }

@@ -187,15 +187,21 @@ struct Trial {
     second: MemSink,
 }
 
+// Adds the three lines.
+fn add_lines(store: &mut Store) -> Result<(), EditError> {
+    store.insert(1, b".equ step, 4", &mut Tally::new())?;
+    store.insert(2, b"loop: 1: addi a0, a0, step", &mut Tally::new())?;
+    store.insert(3, b"j 1b", &mut Tally::new())?;
+    Ok(())
+}
+
 fn make_trial(alloc: Global) -> Result<Trial, EditError>
     ensures { IfOk result (λ trial. (trial.first.failures ≡ 0) × (trial.second.failures ≡ 0)) }
 {
-    let mut store = Store::new(alloc, 0)?;
-    let _ = store.insert(1, b".equ step, 4", &mut Tally::new())?;
-    let _ = store.insert(2, b"loop: 1: addi a0, a0, step", &mut Tally::new())?;
-    let _ = store.insert(3, b"j 1b", &mut Tally::new())?;
     let first = MemSink::new(alloc, 1024)?;
     let second = MemSink::new(alloc, 1024)?;
+    let mut store = Store::new(alloc, 0)?;
+    add_lines(&mut store)?;
     Ok(Trial {
         store,
         first,
