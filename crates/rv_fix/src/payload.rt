@@ -148,7 +148,7 @@ impl Payload {
     ///
     /// # Errors
     ///
-    /// `AllocError` if there is no memory for them.
+    /// `AllocError` if there is no memory for them. The list may then end with some of them.
     pub fn append_to(&self, list: &mut Vec<u8>) -> Result<(), AllocError>
         ensures { OnOk result (list.new.items ≡ list.old.items ++ self.now) }
     {
