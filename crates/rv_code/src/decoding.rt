@@ -111,6 +111,7 @@ fn signed(sign: SignExtension, number: u32) -> i32
 }
 
 /// The fields that a word has by the layout of an operation.
+#[inline(always)]
 fn fields_of(op: Op, word: u32) -> Fields
     ensures { result ≡ fields_at (shape_of op) word }
 {
@@ -165,6 +166,7 @@ fn first_instruction(mut rows: &[TableRow], word: u32) -> Option<Ins>
 }
 
 /// The instruction that a word of thirty-two bits encodes, if it does: its low two bits are then 11.
+#[inline(always)]
 pub fn decode32(word: u32) -> Option<Ins>
     // What is found is an instruction, and the word is its encoding.
     ensures found { IfSome result (λ i. Fits i.0 i.1 × (word_of i.0 i.1 ≡ Full word)) }
@@ -178,6 +180,7 @@ pub fn decode32(word: u32) -> Option<Ins>
 }
 
 /// The instruction that a word of sixteen bits encodes, if it does: its low two bits are then not 11.
+#[inline(always)]
 pub fn decode16(word: u16) -> Option<Ins>
     // What is found is an instruction, and the word is its encoding.
     ensures found { IfSome result (λ i. Fits i.0 i.1 × (word_of i.0 i.1 ≡ Half word)) }

@@ -17,6 +17,7 @@ pub const MEMBERS: [u32; 6] = [
 
 /// Whether a class has the register. x0 stands for a register that a shape lacks, and the number of a register
 /// for the bits of a set.
+#[inline(always)]
 pub fn in_class(class: RegisterClass, register: Reg) -> bool
     ensures { result ≡ is_in class register }
 {
@@ -24,6 +25,7 @@ pub fn in_class(class: RegisterClass, register: Reg) -> bool
 }
 
 /// Whether the operation takes the fields.
+#[inline(always)]
 pub fn fits(op: Op, fields: &Fields) -> bool
     ensures { IsTrue result ↔ Fits op fields.now }
 {

@@ -55,6 +55,7 @@ impl Ins {
     }
 
     /// An instruction of the fields, if the operation takes them.
+    #[inline(always)]
     pub fn try_new(op: Op, fields: Fields) -> Option<Self>
         ensures fits { IsSome result ↔ Fits op fields }
         ensures value { IfSome result (λ i. i ≡ (op, fields)) }

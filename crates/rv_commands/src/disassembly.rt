@@ -1,6 +1,6 @@
 //! The disassembly of `.text`.
 
-ghost use Rattle.std.specs.Prelude.{◌≡◌, ◌+◌, ◌*◌, ◌-◌, ◌^◌, ◌<◌, ◌≤◌, ◌++◌, length, All, IfOk};
+ghost use Rattle.std.specs.Prelude.{◌≡◌, ◌+◌, ◌*◌, ◌-◌, ◌^◌, ◌<◌, ◌≤◌, ◌++◌, length, codes, All, IfOk};
 ghost use Rattle.std.specs.List.{flat_map};
 ghost use Rattle.rv_text.specs.Blocks.{Gathers};
 ghost use Rattle.rv_text.specs.Rows.{hex};
@@ -40,6 +40,27 @@ fn push_value(columns: &mut OutputRow, row: &DisRow)
     }
 }
 
+// Adds a row of these columns and a text. A text that fits behind the columns, as each of an instruction does, goes with
+// them in one piece.
+fn push_columns_and_text<W: Sink>(
+    block: &mut OutputBlock,
+    sink: &mut W,
+    columns: &mut OutputRow,
+    text: &[u8],
+) -> Result<(), Failed>
+    requires columns { length columns.old ≤ 20 }
+    requires failures { W.failures sink.old < 2 ^ 64 - 1 }
+    ensures text { Gathers (W.taken sink.old) block.old (columns.old ++ (text.now ++ codes "\n")) result (W.taken sink.new) block.new }
+    ensures count { W.failures sink.new ≡ failures_after (W.failures sink.old) result }
+{
+    if text.len() > 40 {
+        return push_row(block, sink, columns.bytes(), text);
+    }
+    columns.push_text(text);
+    columns.push_text(b"\n");
+    block.push(sink, columns.bytes())
+}
+
 // Adds a row.
 #[tactic(auto, unfolding(crate::specs::Disassembly::disassembly_row))]
 fn push_code_row<W: Sink>(block: &mut OutputBlock, sink: &mut W, row: &DisRow) -> Result<(), Failed>
@@ -53,7 +74,7 @@ fn push_code_row<W: Sink>(block: &mut OutputBlock, sink: &mut W, row: &DisRow) -
     columns.push_text(b" ");
     push_value(&mut columns, row);
     columns.push_text(b" ");
-    push_row(block, sink, columns.bytes(), row.text.as_str().as_bytes())
+    push_columns_and_text(block, sink, &mut columns, row.text.as_str().as_bytes())
 }
 
 // Adds the rows.

@@ -5,6 +5,7 @@ mod disassembly;
 mod error;
 mod laws;
 mod numbers;
+mod operand_lists;
 mod operand_texts;
 mod row;
 mod text;

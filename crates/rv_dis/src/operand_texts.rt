@@ -12,15 +12,15 @@ use rv_code::Ins;
 use rv_ops::{Csr, Reg, Shape, csr_name, reg_name, shape};
 use rv_stmt::{Slot, set_name};
 
-// The register `sp`.
-fn stack_pointer() -> Reg
+/// The register `sp`.
+pub fn stack_pointer() -> Reg
     ensures { result ≡ 2 }
 {
     Reg::new(2).unwrap()
 }
 
-// The target of a branch or a jump.
-fn target(address: u32, displacement: i32) -> u32
+/// The target of a branch or a jump.
+pub fn target(address: u32, displacement: i32) -> u32
     ensures { result ≡ target_of address displacement }
 {
     address.wrapping_add_signed(displacement)
@@ -37,8 +37,8 @@ fn push_immediate(out: &mut RowText, shape: Shape, value: i32)
     }
 }
 
-// `offset(register)`.
-fn push_memory(out: &mut RowText, offset: i32, base: Reg)
+/// `offset(register)`.
+pub fn push_memory(out: &mut RowText, offset: i32, base: Reg)
     requires { length out.old + length (memory_text offset base) ≤ 40 }
     ensures { out.new ≡ out.old ++ memory_text offset base }
 {

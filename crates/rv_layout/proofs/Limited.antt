@@ -12,6 +12,8 @@ use Rattle.rv_stmt.specs.declared.expansion.Instructions.TheVariants.{One, Two}
 use Rattle.rv_stmt.specs.declared.operand.AlignmentUnit.{AlignmentUnit}
 use Rattle.rv_stmt.specs.declared.operand.AlignmentUnit.TheVariants as unit
 use Rattle.rv_stmt.specs.declared.operand.Operand.{Operand}
+use Rattle.rv_stmt.specs.declared.operand.OperandValue.{OperandValue}
+use Rattle.rv_stmt.specs.declared.operand.OperandValue.TheVariants.{Plain}
 use Rattle.rv_stmt.specs.declared.operand.Role.{Role}
 use Rattle.rv_stmt.specs.declared.operand.Role.TheVariants.{Immediate, SourceImmediate, Target, PairTarget, Constant, Data, Size, FillByte, Alignment, Definition}
 use Rattle.rv_stmt.specs.declared.statement.Body.{Body}
@@ -21,7 +23,7 @@ use Rattle.rv_stmt.specs.Expansion.{instructions_of, size_of_instructions}
 use Rattle.rv_stmt.specs.Statement.{operands_of, data_size_of}
 use Rattle.rv_layout.specs.declared.measured.Measured.{Measured}
 use Rattle.rv_layout.specs.Places.{IsLimited}
-use Rattle.rv_layout.specs.Shapes.{constants, is_size, size_operand, constant_of_operand, signed_word, with_value, load_size, fill_size, exponents, exponent_among, alignment_exponent, exponent_by_role, bytes_or_range, align_or_range, shape_by, shape_of_instructions, shape_of_fill, shape_of_alignment, shape_of, count_of_operand, size_operands}
+use Rattle.rv_layout.specs.Shapes.{constants, is_size, size_operand, constant_of_operand, signed_word, with_value, load_size, fill_size, exponents, exponent_among, alignment_exponent, exponent_by_role, bytes_or_range, align_or_range, shape_by, shape_of_instructions, shape_of_fill, shape_of_alignment, shape_of, count_of_value, count_of_operand, size_operands}
 
 -- a number, where there is one, is at most a bound
 abbrev AtMost : ℕ → Option ℕ → Type 0
@@ -133,9 +135,13 @@ limited constant_of (body.Faulty fault) h = tt
 
 -- size operands
 
+one_value : (v : OperandValue) → count_of_value v ≤ 1
+one_value (Plain e) = omega arith
+one_value v = omega arith
+
 one : (o : Option Operand) → count_of_operand o ≤ 1
 one None = omega arith
-one (Some o) = omega arith
+one (Some o) = one_value o.value
 
 pub at_most_one : (b : Body) → size_operands b ≤ 1
 at_most_one body.Empty = omega arith
@@ -150,7 +156,7 @@ at_most_one body.Ignored = omega arith
 at_most_one (body.Faulty fault) = omega arith
 
 first_or : (b : Bool) (o : Operand) (rest : Option Operand) (n : ℕ) → count_of_operand rest ≤ n → count_of_operand (if b then Some o else rest) ≤ suc n
-first_or true o rest n h = omega arith
+first_or true o rest n h = let few = one_value o.value in omega (arith, few)
 first_or false o rest n h = omega (arith, h)
 
 among : (os : List Operand) → count_of_operand (size_operand os) ≤ length os

@@ -146,10 +146,14 @@ shape_of constant_of (body.Equ d) = Nothing
 shape_of constant_of body.Ignored = Nothing
 shape_of constant_of (body.Faulty fault) = Faulty fault
 
--- how many expressions are computed for the shape: that of the size operand
+-- how many expressions are computed for the shape: that of the size operand, unless it has a modifier
+abbrev pub count_of_value : OperandValue → ℕ
+count_of_value (Plain e) = 1
+count_of_value value = 0
+
 abbrev pub count_of_operand : Option Operand → ℕ
 count_of_operand None = 0
-count_of_operand (Some o) = 1
+count_of_operand (Some o) = count_of_value o.value
 
 abbrev pub size_operands : Body → ℕ
 size_operands (body.Instr i) = count_of_operand (size_operand i.operands)

@@ -1,7 +1,7 @@
 //! The operands that have to be constants.
 
 ghost use Rattle.std.specs.Prelude.{◌≡◌, ◌-◌, ◌<◌, ◌≤◌, ◌+◌, ◌^◌, Some, None, IfSome};
-ghost use Rattle.rv_layout.specs.Shapes.{constants, is_size, size_operand, value_of_constant, at_span, constant_of_operand};
+ghost use Rattle.rv_layout.specs.Shapes.{constants, is_size, size_operand, value_of_constant, at_span, constant_of_operand, count_of_value};
 
 use crate::consts::Consts;
 use rv_expr::{Direction, LabelReference, Names, ValueFault, value};
@@ -76,7 +76,7 @@ fn value_of_constant<C: Consts, N: Count>(
     requires { N.valued_count count.old < 2 ^ 64 - 1 }
     ensures value { result ≡ value_of_constant (constants (C.constant_of consts.now)) operand.now }
     ensures least { N.valued_count count.old ≤ N.valued_count count.new }
-    ensures valued { N.valued_count count.new ≤ N.valued_count count.old + 1 }
+    ensures valued { N.valued_count count.new ≤ N.valued_count count.old + count_of_value operand.now }
     ensures parsed { N.parsed_count count.new ≡ N.parsed_count count.old }
     ensures encoded { N.encoded_count count.new ≡ N.encoded_count count.old }
 {
@@ -108,7 +108,7 @@ pub(crate) fn constant_of_operand<C: Consts, N: Count>(
     requires { N.valued_count count.old < 2 ^ 64 - 1 }
     ensures value { result ≡ constant_of_operand (constants (C.constant_of consts.now)) operand.now }
     ensures least { N.valued_count count.old ≤ N.valued_count count.new }
-    ensures valued { N.valued_count count.new ≤ N.valued_count count.old + 1 }
+    ensures valued { N.valued_count count.new ≤ N.valued_count count.old + count_of_value operand.now.value }
     ensures parsed { N.parsed_count count.new ≡ N.parsed_count count.old }
     ensures encoded { N.encoded_count count.new ≡ N.encoded_count count.old }
 {

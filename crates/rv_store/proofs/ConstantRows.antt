@@ -1,8 +1,8 @@
 -- The row of constants, line by line.
-use Rattle.std.proofs.Common.{◌≡◌, ℕ, suc, ◌+◌, ◌-◌, ◌<◌, ◌≤◌, ℤ, Bool, true, false, List, [], ◌∷◌, length, get_or, set, bytes_eq, Option, Some, None, if◌then◌else◌, arith, ap, sym, ◌∙◌, refl, eqb-true}
+use Rattle.std.proofs.Common.{◌≡◌, ℕ, suc, ◌+◌, ◌-◌, ◌<◌, ◌≤◌, ℤ, Bool, true, false, List, [], ◌∷◌, length, get_or, set, replicate, bytes_eq, Option, Some, None, if◌then◌else◌, arith, ap, sym, ◌∙◌, refl, eqb-true}
 use Rattle.std.specs.Result.{result_ok}
 use Rattle.std.proofs.Math.Path.{fun_ext}
-use Rattle.std.proofs.lemmas.List.{get_or-map}
+use Rattle.std.proofs.lemmas.List.{get_or-map, length-replicate}
 use Rattle.std.proofs.lemmas.Slice.Eq.{bytes_eq-Decides}
 use Rattle.rv_stmt.specs.declared.directive.Definition.{Definition}
 use Rattle.rv_stmt.specs.declared.label.Label.{Label}
@@ -15,8 +15,8 @@ use Rattle.rv_list.specs.declared.view.DefinitionPlace.TheVariants.{Nowhere, Lab
 use Rattle.rv_store.specs.Constants.{defined_value, constant_through}
 use Rattle.rv_store.specs.Definitions.{defines_symbol, place_among_labels, place_in_body, first_place, definition_of, is_equ_on}
 use Rattle.rv_store.specs.Program.{Program, program_of, no_statement, body_at}
-use Rattle.rv_store.specs.Rows.{number_of, in_row, AreDefinitions}
-use Rattle.rv_store.proofs.NameRows.{row-set}
+use Rattle.rv_store.specs.Rows.{number_of, in_row, AreDefinitions, AreConstants}
+use Rattle.rv_store.proofs.NameRows.{row-set, row-empty}
 
 -- The lines of `.equ`s
 
@@ -75,11 +75,18 @@ equ-by_row program names row are i name t e =
 
 -- The row of constants
 
+-- before the first line there are no constants
+pub constants-none : (program : Program) (names : List (List ℕ)) (count : ℕ) → count ≤ length names → AreConstants program 0 names (replicate count None)
+constants-none program names count within = record {
+  each = row-empty names None count;
+  within = omega (arith, length-replicate {A = Option ℤ}, within);
+}
+
 constant-here : (program : Program) (i : ℕ) (name : List ℕ) → is_equ_on (suc i) (definition_of program name) ≡ true → constant_through program (suc i) name ≡ result_ok (defined_value (constants (constant_through program i)) (body_at program (suc i)))
 constant-here program i name e =
     ap (λ t. if t then result_ok (defined_value (constants (constant_through program i)) (body_at program (suc i))) else constant_through program i name) e
 
-constant-kept : (program : Program) (i : ℕ) (name : List ℕ) → is_equ_on (suc i) (definition_of program name) ≡ false → constant_through program (suc i) name ≡ constant_through program i name
+pub constant-kept : (program : Program) (i : ℕ) (name : List ℕ) → is_equ_on (suc i) (definition_of program name) ≡ false → constant_through program (suc i) name ≡ constant_through program i name
 constant-kept program i name e =
     ap (λ t. if t then result_ok (defined_value (constants (constant_through program i)) (body_at program (suc i))) else constant_through program i name) e
 

@@ -17,24 +17,24 @@ pub record Stood (lines : List (List ℕ)) (edit : Edit) (k j : ℕ) : Type 0 wh
 
 -- Places of edits that are not refused
 
-insert_within : (lines : List (List ℕ)) (place : ℕ) (line : List ℕ) → refusal_of lines (Insert place line) ≡ None → (1 ≤ place) × (place ≤ length lines + 1)
+pub insert_within : (lines : List (List ℕ)) (place : ℕ) (line : List ℕ) → refusal_of lines (Insert place line) ≡ None → (1 ≤ place) × (place ≤ length lines + 1)
 insert_within lines place line h = grind (arith, nat_tests, common_steps)
 
-delete_within : (lines : List (List ℕ)) (place : ℕ) → refusal_of lines (Delete place) ≡ None → (1 ≤ place) × (place ≤ length lines)
+pub delete_within : (lines : List (List ℕ)) (place : ℕ) → refusal_of lines (Delete place) ≡ None → (1 ≤ place) × (place ≤ length lines)
 delete_within lines place h = grind (arith, nat_tests, common_steps)
 
-replace_within : (lines : List (List ℕ)) (place : ℕ) (line : List ℕ) → refusal_of lines (Replace place line) ≡ None → (1 ≤ place) × (place ≤ length lines)
+pub replace_within : (lines : List (List ℕ)) (place : ℕ) (line : List ℕ) → refusal_of lines (Replace place line) ≡ None → (1 ≤ place) × (place ≤ length lines)
 replace_within lines place line h = grind (arith, nat_tests, common_steps)
 
 -- Where a line stood
 
-insert_before : (place : ℕ) (line : List ℕ) (k j : ℕ) → line_before_edit (Insert place line) k ≡ Some j → ((k < place) × (j ≡ k)) ⊎ ((place < k) × (j ≡ k - 1))
+pub insert_before : (place : ℕ) (line : List ℕ) (k j : ℕ) → line_before_edit (Insert place line) k ≡ Some j → ((k < place) × (j ≡ k)) ⊎ ((place < k) × (j ≡ k - 1))
 insert_before place line k j h = grind (arith, nat_tests, common_steps)
 
-delete_before : (place k j : ℕ) → line_before_edit (Delete place) k ≡ Some j → ((k < place) × (j ≡ k)) ⊎ ((place ≤ k) × (j ≡ k + 1))
+pub delete_before : (place k j : ℕ) → line_before_edit (Delete place) k ≡ Some j → ((k < place) × (j ≡ k)) ⊎ ((place ≤ k) × (j ≡ k + 1))
 delete_before place k j h = grind (arith, nat_tests, common_steps)
 
-replace_before : (place : ℕ) (line : List ℕ) (k j : ℕ) → line_before_edit (Replace place line) k ≡ Some j → (k ≡ place → ⊥) × (j ≡ k)
+pub replace_before : (place : ℕ) (line : List ℕ) (k j : ℕ) → line_before_edit (Replace place line) k ≡ Some j → (k ≡ place → ⊥) × (j ≡ k)
 replace_before place line k j h = grind (arith, nat_tests, common_steps)
 
 -- Lines that are not new

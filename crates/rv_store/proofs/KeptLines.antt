@@ -34,14 +34,14 @@ not_new differs_from (Some j) h = (j, refl, h)
 
 module _ (base : ℕ) (before after : Program) (k j : ℕ) where
   -- what a line with this body uses is the same on both lines
-  record UsesSame (b : Body) : Type 0 where
-    names : list_any (differs_in_name base before after k j) (names_used b) ≡ false
-    place : uses_address b ≡ true → (address_at base after k ≡ address_at base before j) × (section_at after k ≡ section_at before j)
-    local : uses_local_label b ≡ false
-    paired_high : uses_paired_high b ≡ false
-    equ : is_equ b ≡ false
+  pub record UsesSame (b : Body) : Type 0 where
+    pub names : list_any (differs_in_name base before after k j) (names_used b) ≡ false
+    pub place : uses_address b ≡ true → (address_at base after k ≡ address_at base before j) × (section_at after k ≡ section_at before j)
+    pub local : uses_local_label b ≡ false
+    pub paired_high : uses_paired_high b ≡ false
+    pub equ : is_equ b ≡ false
 
-  same_name : (name : List ℕ) → differs_in_name base before after k j name ≡ false → (reference_of base after k name ≡ reference_of base before j name) × (constant_of after k name ≡ constant_of before j name)
+  pub same_name : (name : List ℕ) → differs_in_name base before after k j name ≡ false → (reference_of base after k name ≡ reference_of base before j name) × (constant_of after k name ≡ constant_of before j name)
   same_name name h =
       let parts = or_parts (not (same_entry (reference_of base after k name) (reference_of base before j name))) (not (same_constant (constant_of after k name) (constant_of before j name))) h in
       ((same_entry-Decides _ _).0 (not-false _ parts.0), (same_constant-Decides _ _).0 (not-false _ parts.1))
@@ -55,7 +55,7 @@ module _ (base : ℕ) (before after : Program) (k j : ℕ) where
   place-used true h is = same_place h
   place-used false h is = absurd (true≢false (sym is))
 
-  uses-same : (b : Body) → differs_in_uses base before after k j b ≡ false → UsesSame b
+  pub uses-same : (b : Body) → differs_in_uses base before after k j b ≡ false → UsesSame b
   uses-same b h =
       let names = list_any (differs_in_name base before after k j) (names_used b) in
       let place = uses_address b && differs_in_place base before after k j in

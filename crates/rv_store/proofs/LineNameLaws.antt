@@ -89,6 +89,12 @@ symbol-by base program places k usable name are l = at (definition_of program na
         by_line true g = ap (by_definition (address_at base program) usable (Equ line)) (equ_value-stays base program name line usable k e (leb-true line usable g) l)
         by_line false g = rw g refl
 
+-- what a symbol gives by the rows of a text
+pub symbol_by-rows : (text : TextRows) (row : List Entry) (k usable : ℕ) (name : List ℕ) → AreTextRows text → AreEquValuesIn text k row → usable ≤ k → by_definition (address_in text.places.now) usable (definition_of (program_in text) name) (in_row text.names.now row (Err LaterEqu) name) ≡ symbol_through text.base (program_in text) usable name
+symbol_by-rows text row k usable name are values less =
+    ap (λ f. by_definition (address_in text.places.now) usable (definition_of (program_in text) name) (f name)) values.each
+    ∙ symbol-by text.base (program_in text) text.places.now k usable name are.placed less
+
 -- what `%pcrel_lo` takes by the line of a label
 high-by : (within : Result ℕ ValueFault) (f g : ℕ → Entry) → ((line : ℕ) → within ≡ Ok line → f line ≡ g line) → and_then within f ≡ and_then within g
 high-by (Ok line) f g same = same line refl
@@ -126,8 +132,7 @@ names_by-rows text row highs k line usable high are values less last first same 
     same_names _ _ _ _ _ _ _ _
     (fun_ext (λ name.
     ap (λ f. by_definition (address_in text.places.now) usable (f name) (in_row text.names.now row (Err LaterEqu) name)) are.defined.each
-    ∙ ap (λ f. by_definition (address_in text.places.now) usable (definition_of program name) (f name)) values.each
-    ∙ symbol-by text.base program text.places.now k usable name are.placed less))
+    ∙ symbol_by-rows text row k usable name are values less))
     (fun_ext (λ number. fun_ext (λ direction.
     ap (address_of_found text.places.now) (local_line-row program text.locals.now line number direction are.located last)
     ∙ address-found text.base program text.places.now (local_line program line number direction) are.placed (local_line-is program line number direction last))))

@@ -1,5 +1,5 @@
 -- A map over an edited list, and what holds of each element.
-use Rattle.std.proofs.Common.{◌≡◌, ℕ, List, ◌∷◌, take, drop}
+use Rattle.std.proofs.Common.{◌≡◌, ℕ, suc, List, ◌∷◌, take, drop}
 use Rattle.std.specs.Prelude.{map, insert, remove}
 use Rattle.std.proofs.lemmas.List.{map-append, take-map, drop-map}
 use Rattle.std.proofs.lemmas.List.Elements.{All-append, All-cons, All-take, All-drop}
@@ -13,3 +13,6 @@ map_remove f xs i = simp (map-append, take-map, drop-map)
 
 pub all_insert : {A : Type 0} (P : A → Type 0) (xs : List A) (i : ℕ) (x : A) → All P xs → P x → All P (insert xs i x)
 all_insert P xs i x all one = All-append P (take i xs) (x ∷ drop i xs) (All-take P i xs all) (All-cons P x (drop i xs) one (All-drop P i xs all))
+
+pub all_remove : {A : Type 0} (P : A → Type 0) (xs : List A) (i : ℕ) → All P xs → All P (remove xs i)
+all_remove P xs i all = All-append P (take i xs) (drop (suc i) xs) (All-take P i xs all) (All-drop P (suc i) xs all)

@@ -58,6 +58,7 @@ survey_grown base program old new s grows is = record {
     each = row-grown old new _ _ grows is.equ_values.within ∙ is.equ_values.each;
     within = let more = grows-length old new grows in omega (arith, more, is.equ_values.within);
   };
+  highs = is.highs;
   paired_highs = is.paired_highs;
 }
 

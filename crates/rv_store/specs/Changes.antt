@@ -1,5 +1,4 @@
--- What an edit changes, by the numbers of the lines in the text after it, and the most that may be computed anew for it. The
--- contract of no edit carries these definitions yet: so far the report of changed lines is not exact.
+-- What an edit changes, by the numbers of the lines in the text after it, and the most that may be computed anew for it.
 use Rattle.std.specs.Prelude.{ℕ, ◌*◌, ◌==◌, Bool, true, not, ◌&&◌, ◌||◌, List, length, Option, Some, None}
 use Rattle.std.specs.List.{list_any, sum_by}
 use Rattle.rv_stmt.specs.declared.statement.Body.{Body}

@@ -1,6 +1,14 @@
 -- Where the lines of a text stood before an edit.
 use Rattle.std.specs.Prelude.{ℕ, ◌+◌, ◌-◌, ◌==◌, nat_lt, Option, Some, None, if◌then◌else◌}
+use Rattle.rv_store.specs.declared.edit.LineEdit.{LineEdit}
+use Rattle.rv_store.specs.declared.edit.LineEdit.TheVariants as code
 use Rattle.rv_store.specs.Text.{Edit, Insert, Delete, Replace}
+
+-- the edit that one of the code is
+abbrev pub edit_of : LineEdit → Edit
+edit_of (code.Insert place line) = Insert place line.now
+edit_of (code.Delete place) = Delete place
+edit_of (code.Replace place line) = Replace place line.now
 
 -- where line k of the text after the edit stood before it; a line that the edit put in stood nowhere
 abbrev pub line_before_edit : Edit → (k : ℕ) → Option ℕ

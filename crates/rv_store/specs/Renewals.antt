@@ -1,45 +1,71 @@
--- Items made anew, one by one, from the first line to the last.
-use Rattle.std.proofs.Common.{◌≡◌, ℕ, ◌+◌, ◌*◌, ◌^◌, ◌<◌, ◌≤◌, List, ◌∷◌, length, subst, sym, arith}
+-- The items of a text after an edit made anew, one by one, from the first line to the last.
+use Rattle.std.proofs.Common.{◌≡◌, ℕ, suc, ◌+◌, ◌*◌, ◌^◌, ◌<◌, ◌≤◌, List, ◌∷◌, ◌++◌, length, arith, subst, sym}
 use Rattle.rv_text.specs.Counting.{Counts}
+use Rattle.rv_store.specs.declared.before.Before.{Before}
 use Rattle.rv_store.specs.declared.item.Item.{Item}
-use Rattle.rv_store.specs.declared.limits.TheConstants.{MAX_LINES}
 use Rattle.rv_store.specs.declared.line_sum.LineSum.{LineSum}
 use Rattle.rv_store.specs.declared.value_rows.ValueRows.{ValueRows}
+use Rattle.rv_store.specs.Before.{IsBefore, IsAfter, base_before, lines_before, edit_on}
+use Rattle.rv_store.specs.Changes.{is_reencoded, is_changed}
+use Rattle.rv_store.specs.Former.{IsFormer, AreFormer}
 use Rattle.rv_store.specs.Items.{IsItem}
 use Rattle.rv_store.specs.LineSums.{both_line_sums, line_sum_of}
+use Rattle.rv_store.specs.Program.{lines_that}
 use Rattle.rv_store.specs.ValueRows.{AreValueRows, base_of}
+use Rattle.rv_store.specs.Work.{value_operands, work}
 
--- what a counter counted
-abbrev pub counts_of : {C : Type 0} → (parsed valued encoded : C → ℕ) → C → Counts
-counts_of parsed valued encoded c = record { parsed = parsed c; valued = valued c; encoded = encoded c }
+-- how many values and codes the first n lines of the text after an edit may take
+abbrev pub values_through : Before → (n : ℕ) → ℕ
+values_through before n = work value_operands (base_before before) (lines_before before) (edit_on before) n
 
--- while n lines are made anew, at most 1,000 expressions and one code are computed for each, and none is read
-pub record AreCounted (n : ℕ) (old new : Counts) : Type 0 where
+abbrev pub codes_through : Before → (n : ℕ) → ℕ
+codes_through before n = length (lines_that (is_reencoded (base_before before) (lines_before before) (edit_on before)) n)
+
+-- while the lines after line k up to line n are gone through, no more is counted than these may take, no line is read, and of
+-- each line at most 1,000 values and one code are computed
+pub record AreCounted (before : Before) (k n : ℕ) (old new : Counts) : Type 0 where
   pub parsed : new.parsed ≡ old.parsed
   pub valued_least : old.valued ≤ new.valued
-  pub valued_most : new.valued ≤ old.valued + 1000 * n
+  pub valued_most : new.valued + values_through before k ≤ old.valued + values_through before n
+  pub valued_few : new.valued + 1000 * k ≤ old.valued + 1000 * n
   pub encoded_least : old.encoded ≤ new.encoded
-  pub encoded_most : new.encoded ≤ old.encoded + n
+  pub encoded_most : new.encoded + codes_through before k ≤ old.encoded + codes_through before n
+  pub encoded_few : new.encoded + k ≤ old.encoded + n
+
+-- of the first n lines those that have another code
+abbrev pub changed_through : Before → (n : ℕ) → List ℕ
+changed_through before n = lines_that (is_changed (base_before before) (lines_before before) (edit_on before)) n
+
+-- to a list were added those of the lines after line k up to line n
+pub record AreListed (before : Before) (k n : ℕ) (old new : List ℕ) : Type 0 where
+  pub more : List ℕ
+  pub those : changed_through before n ≡ changed_through before k ++ more
+  pub added : new ≡ old ++ more
 
 -- behind lines of this sum these items are left, one for each line, and the counts have room for them
-pub record AreLeft (rows : ValueRows) (before : LineSum) (items : List Item) (counts : Counts) : Type 0 where
+pub record AreLeft (before : Before) (rows : ValueRows) (sum : LineSum) (items : List Item) (counts : Counts) : Type 0 where
+  pub is_before : IsBefore before
   pub of_text : AreValueRows rows
-  pub few : length rows.text.lines.now ≤ MAX_LINES
-  pub lines : before.count + length items ≡ length rows.text.lines.now
+  pub is_after : IsAfter before rows.symbols.text
+  pub lines : sum.count + length items ≡ length rows.symbols.text.lines.now
+  pub former : AreFormer (base_before before) (lines_before before) (edit_on before) sum.count items
   pub valued : counts.valued + 1000 * length items < 2 ^ 64
   pub encoded : counts.encoded + length items < 2 ^ 64
 
 -- the item of the next line
-abbrev pub IsRenewed : ValueRows → (before : LineSum) → Item → Type 0
-IsRenewed rows before item = IsItem (base_of rows) rows.text.lines.now (before.count + 1) item
+abbrev pub IsRenewed : ValueRows → (sum : LineSum) → Item → Type 0
+IsRenewed rows sum item = IsItem (base_of rows) rows.symbols.text.lines.now (sum.count + 1) item
 
 -- one line further
-pub left-next : (rows rows' : ValueRows) (before : LineSum) (x y : Item) (items : List Item) (counts counts' : Counts) → AreLeft rows before (x ∷ items) counts → rows' ≡ rows → AreCounted 1 counts counts' → AreLeft rows' (both_line_sums before (line_sum_of y)) items counts'
-left-next rows rows' before x y items counts counts' left same counted =
-    subst (λ r. AreLeft r (both_line_sums before (line_sum_of y)) items counts') (sym same) (record {
+pub left-next : (before before' : Before) (rows rows' : ValueRows) (sum : LineSum) (x y : Item) (items : List Item) (counts counts' : Counts) → AreLeft before rows sum (x ∷ items) counts → before' ≡ before → rows' ≡ rows → AreCounted before sum.count (sum.count + 1) counts counts' → AreLeft before' rows' (both_line_sums sum (line_sum_of y)) items counts'
+left-next before before' rows rows' sum x y items counts counts' left same same_rows counted =
+    subst (λ f. AreLeft f rows' (both_line_sums sum (line_sum_of y)) items counts') (sym same)
+    (subst (λ r. AreLeft before r (both_line_sums sum (line_sum_of y)) items counts') (sym same_rows) (record {
+      is_before = left.is_before;
       of_text = left.of_text;
-      few = left.few;
-      lines = omega (arith, left.few, left.lines);
-      valued = omega (arith, left.valued, counted.valued_most);
-      encoded = omega (arith, left.encoded, counted.encoded_most);
-    })
+      is_after = left.is_after;
+      lines = omega (arith, left.is_after.few, left.lines);
+      former = λ i item there. subst (λ k. IsFormer (base_before before) (lines_before before) (edit_on before) k item) (omega (arith, left.is_after.few, left.lines)) (left.former (suc i) item there);
+      valued = omega (arith, left.valued, counted.valued_few);
+      encoded = omega (arith, left.encoded, counted.encoded_few);
+    }))

@@ -9,7 +9,7 @@ use Rattle.rv_list.specs.declared.view.LinePlace.{LinePlace}
 use Rattle.rv_store.specs.Constants.{constant_through}
 use Rattle.rv_store.specs.Definitions.{definition_of}
 use Rattle.rv_store.specs.Layout.{shapes_of, place_at}
-use Rattle.rv_store.specs.Pairs.{paired_high_of}
+use Rattle.rv_store.specs.Pairs.{high_at, paired_high_of}
 use Rattle.rv_store.specs.Program.{Program, for_lines, lines_that}
 use Rattle.rv_store.specs.References.{has_local, equ_value}
 
@@ -54,6 +54,10 @@ AreShapes program row = row ≡ shapes_of program
 
 abbrev pub ArePlaces : (base : ℕ) → Program → List LinePlace → Type 0
 ArePlaces base program row = row ≡ for_lines (place_at base program) (length program)
+
+-- the high half on each line
+abbrev pub AreHighs : (base : ℕ) → Program → List Entry → Type 0
+AreHighs base program row = row ≡ for_lines (high_at base program) (length program)
 
 -- what `%pcrel_lo` of a label takes, by the label's line
 abbrev pub ArePairedHighs : (base : ℕ) → Program → List Entry → Type 0

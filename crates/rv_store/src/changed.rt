@@ -1,8 +1,7 @@
 //! What an edit reports.
 
-ghost use Rattle.std.specs.Prelude.{◌≡◌, ◌∷◌, [], IfOk};
+ghost use Rattle.std.specs.Prelude.{◌≡◌};
 
-use std::alloc::{AllocError, Global};
 use std::marker::Model;
 
 /// Numbers of lines. Contracts see the list of them.
@@ -28,32 +27,20 @@ impl LineNumbers {
     }
 }
 
-/// What an edit says of the lines that it changed. Which lines it lists is not promised yet.
+/// What an edit says of the lines that it changed.
 #[derive(Debug, Drop)]
 pub struct Changed {
-    /// The lines that are listed, by their numbers.
+    /// The lines of the text after the edit that are new or have another code than before, by their numbers, rising.
     pub lines: LineNumbers,
 }
 
 impl Changed {
-    /// No line.
-    pub(crate) fn none(alloc: Global) -> Self
-        ensures { result.lines ≡ [] }
+    /// These lines.
+    pub(crate) fn of(numbers: Vec<u32>) -> Self
+        ensures { result.lines ≡ numbers.items }
     {
         Changed {
-            lines: LineNumbers {
-                numbers: Vec::new(alloc),
-            },
-        }
-    }
-
-    /// One line.
-    pub(crate) fn of(alloc: Global, line: u32) -> Result<Self, AllocError>
-        ensures { IfOk result (λ c. c.lines ≡ line ∷ []) }
-    {
-        let numbers = vec![in alloc; line]?;
-        Ok(Changed {
             lines: LineNumbers { numbers },
-        })
+        }
     }
 }

@@ -118,7 +118,7 @@ impl ValueRows<'_> {
     ) -> Result<Coded, FixError>
         requires rows { AreValueRows self.now }
         requires first { 1 ≤ line }
-        requires last { line ≤ length self.now.text.lines.now }
+        requires last { line ≤ length self.now.symbols.text.lines.now }
         requires values { values.now ≡ values_at (base_of self.now) (program_of_rows self.now) line }
         requires encoded { C.encoded_count counter.old < 2 ^ 64 - 1 }
         ensures code { IfOk result (λ c. c ≡ code_at (base_of self.now) (program_of_rows self.now) line) }
@@ -127,7 +127,7 @@ impl ValueRows<'_> {
         ensures parsed { C.parsed_count counter.new ≡ C.parsed_count counter.old }
         ensures valued { C.valued_count counter.new ≡ C.valued_count counter.old }
     {
-        let stmt = statement_on(&self.text, line);
+        let stmt = statement_on(&self.symbols.text, line);
         code_by_values(alloc, stmt, shape_on(self, line), values, counter)
     }
 }

@@ -5,8 +5,9 @@ ghost use Rattle.rv_stmt.specs.declared.statement.Body.TheVariants.{Equ as EquBo
 ghost use Rattle.rv_layout.specs.Shapes.{constants};
 ghost use Rattle.rv_store.specs.declared.limits.TheConstants.{MAX_LINES};
 ghost use Rattle.rv_store.specs.Constants.{defined_value};
-ghost use Rattle.rv_store.specs.Program.{program_of};
+ghost use Rattle.rv_store.specs.Program.{program_of, body_at};
 ghost use Rattle.rv_store.specs.Rows.{in_row, AreDefinitions, AreConstants};
+ghost use Rattle.rv_store.specs.Work.{equ_operands};
 
 use crate::definitions::defining_equ;
 use crate::line::Line;
@@ -68,6 +69,7 @@ pub fn defined_value<N: Names, C: Count>(
     ensures value { result ≡ defined_value (N.environment names.now here) (EquBody definition.now) }
     ensures least { C.valued_count counter.old ≤ C.valued_count counter.new }
     ensures valued { C.valued_count counter.new ≤ C.valued_count counter.old + 1 }
+    ensures operands { C.valued_count counter.new ≤ C.valued_count counter.old + length definition.now.operands }
     ensures parsed { C.parsed_count counter.new ≡ C.parsed_count counter.old }
     ensures encoded { C.encoded_count counter.new ≡ C.encoded_count counter.old }
 {
@@ -103,6 +105,7 @@ pub fn settle_constant<C: Count>(
     ensures as_many { length row.new.items ≡ length definitions.now }
     ensures least { C.valued_count counter.old ≤ C.valued_count counter.new }
     ensures most { C.valued_count counter.new ≤ C.valued_count counter.old + 1 }
+    ensures operands { C.valued_count counter.new ≤ C.valued_count counter.old + equ_operands (body_at (program_of lines.now) (i + 1)) }
     ensures parsed { C.parsed_count counter.new ≡ C.parsed_count counter.old }
     ensures encoded { C.encoded_count counter.new ≡ C.encoded_count counter.old }
 {

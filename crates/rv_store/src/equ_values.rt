@@ -4,7 +4,9 @@ ghost use Rattle.std.specs.Prelude.{◌≡◌, ◌≤◌, ◌<◌, ◌+◌, ◌^
 ghost use Rattle.rv_stmt.specs.declared.statement.Body.{Body};
 ghost use Rattle.rv_store.specs.declared.limits.TheConstants.{MAX_LINES};
 ghost use Rattle.rv_store.specs.Constants.{defined_value};
-ghost use Rattle.rv_store.specs.TextRows.{AreTextRows, AreEquValuesIn, references_through};
+ghost use Rattle.rv_store.specs.Program.{body_at};
+ghost use Rattle.rv_store.specs.TextRows.{AreTextRows, AreEquValuesIn, program_in, references_through};
+ghost use Rattle.rv_store.specs.Work.{equ_operands, operands_through};
 
 use crate::constants::defined_value;
 use crate::definitions::defining_equ;
@@ -32,6 +34,7 @@ fn value_on<C: Count>(
     ensures value { result ≡ defined_value (references_through text.now (line - 1) line) (Body.Equ definition.now) }
     ensures valued { C.valued_count counter.old ≤ C.valued_count counter.new }
     ensures valued_within { C.valued_count counter.new ≤ C.valued_count counter.old + 1 }
+    ensures operands { C.valued_count counter.new ≤ C.valued_count counter.old + length definition.now.operands }
     ensures parsed { C.parsed_count counter.new ≡ C.parsed_count counter.old }
     ensures encoded { C.encoded_count counter.new ≡ C.encoded_count counter.old }
 {
@@ -52,6 +55,7 @@ fn settle_equ<C: Count>(text: &TextRows<'_>, i: usize, row: &mut Vec<Entry>, cou
     ensures as_many { length row.new.items ≡ length text.now.names.now }
     ensures valued { C.valued_count counter.old ≤ C.valued_count counter.new }
     ensures valued_within { C.valued_count counter.new ≤ C.valued_count counter.old + 1 }
+    ensures operands { C.valued_count counter.new ≤ C.valued_count counter.old + equ_operands (body_at (program_in text.now) (i + 1)) }
     ensures parsed { C.parsed_count counter.new ≡ C.parsed_count counter.old }
     ensures encoded { C.encoded_count counter.new ≡ C.encoded_count counter.old }
 {
@@ -64,7 +68,7 @@ fn settle_equ<C: Count>(text: &TextRows<'_>, i: usize, row: &mut Vec<Entry>, cou
 }
 
 /// The values of the `.equ`s, by the numbers of their names. The counter's number of expressions computed rises by at most
-/// one for each line. Fails only for want of memory, before anything is computed.
+/// the operands of the `.equ`s. Fails only for want of memory, before anything is computed.
 pub fn equ_values<C: Count>(
     alloc: Global,
     text: &TextRows<'_>,
@@ -76,6 +80,7 @@ pub fn equ_values<C: Count>(
     ensures values { IfOk result (λ row. AreEquValuesIn text.now (length text.now.lines.now) row.items) }
     ensures valued { C.valued_count counter.old ≤ C.valued_count counter.new }
     ensures valued_within { C.valued_count counter.new ≤ C.valued_count counter.old + length text.now.lines.now }
+    ensures operands { C.valued_count counter.new ≤ C.valued_count counter.old + operands_through equ_operands (program_in text.now) (length text.now.lines.now) }
     ensures parsed { C.parsed_count counter.new ≡ C.parsed_count counter.old }
     ensures encoded { C.encoded_count counter.new ≡ C.encoded_count counter.old }
 {

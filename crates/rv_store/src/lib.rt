@@ -2,13 +2,17 @@
 #![tactic(auto)]
 
 mod base;
+mod before;
 mod changed;
 mod codes;
 mod constants;
 mod definitions;
+mod edit;
 mod edit_error;
 mod ends;
 mod equ_values;
+mod highs;
+mod invalidation;
 mod item;
 mod laws;
 mod limits;
@@ -25,9 +29,11 @@ mod renewal;
 mod shapes;
 mod store;
 mod survey;
+mod symbol_rows;
 mod symbols;
 mod text_lines;
 mod text_rows;
+mod uses;
 mod value_rows;
 
 pub use base::base_ok;

@@ -94,7 +94,7 @@ fn line_of_place(place: DefinitionPlace) -> Result<u32, ValueFault>
 
 // What a symbol gives where the `.equ`s of the lines up to `usable_equs` may be used, by its definition and the value of
 // its `.equ`.
-fn by_definition(
+pub(crate) fn by_definition(
     places: &[LinePlace],
     usable_equs: u32,
     place: DefinitionPlace,

@@ -6,6 +6,7 @@ ghost use Rattle.rv_stmt.specs.Statement.{operands_of};
 ghost use Rattle.rv_store.specs.declared.limits.TheConstants.{MAX_LINES};
 ghost use Rattle.rv_store.specs.Codes.{is_text, values_of_body, values_at};
 ghost use Rattle.rv_store.specs.ValueRows.{AreValueRows, base_of, program_of_rows, body_in};
+ghost use Rattle.rv_store.specs.Work.{value_operands};
 
 use crate::line_names::names_at;
 use crate::names::entry_of;
@@ -33,7 +34,7 @@ pub enum LineValues {
 }
 
 // Whether these are the same value or the same fault.
-fn is_same_entry(left: Entry, right: Entry) -> bool
+pub(crate) fn is_same_entry(left: Entry, right: Entry) -> bool
     ensures { IsTrue result ↔ (left ≡ right) }
 {
     match left {
@@ -84,11 +85,11 @@ fn is_text(section: Sect) -> bool
 fn symbol_value(rows: &ValueRows<'_>, definition: &Definition, line: u32) -> LineValues
     requires rows { AreValueRows rows.now }
     requires first { 1 ≤ line }
-    requires last { line ≤ length rows.now.text.lines.now }
+    requires last { line ≤ length rows.now.symbols.text.lines.now }
     requires equ { body_in rows.now line ≡ Body.Equ definition.now }
     ensures { result ≡ values_of_body (base_of rows.now) (program_of_rows rows.now) line (Body.Equ definition.now) }
 {
-    let text = &rows.text;
+    let text = &rows.symbols.text;
     let name = definition.symbol.bytes();
     let place = entry_of(text.names, text.definitions, DefinitionPlace::Nowhere, name);
     let DefinitionPlace::Equ(equ) = place else {
@@ -97,7 +98,12 @@ fn symbol_value(rows: &ValueRows<'_>, definition: &Definition, line: u32) -> Lin
     if equ != line {
         return LineValues::Nothing;
     }
-    let value = entry_of(text.names, rows.equ_values, Err(ValueFault::LaterEqu), name);
+    let value = entry_of(
+        text.names,
+        rows.symbols.equ_values,
+        Err(ValueFault::LaterEqu),
+        name,
+    );
     LineValues::Symbol(value)
 }
 
@@ -110,22 +116,27 @@ fn values_of_body<C: Count>(
 ) -> Result<LineValues, FixError>
     requires rows { AreValueRows rows.now }
     requires first { 1 ≤ line }
-    requires last { line ≤ length rows.now.text.lines.now }
-    requires few { length rows.now.text.lines.now ≤ MAX_LINES }
+    requires last { line ≤ length rows.now.symbols.text.lines.now }
+    requires few { length rows.now.symbols.text.lines.now ≤ MAX_LINES }
     requires valued { C.valued_count counter.old + length (operands_of (body_in rows.now line)) < 2 ^ 64 }
     ensures values { IfOk result (λ v. v ≡ values_of_body (base_of rows.now) (program_of_rows rows.now) line (body_in rows.now line)) }
     ensures least { C.valued_count counter.old ≤ C.valued_count counter.new }
-    ensures most { C.valued_count counter.new ≤ C.valued_count counter.old + length (operands_of (body_in rows.now line)) }
+    ensures most { C.valued_count counter.new ≤ C.valued_count counter.old + value_operands (body_in rows.now line) }
     ensures parsed { C.parsed_count counter.new ≡ C.parsed_count counter.old }
     ensures encoded { C.encoded_count counter.new ≡ C.encoded_count counter.old }
 {
-    let stmt = statement_on(&rows.text, line);
-    let place = place_on(&rows.text, line);
+    let stmt = statement_on(&rows.symbols.text, line);
+    let place = place_on(&rows.symbols.text, line);
     match &stmt.body {
         Body::Align(_) => Ok(LineValues::Padding(is_text(place.section), place.size)),
         Body::Equ(definition) => Ok(symbol_value(rows, definition, line)),
         _ => {
-            let names = names_at(&rows.text, rows.equ_values, rows.paired_highs, line);
+            let names = names_at(
+                &rows.symbols.text,
+                rows.symbols.equ_values,
+                rows.paired_highs,
+                line,
+            );
             let values = operand_values(alloc, stmt, &names, place.address, counter)?;
             Ok(LineValues::Operands(values))
         }
@@ -135,7 +146,8 @@ fn values_of_body<C: Count>(
 impl ValueRows<'_> {
     /// The values of a line.
     ///
-    /// The counter's number of expressions computed rises by at most one for each operand of the line, whatever the outcome.
+    /// The counter's number of expressions computed rises by at most one for each operand of the line, and not at all for an
+    /// `.equ`, whatever the outcome.
     ///
     /// # Errors
     ///
@@ -148,12 +160,12 @@ impl ValueRows<'_> {
     ) -> Result<LineValues, FixError>
         requires rows { AreValueRows self.now }
         requires first { 1 ≤ line }
-        requires last { line ≤ length self.now.text.lines.now }
-        requires few { length self.now.text.lines.now ≤ MAX_LINES }
+        requires last { line ≤ length self.now.symbols.text.lines.now }
+        requires few { length self.now.symbols.text.lines.now ≤ MAX_LINES }
         requires valued { C.valued_count counter.old + length (operands_of (body_in self.now line)) < 2 ^ 64 }
         ensures values { IfOk result (λ v. v ≡ values_at (base_of self.now) (program_of_rows self.now) line) }
         ensures least { C.valued_count counter.old ≤ C.valued_count counter.new }
-        ensures most { C.valued_count counter.new ≤ C.valued_count counter.old + length (operands_of (body_in self.now line)) }
+        ensures most { C.valued_count counter.new ≤ C.valued_count counter.old + value_operands (body_in self.now line) }
         ensures parsed { C.parsed_count counter.new ≡ C.parsed_count counter.old }
         ensures encoded { C.encoded_count counter.new ≡ C.encoded_count counter.old }
     {

@@ -1,25 +1,28 @@
 //! The store.
 
-ghost use Rattle.std.specs.Prelude.{◌≡◌, ◌+◌, ◌*◌, ◌-◌, ◌^◌, ◌<◌, ◌≤◌, ◌==◌, [], length, map, insert, None, if◌then◌else◌, IfOk, IfErr, IfSome, OnOk, OnErr, slice_get, true, false};
-ghost use Rattle.std.specs.List.{AllPass};
+ghost use Rattle.std.specs.Prelude.{◌≡◌, ◌+◌, ◌*◌, ◌-◌, ◌^◌, ◌<◌, ◌≤◌, ◌==◌, [], length, map, None, if◌then◌else◌, IfOk, IfErr, IfSome, OnOk, OnErr, slice_get, true, false};
 ghost use Rattle.std.specs.Option.{option_map};
+ghost use Rattle.rv_store.specs.Changes.{changed_lines, most_values, most_codes};
 ghost use Rattle.rv_store.specs.Codes.{code_at};
+ghost use Rattle.rv_store.specs.Counted.{counts_of, lines_read, Counted};
+ghost use Rattle.rv_store.specs.Edits.{edit_of};
+ghost use Rattle.rv_store.specs.Former.{AreFormer};
 ghost use Rattle.rv_store.specs.Layout.{address_at};
 ghost use Rattle.rv_store.specs.Program.{program_of};
 ghost use Rattle.rv_store.specs.Symbols.{symbol_of};
-ghost use Rattle.rv_store.specs.Text.{is_base, is_line, at_line, Insert, Delete, Replace, Edits};
+ghost use Rattle.rv_store.specs.Text.{is_base, is_line, at_line, Insert, Delete, Replace, refusal_of, lines_after, text_after, Edits};
 
 mod shown;
 
 use crate::base::base_ok;
 use crate::changed::Changed;
+use crate::edit::LineEdit;
 use crate::edit_error::EditError;
 use crate::item::Item;
 use crate::limits::MAX_LINES;
 use crate::line::Line;
 use crate::names::NameTable;
-use crate::refusals::{delete_refused, insert_refused, replace_refused};
-use crate::renewal::renewed_all;
+use crate::renewal::renewed_items;
 use crate::survey::Survey;
 use crate::symbols::SymValue;
 use crate::text_rows::address_in;
@@ -140,31 +143,114 @@ impl Store {
         }
     }
 
-    // Makes these lines the text; the items are theirs. Where there is no memory for that, the text stays.
+    // The lines after an edit that is not refused, and their items: what was kept of each line, and nothing of the line that
+    // the edit puts in. That line is read.
+    fn edited<C: Count>(
+        &self,
+        edit: &LineEdit<'_>,
+        counter: &mut C,
+    ) -> Result<(Vec<Line>, SumTree<Item>), EditError>
+        requires allowed { refusal_of self.now.lines (edit_of edit.now) ≡ None }
+        requires parsed { C.parsed_count counter.old ≤ 2 ^ 63 }
+        ensures lines { IfOk result (λ r. r.0.items ≡ lines_after self.now.lines (edit_of edit.now)) }
+        ensures items { IfOk result (λ r. map (λ i. i.line) r.1.items ≡ lines_after self.now.lines (edit_of edit.now)) }
+        ensures former { IfOk result (λ r. AreFormer self.now.base self.now.lines (edit_of edit.now) 0 r.1.items) }
+        ensures memory { IfErr result (λ e. e ≡ EditError.Memory) }
+        ensures read { IfOk result (λ _. C.parsed_count counter.new ≡ C.parsed_count counter.old + lines_read (edit_of edit.now)) }
+        ensures parsed_least { C.parsed_count counter.old ≤ C.parsed_count counter.new }
+        ensures parsed_most { C.parsed_count counter.new ≤ C.parsed_count counter.old + lines_read (edit_of edit.now) }
+        ensures valued { C.valued_count counter.new ≡ C.valued_count counter.old }
+        ensures encoded { C.encoded_count counter.new ≡ C.encoded_count counter.old }
+    {
+        let mut lines = shared_lines(self.alloc, &self.survey.lines)?;
+        match *edit {
+            LineEdit::Insert(k, line) => {
+                let entered = Line::read(self.alloc, line, counter)?;
+                lines.insert(k as usize - 1, entered.share()?)?;
+                let item = Item::entered(self.alloc, entered)?;
+                Ok((lines, self.items.inserted(k, item)?))
+            }
+            LineEdit::Delete(k) => {
+                let _ = lines.remove(k as usize - 1);
+                Ok((lines, self.items.deleted(k)?))
+            }
+            LineEdit::Replace(k, line) => {
+                let entered = Line::read(self.alloc, line, counter)?;
+                lines[k as usize - 1] = entered.share()?;
+                let item = Item::entered(self.alloc, entered)?;
+                Ok((lines, self.items.replaced(k, item)?))
+            }
+        }
+    }
+
+    // Makes the lines after an edit the text; the items are theirs as they were before it. Where there is no memory for that,
+    // the text stays.
     fn assemble<C: Count>(
         &mut self,
+        edit: &LineEdit<'_>,
         lines: Vec<Line>,
         items: &SumTree<Item>,
         counter: &mut C,
-    ) -> Result<(), EditError>
-        requires few { length lines.items ≤ MAX_LINES }
-        requires lines { AllPass is_line lines.items }
+    ) -> Result<Changed, EditError>
+        requires allowed { refusal_of self.old.lines (edit_of edit.now) ≡ None }
+        requires lines { lines.items ≡ lines_after self.old.lines (edit_of edit.now) }
         requires items { map (λ i. i.line) items.now.items ≡ lines.items }
+        requires former { AreFormer self.old.base self.old.lines (edit_of edit.now) 0 items.now.items }
         requires valued { C.valued_count counter.old ≤ 2 ^ 63 }
         requires encoded { C.encoded_count counter.old ≤ 2 ^ 63 }
-        ensures ok { OnOk result (self.new ≡ record { base = self.old.base; lines = lines.items }) }
+        ensures ok { OnOk result (self.new ≡ text_after self.old (edit_of edit.now)) }
         ensures err { OnErr result (self.new ≡ self.old) }
+        ensures changed { IfOk result (λ c. c.lines ≡ changed_lines self.old.base self.old.lines (edit_of edit.now)) }
         ensures memory { IfErr result (λ e. e ≡ EditError.Memory) }
         ensures parsed { C.parsed_count counter.new ≡ C.parsed_count counter.old }
         ensures valued { (C.valued_count counter.old ≤ C.valued_count counter.new) × (C.valued_count counter.new ≤ C.valued_count counter.old + 1004 * length lines.items) }
         ensures encoded { (C.encoded_count counter.old ≤ C.encoded_count counter.new) × (C.encoded_count counter.new ≤ C.encoded_count counter.old + length lines.items) }
+        ensures values { C.valued_count counter.new ≤ C.valued_count counter.old + most_values self.old.base self.old.lines (edit_of edit.now) }
+        ensures codes { C.encoded_count counter.new ≤ C.encoded_count counter.old + most_codes self.old.base self.old.lines (edit_of edit.now) }
     {
-        let survey = Survey::of(self.alloc, self.base, lines, &mut self.names, counter)?;
-        let rows = survey.rows(self.base, &self.names);
-        let items = renewed_all(self.alloc, &rows, items, counter)?;
+        let survey = Survey::after(
+            self.alloc,
+            self.base,
+            &self.survey,
+            edit,
+            lines,
+            &mut self.names,
+            counter,
+        )?;
+        let mut changed = Vec::new(self.alloc);
+        let items = renewed_items(
+            self.alloc,
+            self.base,
+            &self.names,
+            &self.survey,
+            edit,
+            &survey,
+            items,
+            &mut changed,
+            counter,
+        )?;
         self.survey = survey;
         self.items = items;
-        Ok(())
+        Ok(Changed::of(changed))
+    }
+
+    // Makes an edit, or says why not.
+    fn edit<C: Count>(&mut self, edit: &LineEdit<'_>, counter: &mut C) -> Result<Changed, EditError>
+        requires parsed { C.parsed_count counter.old ≤ 2 ^ 63 }
+        requires valued { C.valued_count counter.old ≤ 2 ^ 63 }
+        requires encoded { C.encoded_count counter.old ≤ 2 ^ 63 }
+        ensures edit { Edits self.old (edit_of edit.now) result self.new }
+        ensures changed { IfOk result (λ c. c.lines ≡ changed_lines self.old.base self.old.lines (edit_of edit.now)) }
+        ensures counted { Counted self.old (edit_of edit.now) result (counts_of C.parsed_count C.valued_count C.encoded_count counter.old) (counts_of C.parsed_count C.valued_count C.encoded_count counter.new) }
+        ensures parsed { (C.parsed_count counter.old ≤ C.parsed_count counter.new) × (C.parsed_count counter.new < C.parsed_count counter.old + 2 ^ 32) }
+        ensures valued { (C.valued_count counter.old ≤ C.valued_count counter.new) × (C.valued_count counter.new < C.valued_count counter.old + 2 ^ 32) }
+        ensures encoded { (C.encoded_count counter.old ≤ C.encoded_count counter.new) × (C.encoded_count counter.new < C.encoded_count counter.old + 2 ^ 32) }
+    {
+        if let Some(e) = edit.refusal(self.len()) {
+            return Err(e);
+        }
+        let (lines, items) = self.edited(edit, counter)?;
+        self.assemble(edit, lines, &items, counter)
     }
 
     /// Makes `line` the line number `k`, from 1 to one more than there are; the lines from `k` on move down by one.
@@ -183,21 +269,13 @@ impl Store {
         requires valued { C.valued_count counter.old ≤ 2 ^ 63 }
         requires encoded { C.encoded_count counter.old ≤ 2 ^ 63 }
         ensures edit { Edits self.old (Insert k line.now) result self.new }
+        ensures changed { IfOk result (λ c. c.lines ≡ changed_lines self.old.base self.old.lines (Insert k line.now)) }
+        ensures counted { Counted self.old (Insert k line.now) result (counts_of C.parsed_count C.valued_count C.encoded_count counter.old) (counts_of C.parsed_count C.valued_count C.encoded_count counter.new) }
         ensures parsed { (C.parsed_count counter.old ≤ C.parsed_count counter.new) × (C.parsed_count counter.new < C.parsed_count counter.old + 2 ^ 32) }
         ensures valued { (C.valued_count counter.old ≤ C.valued_count counter.new) × (C.valued_count counter.new < C.valued_count counter.old + 2 ^ 32) }
         ensures encoded { (C.encoded_count counter.old ≤ C.encoded_count counter.new) × (C.encoded_count counter.new < C.encoded_count counter.old + 2 ^ 32) }
     {
-        if let Some(e) = insert_refused(self.len(), k, line) {
-            return Err(e);
-        }
-        let changed = Changed::of(self.alloc, k)?;
-        let entered = Line::read(self.alloc, line, counter)?;
-        let mut lines = shared_lines(self.alloc, &self.survey.lines)?;
-        lines.insert(k as usize - 1, entered.share()?)?;
-        let item = Item::entered(self.alloc, entered)?;
-        let items = self.items.inserted(k, item)?;
-        self.assemble(lines, &items, counter)?;
-        Ok(changed)
+        self.edit(&LineEdit::Insert(k, line), counter)
     }
 
     /// Takes out the line number `k`, from 1 on; the lines after it move up by one.
@@ -209,18 +287,13 @@ impl Store {
         requires valued { C.valued_count counter.old ≤ 2 ^ 63 }
         requires encoded { C.encoded_count counter.old ≤ 2 ^ 63 }
         ensures edit { Edits self.old (Delete k) result self.new }
+        ensures changed { IfOk result (λ c. c.lines ≡ changed_lines self.old.base self.old.lines (Delete k)) }
+        ensures counted { Counted self.old (Delete k) result (counts_of C.parsed_count C.valued_count C.encoded_count counter.old) (counts_of C.parsed_count C.valued_count C.encoded_count counter.new) }
         ensures parsed { (C.parsed_count counter.old ≤ C.parsed_count counter.new) × (C.parsed_count counter.new < C.parsed_count counter.old + 2 ^ 32) }
         ensures valued { (C.valued_count counter.old ≤ C.valued_count counter.new) × (C.valued_count counter.new < C.valued_count counter.old + 2 ^ 32) }
         ensures encoded { (C.encoded_count counter.old ≤ C.encoded_count counter.new) × (C.encoded_count counter.new < C.encoded_count counter.old + 2 ^ 32) }
     {
-        if let Some(e) = delete_refused(self.len(), k) {
-            return Err(e);
-        }
-        let mut lines = shared_lines(self.alloc, &self.survey.lines)?;
-        let _ = lines.remove(k as usize - 1);
-        let items = self.items.deleted(k)?;
-        self.assemble(lines, &items, counter)?;
-        Ok(Changed::none(self.alloc))
+        self.edit(&LineEdit::Delete(k), counter)
     }
 
     /// Puts `line` in the place of line number `k`, from 1 on.
@@ -237,20 +310,12 @@ impl Store {
         requires valued { C.valued_count counter.old ≤ 2 ^ 63 }
         requires encoded { C.encoded_count counter.old ≤ 2 ^ 63 }
         ensures edit { Edits self.old (Replace k line.now) result self.new }
+        ensures changed { IfOk result (λ c. c.lines ≡ changed_lines self.old.base self.old.lines (Replace k line.now)) }
+        ensures counted { Counted self.old (Replace k line.now) result (counts_of C.parsed_count C.valued_count C.encoded_count counter.old) (counts_of C.parsed_count C.valued_count C.encoded_count counter.new) }
         ensures parsed { (C.parsed_count counter.old ≤ C.parsed_count counter.new) × (C.parsed_count counter.new < C.parsed_count counter.old + 2 ^ 32) }
         ensures valued { (C.valued_count counter.old ≤ C.valued_count counter.new) × (C.valued_count counter.new < C.valued_count counter.old + 2 ^ 32) }
         ensures encoded { (C.encoded_count counter.old ≤ C.encoded_count counter.new) × (C.encoded_count counter.new < C.encoded_count counter.old + 2 ^ 32) }
     {
-        if let Some(e) = replace_refused(self.len(), k, line) {
-            return Err(e);
-        }
-        let changed = Changed::of(self.alloc, k)?;
-        let entered = Line::read(self.alloc, line, counter)?;
-        let mut lines = shared_lines(self.alloc, &self.survey.lines)?;
-        lines[k as usize - 1] = entered.share()?;
-        let item = Item::entered(self.alloc, entered)?;
-        let items = self.items.replaced(k, item)?;
-        self.assemble(lines, &items, counter)?;
-        Ok(changed)
+        self.edit(&LineEdit::Replace(k, line), counter)
     }
 }

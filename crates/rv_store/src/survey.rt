@@ -1,16 +1,24 @@
 //! What is kept of the lines of a text.
 
-ghost use Rattle.std.specs.Prelude.{◌≡◌, ℕ, ◌≤◌, ◌<◌, ◌+◌, ◌*◌, ◌^◌, [], length, IfOk};
+ghost use Rattle.std.specs.Prelude.{◌≡◌, ℕ, ◌≤◌, ◌<◌, ◌+◌, ◌*◌, ◌^◌, [], None, length, IfOk};
 ghost use Rattle.rv_layout.specs.Effects.{layout_of};
 ghost use Rattle.rv_layout.specs.Places.{section_base_of, section_end_of, AreLimited, IsBase};
 ghost use Rattle.rv_layout.specs.Sections.{sections};
+ghost use Rattle.rv_store.specs.Before.{IsBefore, base_before, lines_before, edit_on};
+ghost use Rattle.rv_store.specs.Edits.{edit_of};
 ghost use Rattle.rv_store.specs.Program.{program_of};
 ghost use Rattle.rv_store.specs.Rows.{Grows};
 ghost use Rattle.rv_store.specs.Surveys.{IsSurvey};
-ghost use Rattle.rv_store.specs.ValueRows.{AreValueRows};
+ghost use Rattle.rv_store.specs.SymbolRows.{AreSymbolRows};
+ghost use Rattle.rv_store.specs.Text.{refusal_of, lines_after};
+ghost use Rattle.rv_store.specs.ValueRows.{AreValueRows, base_of};
+ghost use Rattle.rv_store.specs.Work.{survey_operands, work};
 
+use crate::before::Before;
 use crate::definitions::definitions;
+use crate::edit::LineEdit;
 use crate::equ_values::equ_values;
+use crate::highs::highs;
 use crate::limits::MAX_LINES;
 use crate::line::Line;
 use crate::locals::Locals;
@@ -18,6 +26,7 @@ use crate::names::NameTable;
 use crate::paired_highs::paired_highs;
 use crate::places::{places, total_layout};
 use crate::shapes::shapes;
+use crate::symbol_rows::SymbolRows;
 use crate::text_rows::TextRows;
 use crate::value_rows::ValueRows;
 use rv_fix::Entry;
@@ -46,6 +55,8 @@ pub struct Survey {
     pub locals: Locals,
     /// The value that the `.equ` of each name has.
     pub equ_values: Vec<Entry>,
+    /// The high half on each line.
+    pub highs: Vec<Entry>,
     /// What `%pcrel_lo` takes from a label on each line.
     pub paired_highs: Vec<Entry>,
 }
@@ -65,20 +76,30 @@ impl Survey {
             places: Vec::new(alloc),
             locals: Locals::new(alloc),
             equ_values: Vec::new(alloc),
+            highs: Vec::new(alloc),
             paired_highs: Vec::new(alloc),
         }
     }
 
-    /// That of these lines, the first of which is at `base`. Names that they define get numbers, also where there is no memory
-    /// for the rest. The counter's number of expressions computed rises by at most four for each line.
-    pub fn of<C: Count>(
+    /// That of the lines of a text after an edit, the first of which is at `base`; `old` is that of the lines before it. Names
+    /// that the lines define get numbers, also where there is no memory for the rest.
+    ///
+    /// The counter's number of expressions computed rises by at most four for each line, and by at most what the edit
+    /// invalidates: the size operands, the high halves, and the `.equ`s twice.
+    pub fn after<C: Count>(
         alloc: Global,
         base: u32,
+        old: &Survey,
+        edit: &LineEdit<'_>,
         lines: Vec<Line>,
         names: &mut NameTable,
         counter: &mut C,
     ) -> Result<Survey, AllocError>
         requires base { IsBase base }
+        requires old { IsSurvey base (program_of old.now.lines.items) names.old old.now }
+        requires old_few { length old.now.lines.items ≤ MAX_LINES }
+        requires allowed { refusal_of old.now.lines.items (edit_of edit.now) ≡ None }
+        requires edited { lines.items ≡ lines_after old.now.lines.items (edit_of edit.now) }
         requires few { length lines.items ≤ MAX_LINES }
         requires valued { C.valued_count counter.old ≤ 2 ^ 63 }
         ensures survey { IfOk result (λ s. IsSurvey base (program_of lines.items) names.new s) }
@@ -86,12 +107,14 @@ impl Survey {
         ensures names { Grows names.old names.new }
         ensures least { C.valued_count counter.old ≤ C.valued_count counter.new }
         ensures most { C.valued_count counter.new ≤ C.valued_count counter.old + 4 * length lines.items }
+        ensures work { C.valued_count counter.new ≤ C.valued_count counter.old + work survey_operands base old.now.lines.items (edit_of edit.now) (length lines.items) }
         ensures parsed { C.parsed_count counter.new ≡ C.parsed_count counter.old }
         ensures encoded { C.encoded_count counter.new ≡ C.encoded_count counter.old }
     {
         let column: &[Line] = &lines;
         let definitions = definitions(alloc, column, names)?;
-        let sized = shapes(alloc, column, names, &definitions, counter)?;
+        let before = old.before(base, names, edit);
+        let sized = shapes(alloc, &before, column, names, &definitions, counter)?;
         let total = total_layout(&sized.shapes);
         let places = places(alloc, base, &sized.shapes, &total)?;
         let locals = Locals::of(alloc, column)?;
@@ -104,7 +127,13 @@ impl Survey {
             locals: &locals,
         };
         let equ_values = equ_values(alloc, &text, counter)?;
-        let paired_highs = paired_highs(alloc, &text, &equ_values, counter)?;
+        let after = SymbolRows {
+            text,
+            constants: &sized.constants,
+            equ_values: &equ_values,
+        };
+        let highs = highs(alloc, &before, &after, counter)?;
+        let paired_highs = paired_highs(alloc, &text, &highs)?;
         Ok(Survey {
             lines,
             definitions,
@@ -114,8 +143,53 @@ impl Survey {
             places,
             locals,
             equ_values,
+            highs,
             paired_highs,
         })
+    }
+
+    // The text with what its symbols are.
+    fn symbols<'a>(&'a self, base: u32, names: &'a NameTable) -> SymbolRows<'a>
+        requires { IsSurvey base (program_of self.now.lines.items) names.now self.now }
+        ensures rows { AreSymbolRows result }
+        ensures base { result.text.base ≡ base }
+        ensures lines { result.text.lines.now ≡ self.now.lines.items }
+    {
+        SymbolRows {
+            text: TextRows {
+                base,
+                lines: &self.lines,
+                names,
+                definitions: &self.definitions,
+                places: &self.places,
+                locals: &self.locals,
+            },
+            constants: &self.constants,
+            equ_values: &self.equ_values,
+        }
+    }
+
+    /// The text with what is kept of it, before an edit that is not refused.
+    pub fn before<'a, 'e>(
+        &'a self,
+        base: u32,
+        names: &'a NameTable,
+        edit: &LineEdit<'e>,
+    ) -> Before<'a, 'e>
+        requires survey { IsSurvey base (program_of self.now.lines.items) names.now self.now }
+        requires few { length self.now.lines.items ≤ MAX_LINES }
+        requires allowed { refusal_of self.now.lines.items (edit_of edit.now) ≡ None }
+        ensures before { IsBefore result }
+        ensures base { base_before result ≡ base }
+        ensures lines { lines_before result ≡ self.now.lines.items }
+        ensures edit { edit_on result ≡ edit_of edit.now }
+    {
+        Before {
+            edit: *edit,
+            symbols: self.symbols(base, names),
+            shapes: &self.shapes,
+            highs: &self.highs,
+        }
     }
 
     /// Where a section lies, by its number.
@@ -138,20 +212,12 @@ impl Survey {
     pub fn rows<'a>(&'a self, base: u32, names: &'a NameTable) -> ValueRows<'a>
         requires { IsSurvey base (program_of self.now.lines.items) names.now self.now }
         ensures rows { AreValueRows result }
-        ensures base { result.text.base ≡ base }
-        ensures lines { result.text.lines.now ≡ self.now.lines.items }
+        ensures base { base_of result ≡ base }
+        ensures lines { result.symbols.text.lines.now ≡ self.now.lines.items }
     {
         ValueRows {
-            text: TextRows {
-                base,
-                lines: &self.lines,
-                names,
-                definitions: &self.definitions,
-                places: &self.places,
-                locals: &self.locals,
-            },
+            symbols: self.symbols(base, names),
             shapes: &self.shapes,
-            equ_values: &self.equ_values,
             paired_highs: &self.paired_highs,
         }
     }

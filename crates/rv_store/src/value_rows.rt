@@ -4,18 +4,16 @@ ghost use Rattle.std.specs.Prelude.{◌≡◌, ◌≤◌, length};
 ghost use Rattle.rv_store.specs.Layout.{shape_at};
 ghost use Rattle.rv_store.specs.ValueRows.{AreValueRows, program_of_rows};
 
-use crate::text_rows::TextRows;
+use crate::symbol_rows::SymbolRows;
 use rv_fix::Entry;
 use rv_layout::Measured;
 
 /// A text with the rows from which the values of its lines are computed.
 #[derive(Clone, Copy)]
 pub struct ValueRows<'a> {
-    pub text: TextRows<'a>,
+    pub symbols: SymbolRows<'a>,
     /// The shapes of the lines.
     pub shapes: &'a [Measured],
-    /// The values of the `.equ`s, by the numbers of their names.
-    pub equ_values: &'a [Entry],
     /// What `%pcrel_lo` of a label takes, by the label's line.
     pub paired_highs: &'a [Entry],
 }
@@ -25,7 +23,7 @@ pub struct ValueRows<'a> {
 pub fn shape_on(rows: &ValueRows<'_>, line: u32) -> Measured
     requires rows { AreValueRows rows.now }
     requires first { 1 ≤ line }
-    requires last { line ≤ length rows.now.text.lines.now }
+    requires last { line ≤ length rows.now.symbols.text.lines.now }
     ensures { result ≡ shape_at (program_of_rows rows.now) line }
 {
     rows.shapes[line as usize - 1]

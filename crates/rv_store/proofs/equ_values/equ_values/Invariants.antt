@@ -1,5 +1,6 @@
 use Rattle.std.proofs.Common.{◌≡◌, ◌≤◌, ◌+◌, length}
-use Rattle.rv_store.specs.TextRows.{AreEquValuesIn}
+use Rattle.rv_store.specs.TextRows.{program_in, AreEquValuesIn}
+use Rattle.rv_store.specs.Work.{equ_operands, operands_through}
 use Rattle.rv_store.proofs.equ_values.equ_values.Given as goal
 
 -- the values of the lines so far
@@ -9,6 +10,7 @@ invariant-loop-i g l = record {
   as_many : length l.row.items ≡ length l.text.names.now;
   valued : g.C.Count.valued_count l.initial.counter ≤ g.C.Count.valued_count l.counter;
   valued_within : g.C.Count.valued_count l.counter ≤ g.C.Count.valued_count l.initial.counter + l.i;
+  operands : g.C.Count.valued_count l.counter ≤ g.C.Count.valued_count l.initial.counter + operands_through equ_operands (program_in l.text) l.i;
   parsed : g.C.Count.parsed_count l.counter ≡ g.C.Count.parsed_count l.initial.counter;
   encoded : g.C.Count.encoded_count l.counter ≡ g.C.Count.encoded_count l.initial.counter;
 }

@@ -1,4 +1,4 @@
-use Rattle.std.proofs.Common.{rules, ◌≡◌, ◌≤◌, ◌+◌, ◌-◌, ℕ, length, reverse, arith, ap, sym, ◌∙◌}
+use Rattle.std.proofs.Common.{◌≡◌, ◌≤◌, ◌+◌, ◌-◌, ℕ, length, reverse, arith, ap, sym, ◌∙◌}
 use Rattle.rv_store.specs.Pairs.{paired_high_of}
 use Rattle.rv_store.specs.TextRows.{program_in}
 use Rattle.rv_store.proofs.NextHighs.{next_highs_at_end, next_highs_at}
@@ -7,21 +7,17 @@ use Rattle.rv_store.proofs.TextLines.{none_from_end, one_from_end}
 use Rattle.rv_store.proofs.paired_highs.paired_highs.Goals as goal
 
 pub loop-i-init : goal.loop-i-init
-loop-i-init g c =
+loop-i-init c =
     let text = c.args.text.now in
     let program = program_in text in
     let many : length text.lines.now ≡ length program = sym (length-program text.lines.now) in
     record {
       next = next_highs_at_end text.base program (length text.lines.now) many;
       row = ap reverse c.in_ok-row.ensures.items ∙ sym (none_from_end (paired_high_of text.base program) (length program) (length text.lines.now) (omega (arith, many)));
-      least = omega arith;
-      most = omega arith;
-      parsed = search rules;
-      encoded = search rules;
     }
 
 pub loop-i-preserved : goal.loop-i-preserved
-loop-i-preserved g c =
+loop-i-preserved c =
     let text = c.args.text.now in
     let program = program_in text in
     let i : ℕ = c.loop-i.i in
@@ -34,8 +30,4 @@ loop-i-preserved g c =
     record {
       next = next_highs_at text.base program (i - 1 + 1 - 1) (i - 1) c.add_line.new.next before c.add_line.ensures.from;
       row = ap reverse c.in_ok-push.ensures.items ∙ one_from_end (paired_high_of text.base program) (length program) i x done first last c.loop-i.invariant.row (c.paired_high.ensures ∙ ap (paired_high_of text.base program) line);
-      least = omega arith;
-      most = omega arith;
-      parsed = c.add_line.ensures.parsed ∙ c.loop-i.invariant.parsed;
-      encoded = c.add_line.ensures.encoded ∙ c.loop-i.invariant.encoded;
     }

@@ -1,9 +1,9 @@
-use Rattle.std.proofs.Common.{◌≡◌, sym, refl, arith, []}
+use Rattle.std.proofs.Common.{length, refl, ap, sym, arith, []}
 use Rattle.std.proofs.lemmas.Result.{IfOk-weaker, on_err_weaker}
-use Rattle.rv_store.specs.Renewals.{counts_of, AreCounted}
+use Rattle.rv_store.specs.Counted.{counts_of}
 use Rattle.rv_store.specs.ValueRows.{base_of}
 use Rattle.rv_store.proofs.Items.{no_items}
-use Rattle.rv_store.proofs.Renewals.{either_way, renewed_items, run_counted, stop_counted}
+use Rattle.rv_store.proofs.Renewals.{either_way, renewed_items, run_counted, run_listed, stop_counted}
 use Rattle.rv_store.proofs.renewal.renewed_all.Goals as goal
 
 pub returns-clause-items : goal.returns-clause-items
@@ -11,18 +11,29 @@ returns-clause-items g c =
     let count = counts_of g.C.Count.parsed_count g.C.Count.valued_count g.C.Count.encoded_count in
     let rows = c.args.rows.now in
     IfOk-weaker c.rewritten.result _ _
-    (λ t r. renewed_items _ (λ p b x q. AreCounted 1 (count p.counter.now) (count q.counter.now) × (q.counter.ghost_name ≡ p.counter.ghost_name)) (λ p. p.rows.now) (λ p. count p.counter.now) (λ p. p.counter.ghost_name) (λ p q b x y s. s) (λ p q b x s. s) rows [] refl r c.requires.few (omega (arith, c.requires.count)) (no_items (base_of rows) rows.text.lines.now))
+    (λ t r. renewed_items _ (λ p. p.before.now) (λ p. p.rows.now) (λ p. count p.counter.now) (λ p. p.changed.now.items) (λ p. p.changed.ghost_name) (λ p. p.counter.ghost_name) (λ p q b x y s. s) rows [] refl r c.requires.after.few (omega (arith, c.requires.count)) (no_items (base_of rows) rows.symbols.text.lines.now))
+    c.rewritten.ensures.runs
+
+pub returns-clause-changed : goal.returns-clause-changed
+returns-clause-changed g c =
+    let count = counts_of g.C.Count.parsed_count g.C.Count.valued_count g.C.Count.encoded_count in
+    IfOk-weaker c.rewritten.result _ _
+    (λ t r. run_listed _ (λ p. p.before.now) (λ p. p.rows.now) (λ p. count p.counter.now) (λ p. p.changed.now.items) (λ p. p.changed.ghost_name) (λ p. p.counter.ghost_name) (λ p q b x y s. s) c.args.before.now (length c.args.rows.now.symbols.text.lines.now) refl r c.requires.after.few (omega (arith, c.requires.count)) refl c.requires.changed _ (λ e. ap (λ v. v.items) (c.changed-1.given.1 e)))
     c.rewritten.ensures.runs
 
 pub returns-clause-counted : goal.returns-clause-counted
 returns-clause-counted g c =
     let count = counts_of g.C.Count.parsed_count g.C.Count.valued_count g.C.Count.encoded_count in
+    let before = c.args.before.now in
+    let n = length c.args.rows.now.symbols.text.lines.now in
     let all =
     either_way c.rewritten.result
     (IfOk-weaker c.rewritten.result _ _
-    (λ t r. run_counted _ (λ p b x q. AreCounted 1 (count p.counter.now) (count q.counter.now) × (q.counter.ghost_name ≡ p.counter.ghost_name)) (λ p. p.rows.now) (λ p. count p.counter.now) (λ p. p.counter.ghost_name) (λ p q b x y s. s) (λ p q b x s. s) r)
+    (λ t r.
+    let run = run_counted _ (λ p. p.before.now) (λ p. p.rows.now) (λ p. count p.counter.now) (λ p. p.changed.now.items) (λ p. p.changed.ghost_name) (λ p. p.counter.ghost_name) (λ p q b x y s. s) before n refl r c.requires.after.few (omega (arith, c.requires.count)) in
+    (run.0, run.3))
     c.rewritten.ensures.runs)
     (on_err_weaker c.rewritten.result
-    (λ s. stop_counted _ _ (λ p. p.rows.now) (λ p. count p.counter.now) (λ p. p.counter.ghost_name) (λ p q b x y s. s) (λ p q b x s. s) s)
+    (λ s. stop_counted _ (λ p. p.before.now) (λ p. p.rows.now) (λ p. count p.counter.now) (λ p. p.changed.now.items) (λ p. p.changed.ghost_name) (λ p. p.counter.ghost_name) (λ p q b x y s. s) _ (λ p q b x s. s) before n refl s c.requires.after.few (omega (arith, c.requires.count)))
     c.rewritten.ensures.stops) in
-    rw (c.counter-1.given.1 (sym all.1), ← c.requires.count) all.0
+    rw (c.counter-1.given.1 (sym all.1)) all.0

@@ -1,8 +1,12 @@
 use Rattle.std.proofs.Common.{◌≡◌, ◌+◌, ◌*◌, ◌≤◌, length}
 use Rattle.rv_layout.specs.Places.{AreLimited}
+use Rattle.rv_layout.specs.Shapes.{size_operands}
+use Rattle.rv_store.specs.Before.{base_before, lines_before, edit_on}
+use Rattle.rv_store.specs.Changes.{program_after}
 use Rattle.rv_store.specs.Layout.{shape_at}
 use Rattle.rv_store.specs.Program.{program_of, for_lines}
 use Rattle.rv_store.specs.Rows.{AreConstants}
+use Rattle.rv_store.specs.Work.{equ_operands, operands_through, work}
 use Rattle.rv_store.proofs.shapes.shapes.Given as goal
 
 -- the rows hold what the lines so far give
@@ -15,6 +19,9 @@ invariant-loop-i g l = record {
   as_many : length l.constants.items ≡ length l.definitions;
   least : g.C.Count.valued_count l.initial.counter ≤ g.C.Count.valued_count l.counter;
   most : g.C.Count.valued_count l.counter ≤ g.C.Count.valued_count l.initial.counter + 2 * l.i;
+  work : g.C.Count.valued_count l.counter ≤ g.C.Count.valued_count l.initial.counter
+      + work size_operands (base_before l.before) (lines_before l.before) (edit_on l.before) l.i
+      + operands_through equ_operands (program_after (lines_before l.before) (edit_on l.before)) l.i;
   parsed : g.C.Count.parsed_count l.counter ≡ g.C.Count.parsed_count l.initial.counter;
   encoded : g.C.Count.encoded_count l.counter ≡ g.C.Count.encoded_count l.initial.counter;
 }

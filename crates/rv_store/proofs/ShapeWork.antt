@@ -1,0 +1,58 @@
+-- What is computed for the shapes and the constants of a text after an edit, line by line.
+use Rattle.std.proofs.Common.{◌≡◌, ℕ, zero, suc, ◌+◌, ◌<◌, ◌≤◌, ◌⊎◌, inl, inr, List, [], ◌∷◌, arith, ap, ◌∙◌, sym, refl}
+use Rattle.std.specs.List.{sum_by}
+use Rattle.std.proofs.lemmas.Bool.{cases_lt}
+use Rattle.std.proofs.lemmas.List.Sums.{sum_by-cons}
+use Rattle.rv_stmt.specs.declared.statement.Body.{Body}
+use Rattle.rv_layout.specs.Shapes.{size_operands}
+use Rattle.rv_store.specs.Changes.{program_after, is_invalidated}
+use Rattle.rv_store.specs.Program.{Program, body_at, lines_that}
+use Rattle.rv_store.specs.Text.{Edit}
+use Rattle.rv_store.specs.Work.{equ_operands, constant_operands, operands_through, work}
+use Rattle.rv_store.proofs.SurveyWork.{equ-work}
+use Rattle.rv_store.proofs.WorkLaws.{work-next}
+
+-- the operands of one line more
+pub operands-next : (operands : Body → ℕ) (program : Program) (n : ℕ) → operands_through operands program (n + 1) ≡ operands_through operands program n + operands (body_at program (n + 1))
+operands-next operands program n =
+    let next : n + 1 ≡ suc n = omega arith in
+    ap (operands_through operands program) next ∙ ap (λ k. operands_through operands program n + operands (body_at program k)) (sym next)
+
+-- what never falls from one line to the next
+rising : (f : ℕ → ℕ) → ((n : ℕ) → f n ≤ f (suc n)) → (m n : ℕ) → m ≤ n → f m ≤ f n
+rising f step m zero l = let e : m ≡ 0 = omega (arith, l) in omega (arith, ap f e)
+rising f step m (suc n) l = at (cases_lt n m) (rising f step m n)
+  where
+    at : (n < m) ⊎ (m ≤ n) → (m ≤ n → f m ≤ f n) → f m ≤ f (suc n)
+    at (inl below) before = let e : m ≡ suc n = omega (arith, below, l) in omega (arith, ap f e)
+    at (inr above) before = omega (arith, before above, step n)
+
+operands-more : (operands : Body → ℕ) (program : Program) (m n : ℕ) → m ≤ n → operands_through operands program m ≤ operands_through operands program n
+operands-more operands program = rising (operands_through operands program) (λ n. omega arith)
+
+work-rising : (operands : Body → ℕ) (base : ℕ) (lines : List (List ℕ)) (edit : Edit) (m n : ℕ) → m ≤ n → work operands base lines edit m ≤ work operands base lines edit n
+work-rising operands base lines edit =
+    rising (work operands base lines edit) (λ n. omega (arith, work-next operands base lines edit n))
+
+-- sums of two numbers each
+sum_of_two : (f g : ℕ → ℕ) (ks : List ℕ) → sum_by (λ k. f k + g k) ks ≡ sum_by f ks + sum_by g ks
+sum_of_two f g [] = refl
+sum_of_two f g (k ∷ ks) =
+    let rest = sum_of_two f g ks in
+    let first = sum_by-cons f k ks in
+    let second = sum_by-cons g k ks in
+    let both = sum_by-cons (λ k. f k + g k) k ks in
+    omega (arith, rest, first, second, both)
+
+-- the constants of all `.equ`s are computed, since each edit invalidates them
+pub constant-work : (base : ℕ) (lines : List (List ℕ)) (edit : Edit) (n : ℕ) → work constant_operands base lines edit n ≡ work size_operands base lines edit n + operands_through equ_operands (program_after lines edit) n
+constant-work base lines edit n =
+    let body : ℕ → Body = body_at (program_after lines edit) in
+    sum_of_two (λ k. size_operands (body k)) (λ k. equ_operands (body k)) (lines_that (is_invalidated base lines edit) n)
+    ∙ ap (λ x. work size_operands base lines edit n + x) (sym (equ-work base lines edit n))
+
+pub constant-work-more : (base : ℕ) (lines : List (List ℕ)) (edit : Edit) (i n : ℕ) → i < n → work size_operands base lines edit (i + 1) + operands_through equ_operands (program_after lines edit) i ≤ work constant_operands base lines edit n
+constant-work-more base lines edit i n l =
+    let sizes = work-rising size_operands base lines edit (i + 1) n (omega (arith, l)) in
+    let equs = operands-more equ_operands (program_after lines edit) i n (omega (arith, l)) in
+    omega (arith, sizes, equs, constant-work base lines edit n)

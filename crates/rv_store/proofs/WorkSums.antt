@@ -1,0 +1,79 @@
+-- What is computed on the lines that an edit invalidates is no more than an edit may compute.
+use Rattle.std.proofs.Common.{◌≡◌, ℕ, suc, ◌+◌, ◌*◌, ◌≤◌, Bool, true, false, List, [], ◌∷◌, length, Option, Some, arith, if◌then◌else◌}
+use Rattle.std.specs.List.{sum_by}
+use Rattle.std.proofs.lemmas.List.Sums.{sum_by-cons}
+use Rattle.rv_ops.specs.declared.op.Op.{Op}
+use Rattle.rv_ops.specs.declared.op.Op.TheVariants.{Auipc}
+use Rattle.rv_stmt.specs.declared.operand.Operand.{Operand}
+use Rattle.rv_stmt.specs.declared.operand.OperandValue.{OperandValue}
+use Rattle.rv_stmt.specs.declared.operand.OperandValue.TheVariants.{Plain, PcrelHigh}
+use Rattle.rv_stmt.specs.declared.statement.Body.{Body}
+use Rattle.rv_stmt.specs.declared.statement.Body.TheVariants as body
+use Rattle.rv_stmt.specs.Statement.{operands_of}
+use Rattle.rv_layout.specs.Shapes.{is_size, size_operand, count_of_value, count_of_operand}
+use Rattle.rv_store.specs.Changes.{program_after, is_invalidated, most_values}
+use Rattle.rv_store.specs.Pairs.{pcrel_high_value, pcrel_high_operand}
+use Rattle.rv_store.specs.Program.{body_at, lines_that}
+use Rattle.rv_store.specs.Text.{Edit, lines_after}
+use Rattle.rv_store.specs.Work.{one_if_some, survey_operands, value_operands, work}
+
+-- Operands
+
+one_value : (v : OperandValue) → count_of_value v ≤ 1
+one_value (Plain e) = omega arith
+one_value v = omega arith
+
+first_or : (b : Bool) (o : Operand) (rest : Option Operand) (n : ℕ) → count_of_operand rest ≤ n → count_of_operand (if b then Some o else rest) ≤ suc n
+first_or true o rest n h = let few = one_value o.value in omega (arith, few)
+first_or false o rest n h = omega (arith, h)
+
+-- the size operand is among the operands
+sized : (os : List Operand) → count_of_operand (size_operand os) ≤ length os
+sized [] = omega arith
+sized (o ∷ os) = first_or (is_size o.role) o (size_operand os) (length os) (sized os)
+
+-- the operand whose high half is taken has a modifier, so it does not count as the size operand
+high_or_size : (v : OperandValue) → count_of_value v + one_if_some (pcrel_high_value v) ≤ 1
+high_or_size (Plain e) = omega arith
+high_or_size (PcrelHigh e) = omega arith
+high_or_size v = omega arith
+
+one_high : (v : OperandValue) → one_if_some (pcrel_high_value v) ≤ 1
+one_high (PcrelHigh e) = omega arith
+one_high v = omega arith
+
+sized_or_high : (op : Op) (os : List Operand) → count_of_operand (size_operand os) + one_if_some (pcrel_high_operand op os) ≤ length os
+sized_or_high Auipc (o ∷ os) = at (is_size o.role)
+  where
+    at : (b : Bool) → count_of_operand (if b then Some o else size_operand os) + one_if_some (pcrel_high_value o.value) ≤ suc (length os)
+    at true = let few = high_or_size o.value in omega (arith, few)
+    at false = let few = sized os in let one = one_high o.value in omega (arith, few, one)
+sized_or_high op os = let few = sized os in omega (arith, few)
+
+-- a line computes each operand at most twice
+twice : (b : Body) → survey_operands b + value_operands b ≤ 2 * length (operands_of b)
+twice (body.Instr i) = let few = sized_or_high i.op i.operands in omega (arith, few)
+twice (body.Pseudo i) = let few = sized i.operands in omega (arith, few)
+twice (body.Fill d) = let few = sized d.operands in omega (arith, few)
+twice (body.Align d) = let few = sized d.operands in omega (arith, few)
+twice (body.Equ d) = omega arith
+twice b = omega arith
+
+-- Lines
+
+sums : (f g h : ℕ → ℕ) (xs : List ℕ) → ((x : ℕ) → f x + g x ≤ 2 * h x) → sum_by f xs + sum_by g xs ≤ 2 * sum_by h xs
+sums f g h [] most = omega arith
+sums f g h (x ∷ xs) most =
+    let first = most x in
+    let rest = sums f g h xs most in
+    omega (arith, first, rest, sum_by-cons f x xs, sum_by-cons g x xs, sum_by-cons h x xs)
+
+-- all work on the lines that an edit invalidates
+work-most : (base : ℕ) (lines : List (List ℕ)) (edit : Edit) → work survey_operands base lines edit (length (lines_after lines edit)) + work value_operands base lines edit (length (lines_after lines edit)) ≤ most_values base lines edit
+work-most base lines edit =
+    let body = body_at (program_after lines edit) in
+    sums (λ k. survey_operands (body k)) (λ k. value_operands (body k)) (λ k. length (operands_of (body k))) (lines_that (is_invalidated base lines edit) (length (lines_after lines edit))) (λ k. twice (body k))
+
+-- the same, where the texts are known by other names
+pub work-within : (base base' : ℕ) (lines lines' after : List (List ℕ)) (edit : Edit) → base' ≡ base → lines' ≡ lines → after ≡ lines_after lines edit → work survey_operands base' lines' edit (length after) + work value_operands base' lines' edit (length after) ≤ most_values base lines edit
+work-within base base' lines lines' after edit same same_lines is = rw (same, same_lines, is) (work-most base lines edit)

@@ -1,0 +1,46 @@
+use Rattle.std.proofs.Common.{◌≡◌, true, Some, Ok, pos, arith, ap, sym, ◌∙◌}
+use Rattle.std.specs.Option.{option_map}
+use Rattle.rv_store.specs.Before.{base_before, lines_before, edit_on}
+use Rattle.rv_store.specs.Changes.{is_invalidated}
+use Rattle.rv_store.specs.Edits.{line_before_edit}
+use Rattle.rv_store.specs.Pairs.{pcrel_high_of, high_at}
+use Rattle.rv_store.specs.Program.{body_at}
+use Rattle.rv_store.specs.TextRows.{program_in}
+use Rattle.rv_store.proofs.HighLaws.{high-kept, length_of_highs, high_of_line, high-counted}
+use Rattle.rv_store.proofs.LinePairLaws.{stood-before, body-before, invalidated-by_uses, invalidated-new}
+use Rattle.rv_store.proofs.highs.high_after.Goals as goal
+use Rattle.rv_store.proofs.highs.high_after.Goals.{then-not-is_invalidated+in_default, else-not-is_invalidated}
+
+pub bounds-before-stood : goal.bounds-before-stood
+bounds-before-stood g c =
+    let before = c.args.before.now in
+    let stands : line_before_edit (edit_on before) c.args.line ≡ Some c.in-Some.stood = sym c.line_before.ensures ∙ c.in-Some.is in
+    let there = stood-before before c.args.after.now.text c.args.line c.in-Some.stood c.requires.before c.requires.after c.requires.first c.requires.last stands in
+    let count = length_of_highs (base_before before) (lines_before before) before.highs.now c.requires.before.highs in
+    omega (arith, there.first, there.last, count)
+
+pub returns-in-Some-clause-value : goal.returns-in-Some-clause-value
+returns-in-Some-clause-value g c =
+    let before = c.args.before.now in
+    let after = c.args.after.now.text in
+    let line = c.args.line in
+    let stood = c.in-Some.stood in
+    let stands : line_before_edit (edit_on before) line ≡ Some stood = sym c.line_before.ensures ∙ c.in-Some.is in
+    let there = stood-before before after line stood c.requires.before c.requires.after c.requires.first c.requires.last stands in
+    let body = body-before before after line stood c.requires.before c.requires.after c.requires.first c.requires.last stands in
+    let uses = sym (invalidated-by_uses before after line stood c.requires.before c.requires.after c.requires.first c.requires.last stands) ∙ sym c.is_invalidated.ensures ∙ c.if-not-is_invalidated.true in
+    high_of_line (base_before before) (lines_before before) before.highs.now stood (Ok (pos 0)) c.requires.before.highs there.first there.last
+    ∙ sym (high-kept (base_before before) (program_in before.symbols.text) (program_in after) line stood body uses)
+    ∙ ap (λ base. high_at base (program_in after) line) (sym c.requires.after.base)
+
+pub returns-clause-most : goal.returns-clause-most
+returns-clause-most g c =
+    let before = c.args.before.now in
+    let invalidated : is_invalidated (base_before before) (lines_before before) (edit_on before) c.args.line ≡ true =
+    elim c.if-not-is_invalidated.branch [
+      | then-not-is_invalidated+in_default w ↦ invalidated-new (base_before before) (lines_before before) (edit_on before) c.args.line (sym w.line_before.ensures ∙ w.in_default.is)
+      | else-not-is_invalidated w ↦ sym c.is_invalidated.ensures ∙ w.if-not-is_invalidated.false
+    ] in
+    let high : option_map (λ e. e.now) c.pcrel_high.result ≡ pcrel_high_of (body_at (program_in c.args.after.now.text) c.args.line) = c.pcrel_high.ensures ∙ ap (λ s. pcrel_high_of s.body) c.statement_on.ensures in
+    let one = high-counted before c.args.after.now.text c.args.line (λ e. e.now) c.pcrel_high.result c.requires.after c.requires.first high c.if-is_none.ensures invalidated in
+    omega (arith, one, c.high_on.ensures.most)

@@ -1,0 +1,33 @@
+-- A text before an edit, and the rows of the text after it.
+use Rattle.std.specs.Prelude.{◌≡◌, ℕ, ◌≤◌, List, length, None}
+use Rattle.rv_store.specs.declared.before.Before.{Before}
+use Rattle.rv_store.specs.declared.limits.TheConstants.{MAX_LINES}
+use Rattle.rv_store.specs.declared.text_rows.TextRows.{TextRows}
+use Rattle.rv_store.specs.Edits.{edit_of}
+use Rattle.rv_store.specs.Rows.{AreShapes, AreHighs}
+use Rattle.rv_store.specs.SymbolRows.{AreSymbolRows}
+use Rattle.rv_store.specs.Text.{Edit, refusal_of, lines_after}
+use Rattle.rv_store.specs.TextRows.{program_in}
+
+abbrev pub base_before : Before → ℕ
+base_before before = before.symbols.text.base
+
+abbrev pub lines_before : Before → List (List ℕ)
+lines_before before = before.symbols.text.lines.now
+
+abbrev pub edit_on : Before → Edit
+edit_on before = edit_of before.edit
+
+-- the rows are those of the text, and the edit is not refused
+pub record IsBefore (before : Before) : Type 0 where
+  pub symbols : AreSymbolRows before.symbols
+  pub shapes : AreShapes (program_in before.symbols.text) before.shapes.now
+  pub highs : AreHighs (base_before before) (program_in before.symbols.text) before.highs.now
+  pub few : length (lines_before before) ≤ MAX_LINES
+  pub allowed : refusal_of (lines_before before) (edit_on before) ≡ None
+
+-- the rows of the text after the edit
+pub record IsAfter (before : Before) (after : TextRows) : Type 0 where
+  pub base : after.base ≡ base_before before
+  pub lines : after.lines.now ≡ lines_after (lines_before before) (edit_on before)
+  pub few : length after.lines.now ≤ MAX_LINES

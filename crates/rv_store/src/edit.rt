@@ -1,0 +1,45 @@
+//! Edits of a text.
+
+ghost use Rattle.std.specs.Prelude.{◌≡◌, ◌<◌, ◌-◌, ◌^◌, ℕ, List, length};
+ghost use Rattle.rv_store.specs.Edits.{edit_of, line_before_edit};
+ghost use Rattle.rv_store.specs.Text.{refusal_of};
+
+use crate::edit_error::EditError;
+use crate::refusals::{delete_refused, insert_refused, replace_refused};
+
+/// An edit of a text: the number of the line, from 1 on, and the line that is put in.
+#[derive(Clone, Copy)]
+pub enum LineEdit<'a> {
+    Insert(u32, &'a [u8]),
+    Delete(u32),
+    Replace(u32, &'a [u8]),
+}
+
+impl LineEdit<'_> {
+    /// Why a text of so many lines refuses it, whatever the memory, if it does.
+    pub fn refusal(&self, count: usize) -> Option<EditError>
+        ensures { (lines : List (List ℕ)) → length lines ≡ count → result ≡ refusal_of lines (edit_of self.now) }
+    {
+        match *self {
+            LineEdit::Insert(k, line) => insert_refused(count, k, line),
+            LineEdit::Delete(k) => delete_refused(count, k),
+            LineEdit::Replace(k, line) => replace_refused(count, k, line),
+        }
+    }
+
+    /// Where a line of the text after the edit stood before it. The line that the edit puts in stood nowhere.
+    pub fn line_before(&self, line: u32) -> Option<u32>
+        requires { line < 2 ^ 32 - 1 }
+        ensures { result ≡ line_before_edit (edit_of self.now) line }
+    {
+        match *self {
+            LineEdit::Insert(k, _) if line < k => Some(line),
+            LineEdit::Insert(k, _) if line == k => None,
+            LineEdit::Insert(_, _) => Some(line - 1),
+            LineEdit::Delete(k) if line < k => Some(line),
+            LineEdit::Delete(_) => Some(line + 1),
+            LineEdit::Replace(k, _) if line == k => None,
+            LineEdit::Replace(_, _) => Some(line),
+        }
+    }
+}

@@ -1,0 +1,81 @@
+//! Which lines an edit invalidates: their values may differ from those that they had.
+
+ghost use Rattle.std.specs.Prelude.{◌≡◌, ◌≤◌, length};
+ghost use Rattle.rv_store.specs.Before.{IsBefore, IsAfter, base_before, lines_before, edit_on};
+ghost use Rattle.rv_store.specs.Changes.{differs_in_place, differs_in_uses, is_invalidated};
+ghost use Rattle.rv_store.specs.LinePairs.{IsLinePair, IsOpenPair, differs_in_name_on, program_before_pair, program_after_pair};
+ghost use Rattle.rv_store.specs.Program.{body_at};
+ghost use Rattle.rv_store.specs.SymbolRows.{AreSymbolRows};
+
+use crate::before::Before;
+use crate::line_values::is_same_entry;
+use crate::symbol_rows::SymbolRows;
+use crate::text_lines::{place_on, statement_on};
+use crate::uses::{NameTest, any_name, is_equ, uses_address, uses_local_label, uses_paired_high};
+
+// A line of a text after an edit, and the line that it was before it.
+#[derive(Drop)]
+struct LinePair<'a> {
+    before: &'a SymbolRows<'a>,
+    after: &'a SymbolRows<'a>,
+    stood: u32,
+    line: u32,
+}
+
+// The symbols that give another value or another constant on the line than they gave before.
+impl NameTest for LinePair<'_> {
+    ghost can_test = { IsOpenPair };
+
+    ghost test = { differs_in_name_on };
+
+    fn passes(&self, name: &[u8]) -> bool {
+        !is_same_entry(self.after.value(name), self.before.value(name))
+            || self.after.constant(self.line, name) != self.before.constant(self.stood, name)
+    }
+}
+
+impl LinePair<'_> {
+    // Whether the line has another address than it had, or is in another section.
+    fn differs_in_place(&self) -> bool
+        requires { IsLinePair self.now }
+        ensures { result ≡ differs_in_place self.now.before.now.text.base (program_before_pair self.now) (program_after_pair self.now) self.now.line self.now.stood }
+    {
+        let after = place_on(&self.after.text, self.line);
+        let before = place_on(&self.before.text, self.stood);
+        after.address != before.address || after.section != before.section
+    }
+
+    // Whether what the line uses gives something else than it gave, or it uses what is not compared.
+    fn differs_in_uses(&self) -> bool
+        requires { IsLinePair self.now }
+        ensures { result ≡ differs_in_uses self.now.before.now.text.base (program_before_pair self.now) (program_after_pair self.now) self.now.line self.now.stood (body_at (program_after_pair self.now) self.now.line) }
+    {
+        let body = &statement_on(&self.after.text, self.line).body;
+        is_equ(body)
+            || uses_local_label(body)
+            || uses_paired_high(body)
+            || uses_address(body) && self.differs_in_place()
+            || any_name(body, self)
+    }
+}
+
+/// Whether an edit invalidates a line of the text after it.
+pub fn is_invalidated(before: &Before<'_, '_>, after: &SymbolRows<'_>, line: u32) -> bool
+    requires before { IsBefore before.now }
+    requires rows { AreSymbolRows after.now }
+    requires after { IsAfter before.now after.now.text }
+    requires first { 1 ≤ line }
+    requires last { line ≤ length after.now.text.lines.now }
+    ensures { result ≡ is_invalidated (base_before before.now) (lines_before before.now) (edit_on before.now) line }
+{
+    let Some(stood) = before.edit.line_before(line) else {
+        return true;
+    };
+    let pair = LinePair {
+        before: &before.symbols,
+        after,
+        stood,
+        line,
+    };
+    pair.differs_in_uses()
+}
