@@ -14,3 +14,4 @@ pub mod GatherLemmas
 pub mod StepLemmas
 pub mod OutcomeLemmas
 pub mod PlaceLemmas
+pub mod HexColumns

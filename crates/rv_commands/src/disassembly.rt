@@ -8,6 +8,7 @@ ghost use Rattle.rv_text.specs.Streams.{failures_after};
 ghost use Rattle.rv_store.specs.Shown.{shown_of};
 ghost use Rattle.rv_commands.specs.Disassembly.{disassembly_row, disassembly_text, ShowsCode};
 
+use crate::columns::{push_half, push_word};
 use crate::numbered::push_numbered;
 use rv_dis::{DisError, DisRow, disassemble};
 use rv_layout::section_number;
@@ -26,7 +27,7 @@ pub fn code_rows(alloc: Global, store: &Store) -> Result<Vec<DisRow>, DisError>
     disassemble(alloc, bytes.as_slice(), store.section(section).base)
 }
 
-// Adds the number of a row to its columns, with two digits for each byte. With a known number of digits there is no loop.
+// Adds the number of a row to its columns, with two digits for each byte.
 fn push_value(columns: &mut OutputRow, row: &DisRow)
     requires size { row.now.len ≤ 4 }
     requires room { length columns.old + 8 ≤ 64 }
@@ -34,8 +35,8 @@ fn push_value(columns: &mut OutputRow, row: &DisRow)
     ensures length { length columns.new ≤ length columns.old + 8 }
 {
     match row.len {
-        4 => columns.push_hex(8, row.value),
-        2 => columns.push_hex(4, row.value),
+        4 => push_word(columns, row.value),
+        2 => push_half(columns, (row.value % 65536) as u16),
         len => columns.push_hex(2 * len, row.value),
     }
 }
@@ -70,7 +71,7 @@ fn push_code_row<W: Sink>(block: &mut OutputBlock, sink: &mut W, row: &DisRow) -
     ensures count { W.failures sink.new ≡ failures_after (W.failures sink.old) result }
 {
     let mut columns = OutputRow::new();
-    columns.push_hex(8, row.address);
+    push_word(&mut columns, row.address);
     columns.push_text(b" ");
     push_value(&mut columns, row);
     columns.push_text(b" ");

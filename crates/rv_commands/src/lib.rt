@@ -4,6 +4,7 @@
 mod answer;
 mod answer_error;
 mod chunk;
+mod columns;
 mod command;
 mod disassembly;
 mod edited;

@@ -4,6 +4,7 @@
 mod disassembly;
 mod error;
 mod laws;
+mod names;
 mod numbers;
 mod operand_lists;
 mod operand_texts;

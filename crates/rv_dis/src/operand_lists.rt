@@ -5,11 +5,12 @@ ghost use Rattle.std.specs.Fmt.{signed_decimal};
 ghost use Rattle.rv_ops.specs.Registers.{register_name};
 ghost use Rattle.rv_dis.specs.Text.{after_name, hexadecimal_of, memory_text, target_of};
 
+use crate::names::push_register_name;
 use crate::numbers::{push_decimal, push_hexadecimal_of};
 use crate::operand_texts::{push_memory, target};
 use crate::row::RowText;
 use rv_code::Fields;
-use rv_ops::{Reg, reg_name};
+use rv_ops::Reg;
 
 /// A register and a place in memory, whose offset is the value of the fields.
 #[inline(always)]
@@ -18,7 +19,7 @@ pub fn push_register_and_memory(out: &mut RowText, register: Reg, base: Reg, fie
     ensures { out.new ≡ out.old ++ after_name (register_name register ∷ memory_text fields.now.value base ∷ []) }
 {
     out.push_str(" ");
-    out.push_str(reg_name(register));
+    push_register_name(out, register);
     out.push_str(", ");
     push_memory(out, fields.value, base);
 }
@@ -30,9 +31,9 @@ pub fn push_registers(out: &mut RowText, first: Reg, second: Reg)
     ensures { out.new ≡ out.old ++ after_name (register_name first ∷ register_name second ∷ []) }
 {
     out.push_str(" ");
-    out.push_str(reg_name(first));
+    push_register_name(out, first);
     out.push_str(", ");
-    out.push_str(reg_name(second));
+    push_register_name(out, second);
 }
 
 /// A register and the value of the fields in decimal.
@@ -42,7 +43,7 @@ pub fn push_register_and_decimal(out: &mut RowText, register: Reg, fields: &Fiel
     ensures { out.new ≡ out.old ++ after_name (register_name register ∷ signed_decimal fields.now.value ∷ []) }
 {
     out.push_str(" ");
-    out.push_str(reg_name(register));
+    push_register_name(out, register);
     out.push_str(", ");
     push_decimal(out, fields.value);
 }
@@ -54,9 +55,9 @@ pub fn push_registers_and_decimal(out: &mut RowText, first: Reg, second: Reg, fi
     ensures { out.new ≡ out.old ++ after_name (register_name first ∷ register_name second ∷ signed_decimal fields.now.value ∷ []) }
 {
     out.push_str(" ");
-    out.push_str(reg_name(first));
+    push_register_name(out, first);
     out.push_str(", ");
-    out.push_str(reg_name(second));
+    push_register_name(out, second);
     out.push_str(", ");
     push_decimal(out, fields.value);
 }
@@ -84,9 +85,9 @@ pub fn push_registers_and_target(
     ensures { out.new ≡ out.old ++ after_name (register_name first ∷ register_name second ∷ hexadecimal_of 8 (target_of address fields.now.value) ∷ []) }
 {
     out.push_str(" ");
-    out.push_str(reg_name(first));
+    push_register_name(out, first);
     out.push_str(", ");
-    out.push_str(reg_name(second));
+    push_register_name(out, second);
     out.push_str(", ");
     push_hexadecimal_of(out, 8, target(address, fields.value));
 }
@@ -98,7 +99,7 @@ pub fn push_register(out: &mut RowText, register: Reg)
     ensures { out.new ≡ out.old ++ after_name (register_name register ∷ []) }
 {
     out.push_str(" ");
-    out.push_str(reg_name(register));
+    push_register_name(out, register);
 }
 
 /// Three registers.
@@ -108,11 +109,11 @@ pub fn push_three_registers(out: &mut RowText, fields: &Fields)
     ensures { out.new ≡ out.old ++ after_name (register_name fields.now.rd ∷ register_name fields.now.rs1 ∷ register_name fields.now.rs2 ∷ []) }
 {
     out.push_str(" ");
-    out.push_str(reg_name(fields.rd));
+    push_register_name(out, fields.rd);
     out.push_str(", ");
-    out.push_str(reg_name(fields.rs1));
+    push_register_name(out, fields.rs1);
     out.push_str(", ");
-    out.push_str(reg_name(fields.rs2));
+    push_register_name(out, fields.rs2);
 }
 
 /// A register and the target of a branch or a jump at an address.
@@ -122,7 +123,7 @@ pub fn push_register_and_target(out: &mut RowText, register: Reg, address: u32, 
     ensures { out.new ≡ out.old ++ after_name (register_name register ∷ hexadecimal_of 8 (target_of address fields.now.value) ∷ []) }
 {
     out.push_str(" ");
-    out.push_str(reg_name(register));
+    push_register_name(out, register);
     out.push_str(", ");
     push_hexadecimal_of(out, 8, target(address, fields.value));
 }

@@ -6,10 +6,11 @@ ghost use Rattle.rv_ops.specs.Table.{shape_of};
 ghost use Rattle.rv_stmt.specs.Registers.{set_name};
 ghost use Rattle.rv_dis.specs.Text.{csr_text, immediate_text, memory_text, operand_text, set_text, target_of};
 
+use crate::names::push_register_name;
 use crate::numbers::{push_decimal, push_hexadecimal, push_hexadecimal_of};
 use crate::row::RowText;
 use rv_code::Ins;
-use rv_ops::{Csr, Reg, Shape, csr_name, reg_name, shape};
+use rv_ops::{Csr, Reg, Shape, csr_name, shape};
 use rv_stmt::{Slot, set_name};
 
 /// The register `sp`.
@@ -44,7 +45,7 @@ pub fn push_memory(out: &mut RowText, offset: i32, base: Reg)
 {
     push_decimal(out, offset);
     out.push_str("(");
-    out.push_str(reg_name(base));
+    push_register_name(out, base);
     out.push_str(")")
 }
 
@@ -90,10 +91,10 @@ pub fn push_operand(out: &mut RowText, ins: &Ins, slot: Slot, address: u32)
 {
     let fields = ins.fields();
     match slot {
-        Slot::Rd => out.push_str(reg_name(fields.rd)),
-        Slot::Rs1 => out.push_str(reg_name(fields.rs1)),
-        Slot::Rs2 => out.push_str(reg_name(fields.rs2)),
-        Slot::StackPointer => out.push_str(reg_name(stack_pointer())),
+        Slot::Rd => push_register_name(out, fields.rd),
+        Slot::Rs1 => push_register_name(out, fields.rs1),
+        Slot::Rs2 => push_register_name(out, fields.rs2),
+        Slot::StackPointer => push_register_name(out, stack_pointer()),
         Slot::Immediate => push_immediate(out, shape(ins.op()), fields.value),
         Slot::SourceImmediate => push_decimal(out, i32::from(fields.rs1.number())),
         Slot::Target => push_hexadecimal_of(out, 8, target(address, fields.value)),

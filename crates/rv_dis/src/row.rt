@@ -1,6 +1,6 @@
 //! The rows of a disassembly.
 
-ghost use Rattle.std.specs.Prelude.{◌≡◌, ◌+◌, ◌<◌, ◌≤◌, [], ◌∷◌, ◌++◌, length};
+ghost use Rattle.std.specs.Prelude.{◌≡◌, ◌+◌, ◌<◌, ◌≤◌, [], ◌∷◌, ◌++◌, get_or, length, take};
 
 use arrayvec::ArrayString;
 use std::marker::Model;
@@ -36,6 +36,24 @@ impl RowText {
         ensures { self.new ≡ self.old ++ text.now }
     {
         self.text.push_str(text);
+    }
+
+    // Appends the beginning of a padded text, for which there must be room. Where there is room for a padding to N bytes
+    // too, a constant number of bytes is copied.
+    #[inline(always)]
+    pub(crate) fn push_padded<const N: usize>(&mut self, padded: &str, len: usize)
+        requires within { len ≤ length padded.now }
+        requires ascii { get_or padded.now len 0 < 128 }
+        requires room { length self.old + len ≤ 40 }
+        ensures { self.new ≡ self.old ++ take len padded.now }
+    {
+        let start = self.text.len();
+        if padded.len() == N && N <= 40 - start {
+            self.text.push_str(padded);
+            self.text.truncate(start + len);
+        } else {
+            self.text.push_str(&padded[..len]);
+        }
     }
 
     // Appends an ASCII character, for which there must be room.

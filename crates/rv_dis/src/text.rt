@@ -5,6 +5,7 @@ ghost use Rattle.rv_ops.specs.Table.{operation_name};
 ghost use Rattle.rv_dis.specs.Text.{instruction_text};
 
 use crate::error::DisError;
+use crate::names::push_operation_name;
 use crate::operand_lists::{
     push_register, push_register_and_decimal, push_register_and_memory, push_register_and_target,
     push_registers, push_registers_and_decimal, push_registers_and_target, push_target,
@@ -13,7 +14,7 @@ use crate::operand_lists::{
 use crate::operand_texts::{push_operand, stack_pointer};
 use crate::row::RowText;
 use rv_code::Ins;
-use rv_ops::{Shape, name_of, shape};
+use rv_ops::{Shape, shape};
 use rv_stmt::operand_slots;
 use std::alloc::Global;
 
@@ -72,7 +73,7 @@ pub(crate) fn write_instruction(out: &mut RowText, ins: &Ins, address: u32)
     requires { out.old ≡ [] }
     ensures { out.new ≡ instruction_text address ins.now.0 ins.now.1 }
 {
-    out.push_str(name_of(ins.op()));
+    push_operation_name(out, ins.op());
     push_operands(out, ins, address);
 }
 

@@ -10,7 +10,7 @@ use Rattle.rv_store.specs.Program.{Program, body_at, lines_that}
 use Rattle.rv_store.specs.Text.{Edit}
 use Rattle.rv_store.specs.Work.{equ_operands, constant_operands, operands_through, work}
 use Rattle.rv_store.proofs.SurveyWork.{equ-work}
-use Rattle.rv_store.proofs.WorkLaws.{work-next}
+use Rattle.rv_store.proofs.WorkLaws.{work-up}
 
 -- the operands of one line more
 pub operands-next : (operands : Body → ℕ) (program : Program) (n : ℕ) → operands_through operands program (n + 1) ≡ operands_through operands program n + operands (body_at program (n + 1))
@@ -18,21 +18,15 @@ operands-next operands program n =
     let next : n + 1 ≡ suc n = omega arith in
     ap (operands_through operands program) next ∙ ap (λ k. operands_through operands program n + operands (body_at program k)) (sym next)
 
--- what never falls from one line to the next
-rising : (f : ℕ → ℕ) → ((n : ℕ) → f n ≤ f (suc n)) → (m n : ℕ) → m ≤ n → f m ≤ f n
-rising f step m zero l = let e : m ≡ 0 = omega (arith, l) in omega (arith, ap f e)
-rising f step m (suc n) l = at (cases_lt n m) (rising f step m n)
-  where
-    at : (n < m) ⊎ (m ≤ n) → (m ≤ n → f m ≤ f n) → f m ≤ f (suc n)
-    at (inl below) before = let e : m ≡ suc n = omega (arith, below, l) in omega (arith, ap f e)
-    at (inr above) before = omega (arith, before above, step n)
-
 operands-more : (operands : Body → ℕ) (program : Program) (m n : ℕ) → m ≤ n → operands_through operands program m ≤ operands_through operands program n
-operands-more operands program = rising (operands_through operands program) (λ n. omega arith)
-
-work-rising : (operands : Body → ℕ) (base : ℕ) (lines : List (List ℕ)) (edit : Edit) (m n : ℕ) → m ≤ n → work operands base lines edit m ≤ work operands base lines edit n
-work-rising operands base lines edit =
-    rising (work operands base lines edit) (λ n. omega (arith, work-next operands base lines edit n))
+operands-more operands program m zero l =
+    omega (arith, ap (operands_through operands program) (let e : m ≡ 0 = omega (arith, l) in e))
+operands-more operands program m (suc n) l = at (cases_lt n m) (operands-more operands program m n)
+  where
+    at : (n < m) ⊎ (m ≤ n) → (m ≤ n → operands_through operands program m ≤ operands_through operands program n) → operands_through operands program m ≤ operands_through operands program (suc n)
+    at (inl below) before =
+        omega (arith, ap (operands_through operands program) (let e : m ≡ suc n = omega (arith, below, l) in e))
+    at (inr above) before = omega (arith, before above)
 
 -- sums of two numbers each
 sum_of_two : (f g : ℕ → ℕ) (ks : List ℕ) → sum_by (λ k. f k + g k) ks ≡ sum_by f ks + sum_by g ks
@@ -53,6 +47,6 @@ constant-work base lines edit n =
 
 pub constant-work-more : (base : ℕ) (lines : List (List ℕ)) (edit : Edit) (i n : ℕ) → i < n → work size_operands base lines edit (i + 1) + operands_through equ_operands (program_after lines edit) i ≤ work constant_operands base lines edit n
 constant-work-more base lines edit i n l =
-    let sizes = work-rising size_operands base lines edit (i + 1) n (omega (arith, l)) in
+    let sizes = work-up size_operands base lines edit (i + 1) n (omega (arith, l)) in
     let equs = operands-more equ_operands (program_after lines edit) i n (omega (arith, l)) in
     omega (arith, sizes, equs, constant-work base lines edit n)

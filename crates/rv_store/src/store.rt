@@ -258,7 +258,11 @@ impl Store {
     /// Refused, in this order, with `Place` where there can be no line `k`, `Line` where the line holds 0x0A or is longer
     /// than `MAX_LINE_LENGTH`, `TooMany` where there are `MAX_LINES` lines, and `Memory`. A refused edit changes nothing.
     ///
-    /// The counter's numbers have to be at most 2^63; none of them falls, and less than 2^32 is added to each.
+    /// Answers which lines of the text after the edit are new or have another code than before.
+    ///
+    /// The counter's numbers have to be at most 2^63; none of them falls, and less than 2^32 is added to each. The one line
+    /// is read, at most two values are computed for each operand of a line that the edit invalidates, and at most those lines
+    /// are encoded that are new or have other values or another shape. A refusal that is not for memory counts nothing.
     pub fn insert<C: Count>(
         &mut self,
         k: u32,
@@ -281,7 +285,7 @@ impl Store {
     /// Takes out the line number `k`, from 1 on; the lines after it move up by one.
     ///
     /// Refused, in this order, with `Place` where there is no line `k`, and `Memory`. A refused edit changes nothing. The
-    /// counter is as for `insert`.
+    /// answer and the counter are as for `insert`, but that no line is read.
     pub fn delete<C: Count>(&mut self, k: u32, counter: &mut C) -> Result<Changed, EditError>
         requires parsed { C.parsed_count counter.old ≤ 2 ^ 63 }
         requires valued { C.valued_count counter.old ≤ 2 ^ 63 }
@@ -299,7 +303,7 @@ impl Store {
     /// Puts `line` in the place of line number `k`, from 1 on.
     ///
     /// Refused, in this order, with `Place` where there is no line `k`, `Line` where the line holds 0x0A or is longer than
-    /// `MAX_LINE_LENGTH`, and `Memory`. A refused edit changes nothing. The counter is as for `insert`.
+    /// `MAX_LINE_LENGTH`, and `Memory`. A refused edit changes nothing. The answer and the counter are as for `insert`.
     pub fn replace<C: Count>(
         &mut self,
         k: u32,

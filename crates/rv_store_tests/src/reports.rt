@@ -1,5 +1,7 @@
 //! What edits report, and what they count.
 
+ghost use Rattle.std.specs.Prelude.{◌≡◌};
+
 use crate::lines::append;
 use rv_store::{Changed, EditError, Store};
 use rv_text::Tally;
@@ -14,7 +16,9 @@ enum Edit {
     Replace(u32, &'static str),
 }
 
-fn make(store: &mut Store, edit: Edit, tally: &mut Tally) -> Result<Changed, EditError> {
+fn make(store: &mut Store, edit: Edit, tally: &mut Tally) -> Result<Changed, EditError>
+    requires { tally.old ≡ record { parsed = 0; valued = 0; encoded = 0 } }
+{
     match edit {
         Edit::Insert(k, line) => store.insert(k, line.as_bytes(), tally),
         Edit::Delete(k) => store.delete(k, tally),
@@ -22,11 +26,11 @@ fn make(store: &mut Store, edit: Edit, tally: &mut Tally) -> Result<Changed, Edi
     }
 }
 
-// What an edit reports and counts: the lines that it changes, how many lines it reads, and how many values it computes and
-// lines it encodes at most.
+// What an edit answers and counts: the lines that it changes, or why it is refused; how many lines it reads, and how many
+// values it computes and lines it encodes at most.
 #[derive(Clone, Copy)]
 struct Report {
-    changed: &'static [u32],
+    answer: Result<&'static [u32], EditError>,
     parsed: u64,
     valued: u64,
     encoded: u64,
@@ -35,15 +39,25 @@ struct Report {
 impl Report {
     fn of(changed: &'static [u32], parsed: u64, valued: u64, encoded: u64) -> Report {
         Report {
-            changed,
+            answer: Ok(changed),
             parsed,
             valued,
             encoded,
         }
     }
+
+    // Refused whatever the memory.
+    fn refused(error: EditError) -> Report {
+        Report {
+            answer: Err(error),
+            parsed: 0,
+            valued: 0,
+            encoded: 0,
+        }
+    }
 }
 
-// The edit is made, and reports and counts that.
+// The edit answers and counts that.
 fn is_reported<T: Abort>(
     rt: &T,
     store: &mut Store,
@@ -51,18 +65,21 @@ fn is_reported<T: Abort>(
     report: Report,
 ) -> Result<(), Fail> {
     let mut tally = Tally::new();
-    let changed = make(store, edit, &mut tally)?;
-    assert_eq!(rt; changed.lines.as_slice(), report.changed);
+    let found = make(store, edit, &mut tally);
+    match report.answer {
+        Ok(changed) => assert_eq!(rt; found?.lines.as_slice(), changed),
+        Err(error) => assert_eq!(rt; found.err(), Some(error)),
+    }
     assert_eq!(rt; tally.parsed_calls(), report.parsed);
     assert!(rt;
         tally.valued_calls() <= report.valued,
-        "values at {:?}",
-        report.changed
+        "{} values",
+        tally.valued_calls()
     );
     assert!(rt;
         tally.encoded_calls() <= report.encoded,
-        "codes at {:?}",
-        report.changed
+        "{} codes",
+        tally.encoded_calls()
     );
     Ok(())
 }
@@ -137,46 +154,24 @@ fn places_that_change_are_followed(rt: HostRuntime) -> Result<(), Fail> {
     are_reported(&rt, alloc, text, &edits)
 }
 
-// So many times the same line.
-fn repeat(store: &mut Store, count: u32, line: &[u8]) -> Result<(), EditError> {
-    for _ in 0..count {
-        append(store, line)?;
-    }
-    Ok(())
-}
-
 #[test]
 fn lines_that_only_move_stay(rt: HostRuntime) -> Result<(), Fail> {
-    let mut store = Store::new(rt.alloc(), 0)?;
-    repeat(&mut store, 1000, b"addi a0, a0, 1")?;
-    let edit = Edit::Insert(1, "addi a0, a0, 1");
-    is_reported(&rt, &mut store, edit, Report::of(&[1], 1, 2, 1))
+    let alloc = rt.alloc();
+    let text = "addi a0, a0, 1\n".repeat(alloc, 1000)?;
+    let edits = [(Edit::Insert(1, "addi a0, a0, 1"), Report::of(&[1], 1, 2, 1))];
+    are_reported(&rt, alloc, text.as_str(), &edits)?;
+    let text = "j .\n".repeat(alloc, 1000)?;
+    let edits = [(Edit::Insert(1001, "j ."), Report::of(&[1001], 1, 2, 1))];
+    are_reported(&rt, alloc, text.as_str(), &edits)
 }
 
-#[test]
-fn lines_before_the_last_stay(rt: HostRuntime) -> Result<(), Fail> {
-    let mut store = Store::new(rt.alloc(), 0)?;
-    repeat(&mut store, 1000, b"j .")?;
-    let edit = Edit::Insert(1001, "j .");
-    is_reported(&rt, &mut store, edit, Report::of(&[1001], 1, 2, 1))
-}
-
-// Edits that are refused whatever the memory.
 #[test]
 fn refused_edits_count_nothing(rt: HostRuntime) -> Result<(), Fail> {
-    let mut store = Store::new(rt.alloc(), 0)?;
-    append(&mut store, b"nop")?;
-    let mut tally = Tally::new();
-    for (edit, error) in [
-        (Edit::Insert(3, "nop"), EditError::Place),
-        (Edit::Insert(1, "a\nb"), EditError::Line),
-        (Edit::Delete(2), EditError::Place),
-        (Edit::Replace(0, "nop"), EditError::Place),
-    ] {
-        assert_eq!(rt; make(&mut store, edit, &mut tally).err(), Some(error));
-        assert_eq!(rt; tally.parsed_calls(), 0);
-        assert_eq!(rt; tally.valued_calls(), 0);
-        assert_eq!(rt; tally.encoded_calls(), 0);
-    }
-    Ok(())
+    let edits = [
+        (Edit::Insert(3, "nop"), Report::refused(EditError::Place)),
+        (Edit::Insert(1, "a\nb"), Report::refused(EditError::Line)),
+        (Edit::Delete(2), Report::refused(EditError::Place)),
+        (Edit::Replace(0, "nop"), Report::refused(EditError::Place)),
+    ];
+    are_reported(&rt, rt.alloc(), "nop", &edits)
 }
