@@ -1,4 +1,5 @@
 pub mod Before
+pub mod Briefs
 pub mod Changes
 pub mod Codes
 pub mod ConstantPairs

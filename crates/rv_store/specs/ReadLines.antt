@@ -2,9 +2,12 @@
 use Rattle.std.specs.Prelude.{◌≡◌, ℕ, true, List}
 use Rattle.rv_stmt.specs.declared.statement.Stmt.{Stmt}
 use Rattle.rv_stmt.specs.Statement.{statement_of}
+use Rattle.rv_store.specs.declared.brief.Brief.{Brief}
+use Rattle.rv_store.specs.Briefs.{brief_of}
 use Rattle.rv_store.specs.Text.{is_line}
 
--- the bytes of a line and its statement
-pub record IsRead (text : List ℕ) (stmt : Stmt) : Type 0 where
+-- the bytes of a line, its statement, and that in brief
+pub record IsRead (text : List ℕ) (stmt : Stmt) (brief : Brief) : Type 0 where
   pub line : is_line text ≡ true
   pub read : stmt ≡ statement_of text
+  pub summed : brief ≡ brief_of stmt

@@ -12,6 +12,7 @@ use Rattle.rv_stmt.specs.declared.operand.Role.TheVariants.{Target, PairTarget, 
 use Rattle.rv_stmt.specs.declared.statement.Body.{Body}
 use Rattle.rv_stmt.specs.declared.statement.Body.TheVariants.{Align, Equ}
 use Rattle.rv_stmt.specs.Statement.{operands_of}
+use Rattle.rv_layout.specs.Shapes.{is_size}
 
 -- Expressions
 
@@ -74,6 +75,14 @@ operand_uses_address o = has_here (expression_of o.value) || is_pcrel_high o.val
 -- the symbols whose values or constants the line uses
 abbrev pub names_used : Body → List (List ℕ)
 names_used body = flat_map (λ o. names_in (expression_of o.value)) (operands_of body)
+
+-- the line uses symbols
+abbrev pub uses_symbols : Body → Bool
+uses_symbols body = list_any (λ name. true) (names_used body)
+
+-- the shape of the line follows from the value of an operand
+abbrev pub is_sized : Body → Bool
+is_sized body = list_any (λ o. is_size o.role) (operands_of body)
 
 -- the line uses its own address: by `.`, a target, an address in two instructions, `%pcrel_hi`, or as an alignment, whose
 -- padding follows from its place

@@ -23,8 +23,9 @@ use rv_ops::Op;
 use rv_stmt::{Body, OperandValue};
 use rv_text::Count;
 use std::alloc::{AllocError, Global};
-// The expression of `auipc rd, %pcrel_hi(expression)`.
-fn pcrel_high(body: &Body) -> Option<&Expr>
+
+/// The expression of `auipc rd, %pcrel_hi(expression)`.
+pub fn pcrel_high(body: &Body) -> Option<&Expr>
     ensures { option_map (λ e. e.now) result ≡ pcrel_high_of body.now }
 {
     let Body::Instr(instruction) = body else {

@@ -3,6 +3,7 @@
 
 mod base;
 mod before;
+mod brief;
 mod changed;
 mod codes;
 mod constants;

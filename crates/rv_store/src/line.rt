@@ -2,8 +2,10 @@
 
 ghost use Rattle.std.specs.Prelude.{◌≡◌, ◌≤◌, ◌+◌, ◌^◌, true, length, IfOk, IfErr};
 ghost use Rattle.rv_stmt.specs.Statement.{statement_of, data_size_of};
+ghost use Rattle.rv_store.specs.Briefs.{brief_of};
 ghost use Rattle.rv_store.specs.Text.{is_line};
 
+use crate::brief::Brief;
 use crate::edit_error::EditError;
 use rv_stmt::{Stmt, data_are_few, read_line};
 use rv_text::Count;
@@ -21,6 +23,7 @@ struct Content {
 /// A line of a text with its statement. It is read once, and then shared by all that hold it. Contracts see its bytes.
 #[derive(Drop)]
 pub struct Line {
+    brief: Brief,
     content: Rc<Content>,
 }
 
@@ -32,7 +35,7 @@ impl Model for Line {
 
     ghost view = { λ l. l.content.value.text.items };
 
-    ghost invariant = { λ l. IsRead l.content.value.text.items l.content.value.stmt };
+    ghost invariant = { λ l. IsRead l.content.value.text.items l.content.value.stmt l.brief };
 }
 
 impl Line {
@@ -47,9 +50,10 @@ impl Line {
         ensures encoded { C.encoded_count counter.new ≡ C.encoded_count counter.old }
     {
         let stmt = read_line(alloc, bytes, counter)?;
+        let brief = Brief::of(&stmt);
         let text = Vec::from_slice(alloc, bytes)?;
         let content = Rc::new(alloc, Content { text, stmt })?;
-        Ok(Line { content })
+        Ok(Line { brief, content })
     }
 
     /// The same line once more.
@@ -57,7 +61,10 @@ impl Line {
         ensures { IfOk result (λ l. l ≡ self.now) }
     {
         let content = Rc::clone(&self.content)?;
-        Ok(Line { content })
+        Ok(Line {
+            brief: self.brief,
+            content,
+        })
     }
 
     /// Its bytes.
@@ -83,6 +90,13 @@ impl Line {
     {
         // It is a line, so its bytes are few.
         let _ = self.text();
+    }
+
+    /// What it defines and uses, in brief.
+    pub fn brief(&self) -> Brief
+        ensures { result ≡ brief_of (statement_of self.now) }
+    {
+        self.brief
     }
 
     /// Its statement.

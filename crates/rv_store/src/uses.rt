@@ -1,8 +1,9 @@
 //! What a line uses of other lines and of its own place.
 
-ghost use Rattle.std.specs.Prelude.{◌≡◌};
+ghost use Rattle.std.specs.Prelude.{◌≡◌, true};
 ghost use Rattle.std.specs.List.{list_any, flat_map};
-ghost use Rattle.rv_store.specs.Uses.{names_in, has_here, has_local_label, tree_of_label, expression_of, is_pcrel_high, is_pcrel_low, is_relative, operand_uses_address, names_used, uses_address, uses_local_label, uses_paired_high, is_equ};
+ghost use Rattle.rv_store.specs.Uses.{names_in, has_here, has_local_label, tree_of_label, expression_of, is_pcrel_high, is_pcrel_low, is_relative, operand_uses_address, names_used, uses_address, uses_local_label, uses_paired_high, is_equ, is_sized, uses_symbols};
+ghost use Rattle.rv_layout.specs.Shapes.{is_size};
 
 use rv_expr::{Expr, LabelReference, Node};
 use rv_stmt::{Body, Operand, OperandValue, Role};
@@ -71,6 +72,54 @@ pub fn any_name<T: NameTest>(body: &Body, names: &T) -> bool
     ensures { result ≡ list_any (T.test names.now) (names_used body.now) }
 {
     any_in_operands(body.operands(), names)
+}
+
+// Every name passes.
+#[derive(Drop)]
+struct EveryName;
+
+impl NameTest for EveryName {
+    ghost can_test = { λ t. true ≡ true };
+
+    ghost test = { λ t name. true };
+
+    fn passes(&self, _name: &[u8]) -> bool {
+        true
+    }
+}
+
+/// Whether a line uses symbols.
+pub fn uses_symbols(body: &Body) -> bool
+    ensures { result ≡ uses_symbols body.now }
+{
+    any_name(body, &EveryName)
+}
+
+// Whether the size of a line follows from an operand in this role.
+fn is_size(role: Role) -> bool
+    ensures { result ≡ is_size role }
+{
+    matches!(role, Role::Constant | Role::Size | Role::Alignment(_))
+}
+
+// Whether the size of the line follows from one of the operands.
+fn any_is_size(mut operands: &[Operand]) -> bool
+    ensures { result ≡ list_any (λ o. is_size o.role) operands.entry.now }
+{
+    while let [operand, rest @ ..] = operands {
+        if is_size(operand.role) {
+            return true;
+        }
+        operands = rest;
+    }
+    false
+}
+
+/// Whether the shape of a line follows from the value of an operand.
+pub fn is_sized(body: &Body) -> bool
+    ensures { result ≡ is_sized body.now }
+{
+    any_is_size(body.operands())
 }
 
 // Whether `.` stands in an expression.

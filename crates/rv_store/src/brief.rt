@@ -1,0 +1,48 @@
+//! What lines have to do with other lines, in brief.
+
+ghost use Rattle.std.specs.Prelude.{◌≡◌};
+ghost use Rattle.rv_store.specs.Briefs.{brief_of};
+
+use crate::highs::pcrel_high;
+use crate::uses::{
+    is_equ, is_sized, uses_address, uses_local_label, uses_paired_high, uses_symbols,
+};
+use rv_stmt::Stmt;
+
+/// What a line defines and what it uses, in brief: a loop over the lines goes past those that do not matter to it without a
+/// look at their statements.
+#[derive(Clone, Copy)]
+pub struct Brief {
+    /// It has labels.
+    pub labels: bool,
+    /// It is an `.equ`.
+    pub equ: bool,
+    /// It is an `auipc` with `%pcrel_hi`.
+    pub pcrel_high: bool,
+    /// Its shape follows from the value of an operand.
+    pub sized: bool,
+    /// It uses symbols.
+    pub symbols: bool,
+    /// It uses its own address.
+    pub address: bool,
+    /// It uses a local label or `%pcrel_lo`, or is an `.equ`: what such a line uses is not compared.
+    pub uncompared: bool,
+}
+
+impl Brief {
+    /// That of a statement.
+    pub fn of(stmt: &Stmt) -> Brief
+        ensures { result ≡ brief_of stmt.now }
+    {
+        let body = &stmt.body;
+        Brief {
+            labels: !stmt.labels.as_slice().is_empty(),
+            equ: is_equ(body),
+            pcrel_high: pcrel_high(body).is_some(),
+            sized: is_sized(body),
+            symbols: uses_symbols(body),
+            address: uses_address(body),
+            uncompared: uses_local_label(body) || uses_paired_high(body) || is_equ(body),
+        }
+    }
+}
