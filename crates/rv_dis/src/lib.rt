@@ -1,6 +1,7 @@
 //! The disassembler: the texts of instructions and the rows of stretches of bytes, which assemble to the bytes again.
 #![tactic(auto)]
 
+mod decimals;
 mod disassembly;
 mod error;
 mod laws;
@@ -8,6 +9,7 @@ mod names;
 mod numbers;
 mod operand_lists;
 mod operand_texts;
+mod pairs;
 mod row;
 mod text;
 

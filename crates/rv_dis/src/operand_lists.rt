@@ -6,7 +6,7 @@ ghost use Rattle.rv_ops.specs.Registers.{register_name};
 ghost use Rattle.rv_dis.specs.Text.{after_name, hexadecimal_of, memory_text, target_of};
 
 use crate::names::push_register_name;
-use crate::numbers::{push_decimal, push_hexadecimal_of};
+use crate::numbers::{push_decimal, push_word};
 use crate::operand_texts::{push_memory, target};
 use crate::row::RowText;
 use rv_code::Fields;
@@ -69,7 +69,7 @@ pub fn push_target(out: &mut RowText, address: u32, fields: &Fields)
     ensures { out.new ≡ out.old ++ after_name (hexadecimal_of 8 (target_of address fields.now.value) ∷ []) }
 {
     out.push_str(" ");
-    push_hexadecimal_of(out, 8, target(address, fields.value));
+    push_word(out, target(address, fields.value));
 }
 
 /// Two registers and the target of a branch at an address.
@@ -89,7 +89,7 @@ pub fn push_registers_and_target(
     out.push_str(", ");
     push_register_name(out, second);
     out.push_str(", ");
-    push_hexadecimal_of(out, 8, target(address, fields.value));
+    push_word(out, target(address, fields.value));
 }
 
 /// A register.
@@ -125,5 +125,5 @@ pub fn push_register_and_target(out: &mut RowText, register: Reg, address: u32, 
     out.push_str(" ");
     push_register_name(out, register);
     out.push_str(", ");
-    push_hexadecimal_of(out, 8, target(address, fields.value));
+    push_word(out, target(address, fields.value));
 }

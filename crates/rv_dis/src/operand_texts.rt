@@ -7,7 +7,7 @@ ghost use Rattle.rv_stmt.specs.Registers.{set_name};
 ghost use Rattle.rv_dis.specs.Text.{csr_text, immediate_text, memory_text, operand_text, set_text, target_of};
 
 use crate::names::push_register_name;
-use crate::numbers::{push_decimal, push_hexadecimal, push_hexadecimal_of};
+use crate::numbers::{push_decimal, push_hexadecimal, push_hexadecimal_of, push_word};
 use crate::row::RowText;
 use rv_code::Ins;
 use rv_ops::{Csr, Reg, Shape, csr_name, shape};
@@ -97,7 +97,7 @@ pub fn push_operand(out: &mut RowText, ins: &Ins, slot: Slot, address: u32)
         Slot::StackPointer => push_register_name(out, stack_pointer()),
         Slot::Immediate => push_immediate(out, shape(ins.op()), fields.value),
         Slot::SourceImmediate => push_decimal(out, i32::from(fields.rs1.number())),
-        Slot::Target => push_hexadecimal_of(out, 8, target(address, fields.value)),
+        Slot::Target => push_word(out, target(address, fields.value)),
         Slot::Memory | Slot::MemoryOrRegister | Slot::MemoryOrAddress => {
             push_memory(out, fields.value, fields.rs1)
         }

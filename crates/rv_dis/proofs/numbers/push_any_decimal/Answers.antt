@@ -2,7 +2,7 @@ use Rattle.std.proofs.Common.{◌++◌, ◌∙◌, ap}
 use Rattle.std.specs.Fmt.{signed_decimal}
 use Rattle.std.specs.Int.{w32}
 use Rattle.std.proofs.lemmas.Int.{to_z-of_z}
-use Rattle.rv_dis.proofs.numbers.push_decimal.Goals as goal
+use Rattle.rv_dis.proofs.numbers.push_any_decimal.Goals as goal
 
 pub returns : goal.returns
 returns c =
