@@ -1,22 +1,27 @@
 -- The row of definitions, line by line.
-use Rattle.std.proofs.Common.{◌≡◌, ℕ, suc, ◌+◌, ◌-◌, ◌<◌, ◌≤◌, nat_le, ◌==◌, Bool, true, false, not, List, [], ◌∷◌, ◌++◌, length, get_or, set, take, drop, replicate, bytes_eq, Option, Some, None, if◌then◌else◌, arith, ap, sym, ◌∙◌, refl}
+use Rattle.std.proofs.Common.{◌≡◌, ℕ, suc, ◌+◌, ◌-◌, ◌<◌, ◌≤◌, nat_le, ◌==◌, Bool, true, false, not, ◌||◌, List, [], ◌∷◌, ◌++◌, length, get_or, set, take, drop, replicate, bytes_eq, Option, Some, None, if◌then◌else◌, true≢false, arith, ap, sym, ◌∙◌, refl}
 use Rattle.std.specs.List.{list_any}
 use Rattle.std.proofs.Math.Path.{fun_ext}
-use Rattle.std.proofs.lemmas.Bool.{and_parts, leb-true}
+use Rattle.std.proofs.lemmas.Bool.{and_parts, or_parts, leb-true}
 use Rattle.std.proofs.lemmas.List.{take_all}
 use Rattle.std.proofs.lemmas.Slice.Eq.{bytes_eq-Decides}
 use Rattle.rv_text.specs.Lexing.{SpelledToken, lexed_line, spelled_tokens}
 use Rattle.rv_text.specs.TokenLaws.{few_spelled_tokens}
 use Rattle.rv_stmt.specs.declared.label.Label.{Label}
+use Rattle.rv_stmt.specs.declared.statement.Body.{Body}
+use Rattle.rv_stmt.specs.declared.statement.Body.TheVariants.{Equ as EquBody}
+use Rattle.rv_stmt.specs.declared.statement.Stmt.{Stmt}
 use Rattle.rv_stmt.specs.Labels.{label_at, with_label, labels_and_body}
 use Rattle.rv_stmt.specs.Statement.{statement_of}
 use Rattle.rv_list.specs.declared.view.DefinitionPlace.{DefinitionPlace}
 use Rattle.rv_list.specs.declared.view.DefinitionPlace.TheVariants.{Nowhere, Label as ByLabel, Equ}
 use Rattle.rv_store.specs.Defining.{Definitions, only, of_label, then_also}
-use Rattle.rv_store.specs.Definitions.{defines_symbol, place_among_labels, place_in_statement, or_place, first_place}
+use Rattle.rv_store.specs.Definitions.{defines_symbol, place_among_labels, place_in_body, place_in_statement, or_place, first_place}
 use Rattle.rv_store.specs.Program.{program_of}
 use Rattle.rv_store.specs.Rows.{number_of, in_row}
 use Rattle.rv_store.specs.Text.{is_line}
+use Rattle.rv_store.specs.Uses.{is_equ}
+use Rattle.rv_store.proofs.Lists.{no-items}
 use Rattle.rv_store.proofs.NameRows.{row-set, row-at, row-filled}
 
 -- Definitions joined
@@ -44,6 +49,19 @@ labels-step line index l ls = fun_ext (λ name. at (defines_symbol l.name name) 
     at : (b : Bool) (later : DefinitionPlace) → or_place (if b then ByLabel line index else Nowhere) later ≡ (if b then ByLabel line index else later)
     at true later = refl
     at false later = refl
+
+-- a statement with no labels, which is no `.equ`, defines nothing
+nowhere : (line : ℕ) (b : Body) (name : List ℕ) → is_equ b ≡ false → place_in_body line b name ≡ Nowhere
+nowhere line (EquBody d) name other = absurd (true≢false other)
+nowhere line b name other = refl
+
+pub nothing-defined : (f : Definitions) (line : ℕ) (s : Stmt) → (not (length s.labels == 0) || is_equ s.body) ≡ false → then_also f (place_in_statement line s) ≡ f
+nothing-defined f line s none =
+    let parts = or_parts (not (length s.labels == 0)) (is_equ s.body) none in
+    let labels = no-items s.labels parts.0 in
+    let each : place_in_statement line s ≡ (λ name. Nowhere) =
+    fun_ext (λ name. ap (λ ls. or_place (place_among_labels line 0 ls name) (place_in_body line s.body name)) labels ∙ nowhere line s.body name parts.1) in
+    ap (then_also f) each ∙ then_also-nowhere f
 
 -- how many are left after the first one
 pub count-next : {A : Type 0} (xs : List A) (i n : ℕ) → 1 ≤ length xs → i + length xs ≡ n → i + 1 + length (take (length xs - 1) (drop 1 xs)) ≡ n

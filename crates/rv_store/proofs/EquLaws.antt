@@ -50,7 +50,7 @@ equ_value-stays base program name line j (suc k) h l m = at (cases_lt k j) (equ_
 -- The row of the values
 
 -- a line that defines no symbol by an `.equ` leaves the values
-equ_values-same : (base : ℕ) (program : Program) (i : ℕ) → ((d : Definition) → body_at program (suc i) ≡ EquBody d → is_equ_on (suc i) (definition_of program d.symbol) ≡ false) → equ_value base program (suc i) ≡ equ_value base program i
+pub equ_values-same : (base : ℕ) (program : Program) (i : ℕ) → ((d : Definition) → body_at program (suc i) ≡ EquBody d → is_equ_on (suc i) (definition_of program d.symbol) ≡ false) → equ_value base program (suc i) ≡ equ_value base program i
 equ_values-same base program i none = fun_ext (λ name. at name (is_equ_on (suc i) (definition_of program name)) refl)
   where
     at : (name : List ℕ) (t : Bool) → is_equ_on (suc i) (definition_of program name) ≡ t → equ_value base program (suc i) name ≡ equ_value base program i name

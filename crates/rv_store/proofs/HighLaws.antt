@@ -1,9 +1,9 @@
 -- The high halves on the lines of a text, and on the lines that an edit does not invalidate.
-use Rattle.std.proofs.Common.{◌≡◌, ℕ, suc, ◌+◌, ◌-◌, ◌<◌, ◌≤◌, pos, Bool, true, false, ◌||◌, List, ◌∷◌, length, get_or, is_some, Option, Some, None, Ok, true≢false, arith, ap, sym, ◌∙◌, refl}
+use Rattle.std.proofs.Common.{◌≡◌, ℕ, suc, ◌+◌, ◌-◌, ◌<◌, ◌≤◌, pos, Bool, true, false, ◌||◌, List, ◌∷◌, length, get_or, is_some, Option, Some, None, Ok, Err, true≢false, arith, ap, sym, ◌∙◌, refl}
 use Rattle.std.specs.List.{list_any, flat_map}
 use Rattle.std.proofs.lemmas.Bool.{both_ways, or_parts, or_left, or_right}
 use Rattle.std.proofs.lemmas.List.Folds.{list_any-append}
-use Rattle.std.specs.Option.{option_map}
+use Rattle.rv_expr.specs.declared.faults.ValueFault.TheVariants.{NoPartner}
 use Rattle.rv_expr.specs.Tree.{Tree}
 use Rattle.rv_expr.specs.Value.{Environment}
 use Rattle.rv_ops.specs.declared.op.Op.{Op}
@@ -66,13 +66,17 @@ high-kept base before after k j same h =
 
 -- What is counted for a high half
 
-some-high : {A : Type 0} (tree : A → Tree) (found : Option A) (t : Option Tree) → option_map tree found ≡ t → is_some found ≡ true → one_if_some t ≡ 1
-some-high tree None t is h = absurd (true≢false (sym h))
-some-high tree (Some x) t is h = ap one_if_some (sym is)
+pub no-high : (given : Environment) (here : ℕ) (t : Option Tree) → is_some t ≡ false → high_by given here t ≡ Err NoPartner
+no-high given here None none = refl
+no-high given here (Some e) none = absurd (true≢false none)
 
-pub high-counted : {A : Type 0} (before : Before) (after : TextRows) (line : ℕ) (tree : A → Tree) (found : Option A) → IsAfter before after → 1 ≤ line → option_map tree found ≡ pcrel_high_of (body_at (program_in after) line) → is_some found ≡ true → is_invalidated (base_before before) (lines_before before) (edit_on before) line ≡ true → work high_operands (base_before before) (lines_before before) (edit_on before) (line - 1) + 1 ≡ work high_operands (base_before before) (lines_before before) (edit_on before) line
-high-counted before after line tree found is_after first is some invalidated =
-    let one : high_operands (body_at (program_in after) line) ≡ 1 = some-high tree found (pcrel_high_of (body_at (program_in after) line)) is some in
+some-high : (t : Option Tree) → is_some t ≡ true → one_if_some t ≡ 1
+some-high None some = absurd (true≢false (sym some))
+some-high (Some e) some = refl
+
+pub high-counted : (before : Before) (after : TextRows) (line : ℕ) → IsAfter before after → 1 ≤ line → is_some (pcrel_high_of (body_at (program_in after) line)) ≡ true → is_invalidated (base_before before) (lines_before before) (edit_on before) line ≡ true → work high_operands (base_before before) (lines_before before) (edit_on before) (line - 1) + 1 ≡ work high_operands (base_before before) (lines_before before) (edit_on before) line
+high-counted before after line is_after first some invalidated =
+    let one : high_operands (body_at (program_in after) line) ≡ 1 = some-high (pcrel_high_of (body_at (program_in after) line)) some in
     let here : high_operands (body_at (program_after (lines_before before) (edit_on before)) line) ≡ 1 = ap (λ lines. high_operands (body_at (program_of lines) line)) (sym is_after.lines) ∙ one in
     let more = work-invalidated high_operands (base_before before) (lines_before before) (edit_on before) line first invalidated in
     omega (arith, here, more)

@@ -1,8 +1,8 @@
 -- The shape of a line after an edit: where the names that it uses are the constants that they were, it is what it was, and where
 -- one is not, the line is invalidated.
-use Rattle.std.proofs.Common.{◌≡◌, ℕ, suc, ℤ, ◌+◌, ◌-◌, ◌<◌, ◌≤◌, Bool, true, false, not, ◌||◌, List, [], ◌∷◌, length, get_or, Option, Some, None, arith, ap, sym, ◌∙◌, refl}
+use Rattle.std.proofs.Common.{◌≡◌, ℕ, suc, ℤ, ◌+◌, ◌-◌, ◌<◌, ◌≤◌, Bool, true, false, not, ◌&&◌, ◌||◌, List, [], ◌∷◌, length, get_or, Option, Some, None, arith, ap, sym, ◌∙◌, refl}
 use Rattle.std.specs.List.{list_any}
-use Rattle.std.proofs.lemmas.Bool.{not-false}
+use Rattle.std.proofs.lemmas.Bool.{and_parts, not-false}
 use Rattle.rv_stmt.specs.declared.statement.Body.{Body}
 use Rattle.rv_stmt.specs.Statement.{statement_of}
 use Rattle.rv_layout.specs.declared.measured.Measured.{Measured}
@@ -18,13 +18,13 @@ use Rattle.rv_store.specs.References.{reference_of}
 use Rattle.rv_store.specs.Rows.{in_row, AreConstants}
 use Rattle.rv_store.specs.Sameness.{same_constant, same_entry}
 use Rattle.rv_store.specs.Text.{Edit, lines_after}
-use Rattle.rv_store.specs.Uses.{names_used}
+use Rattle.rv_store.specs.Uses.{names_used, is_sized, uses_symbols}
 use Rattle.rv_store.specs.Work.{work}
 use Rattle.rv_store.proofs.ConstantRows.{body-read}
 use Rattle.rv_store.proofs.EarlierLines.{Stood, stood, statement-stood}
 use Rattle.rv_store.proofs.Programs.{length-for_lines, at-for_lines, length-program}
 use Rattle.rv_store.proofs.Sameness.{same_constant-Decides}
-use Rattle.rv_store.proofs.UsedConstants.{shape-follows}
+use Rattle.rv_store.proofs.UsedConstants.{shape-same}
 use Rattle.rv_store.proofs.WorkLaws.{work-invalidated}
 
 -- Disjunctions
@@ -95,15 +95,17 @@ module _ (before : Before) (is : IsBefore before) (lines : List (List ℕ)) (aft
       ∙ ap (shape_at old) (let e : suc (j - 1) ≡ j = omega (arith, place.first) in e)
 
   module _ (f : List ℕ → Option ℤ) (constants : f ≡ constant_of (program_of lines) (i + 1)) (b : Body) (here : b ≡ body_at (program_of lines) (i + 1)) where
-    pub shape-stays : list_any (differs_from old j f) (names_used b) ≡ false → shape_at (program_of lines) (i + 1) ≡ shape_at old j
+    pub shape-stays : (is_sized b && (uses_symbols b && list_any (differs_from old j f) (names_used b))) ≡ false → shape_at (program_of lines) (i + 1) ≡ shape_at old j
     shape-stays same =
         ap (λ c. shape_of c (body_at (program_of lines) (i + 1))) (sym constants)
         ∙ ap (shape_of f) (sym here)
-        ∙ shape-follows (differs_from old j f) f (constant_of old j) (λ name h. (same_constant-Decides _ _).0 (not-false _ h)) b same
+        ∙ shape-same (differs_from old j f) f (constant_of old j) (λ name h. (same_constant-Decides _ _).0 (not-false _ h)) b same
         ∙ ap (shape_of (constant_of old j)) (here ∙ body)
 
-    pub constant-invalidates : list_any (differs_from old j f) (names_used b) ≡ true → is_invalidated (base_before before) (lines_before before) (edit_on before) (i + 1) ≡ true
-    constant-invalidates another =
+    pub constant-invalidates : (is_sized b && (uses_symbols b && list_any (differs_from old j f) (names_used b))) ≡ true → is_invalidated (base_before before) (lines_before before) (edit_on before) (i + 1) ≡ true
+    constant-invalidates resized =
+        let differs = list_any (differs_from old j f) (names_used b) in
+        let another : differs ≡ true = (and_parts (uses_symbols b) differs (and_parts (is_sized b) (uses_symbols b && differs) resized).1).1 in
         let base = base_before before in
         let edit = edit_on before in
         let now : Program = program_after (lines_before before) edit in

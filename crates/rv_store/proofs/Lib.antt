@@ -1,4 +1,10 @@
+pub mod AlikeLaws
+pub mod AlikeLines
+pub mod AlikeTexts
+pub mod AppendLaws
+pub mod AppendTexts
 pub mod Alignments
+pub mod ByteRuns
 pub mod ChangeLaws
 pub mod ConstantLaws
 pub mod ConstantRows
@@ -9,6 +15,7 @@ pub mod EarlierLines
 pub mod EditExamples
 pub mod EditRefusals
 pub mod EndLaws
+pub mod Endings
 pub mod EquLaws
 pub mod Examples
 pub mod FittingValues
@@ -21,12 +28,14 @@ pub mod KeptShapes
 pub mod LineNameLaws
 pub mod LinePairLaws
 pub mod LineSums
+pub mod LinesAhead
 pub mod ListedLines
 pub mod Lists
 pub mod LocalLines
 pub mod NameRows
 pub mod NextHighs
 pub mod Programs
+pub mod RenewalRuns
 pub mod Renewals
 pub mod Sameness
 pub mod ShapeRows

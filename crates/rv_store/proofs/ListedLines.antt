@@ -1,5 +1,6 @@
 -- The lines of a text after an edit that have another code, listed one by one.
-use Rattle.std.proofs.Common.{◌≡◌, ℕ, suc, true, false, List, [], ◌∷◌, ◌++◌, append_assoc, if◌then◌else◌, ap, subst, sym, ◌∙◌, refl}
+use Rattle.std.proofs.Common.{◌≡◌, ℕ, zero, suc, ◌<◌, ◌≤◌, ◌⊎◌, inl, inr, true, false, List, [], ◌∷◌, ◌++◌, append_assoc, if◌then◌else◌, arith, ap, subst, sym, ◌∙◌, refl}
+use Rattle.std.proofs.lemmas.Bool.{cases_lt}
 use Rattle.std.proofs.lemmas.List.{append-nil}
 use Rattle.rv_store.specs.declared.before.Before.{Before}
 use Rattle.rv_store.specs.Before.{base_before, lines_before, edit_on}
@@ -32,6 +33,26 @@ module _ (before : Before) where
   nothing_listed k xs = record {
     more = [];
     those = sym (append-nil (changed_through before k));
+    added = sym (append-nil xs);
+  }
+
+  changed-same : (k n : ℕ) → k ≤ n → ((j : ℕ) → k < j → j ≤ n → is_changed (base_before before) (lines_before before) (edit_on before) j ≡ false) → changed_through before n ≡ changed_through before k
+  changed-same k zero up same = ap (changed_through before) (let e : 0 ≡ k = omega (arith, up) in e)
+  changed-same k (suc m) up same =
+      at (cases_lt m k) (λ more. changed-same k m more (λ j after within. same j after (omega (arith, within))))
+    where
+      at : (m < k) ⊎ (k ≤ m) → (k ≤ m → changed_through before m ≡ changed_through before k) → changed_through before (suc m) ≡ changed_through before k
+      at (inl less) rest = ap (changed_through before) (let e : suc m ≡ k = omega (arith, less, up) in e)
+      at (inr more) rest =
+          ap (λ b. changed_through before m ++ (if b then suc m ∷ [] else [])) (same (suc m) (omega (arith, more)) (omega arith))
+          ∙ append-nil (changed_through before m)
+          ∙ rest more
+
+  -- lines none of which has another code
+  pub lines_unlisted : (k n : ℕ) (xs : List ℕ) → k ≤ n → ((j : ℕ) → k < j → j ≤ n → is_changed (base_before before) (lines_before before) (edit_on before) j ≡ false) → AreListed before k n xs xs
+  lines_unlisted k n xs up same = record {
+    more = [];
+    those = changed-same k n up same ∙ sym (append-nil (changed_through before k));
     added = sym (append-nil xs);
   }
 

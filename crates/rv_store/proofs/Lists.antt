@@ -1,6 +1,7 @@
 -- A map over an edited list, and what holds of each element.
-use Rattle.std.proofs.Common.{◌≡◌, ℕ, suc, List, ◌∷◌, take, drop}
+use Rattle.std.proofs.Common.{◌≡◌, ℕ, suc, ◌==◌, false, not, List, [], ◌∷◌, length, take, drop, true≢false, arith, ap, sym, ◌∙◌, refl}
 use Rattle.std.specs.Prelude.{map, insert, remove}
+use Rattle.std.proofs.lemmas.Bool.{ne_eqb}
 use Rattle.std.proofs.lemmas.List.{map-append, take-map, drop-map}
 use Rattle.std.proofs.lemmas.List.Elements.{All-append, All-cons, All-take, All-drop}
 use Rattle.std.specs.List.{All}
@@ -16,3 +17,9 @@ all_insert P xs i x all one = All-append P (take i xs) (x ∷ drop i xs) (All-ta
 
 pub all_remove : {A : Type 0} (P : A → Type 0) (xs : List A) (i : ℕ) → All P xs → All P (remove xs i)
 all_remove P xs i all = All-append P (take i xs) (drop (suc i) xs) (All-take P i xs all) (All-drop P (suc i) xs all)
+
+-- a list without items
+pub no-items : {A : Type 0} (xs : List A) → not (length xs == 0) ≡ false → xs ≡ []
+no-items [] none = refl
+no-items (x ∷ xs) none =
+    absurd (true≢false (sym (ap not (ne_eqb (suc (length xs)) 0 (λ e. omega (arith, e)))) ∙ none))

@@ -1,5 +1,5 @@
 -- The row of local labels: how it grows by a line, and that it tells the line of a local label.
-use Rattle.std.proofs.Common.{◌≡◌, ℕ, zero, suc, ◌+◌, ◌-◌, nat_le, ◌<◌, ◌≤◌, Bool, true, false, ◌||◌, List, [], ◌∷◌, ◌++◌, length, length-append, take, drop, get_or, slice_get, Option, Some, None, if◌then◌else◌, ◌⊎◌, inl, inr, arith, ap, sym, ◌∙◌, refl, subst}
+use Rattle.std.proofs.Common.{◌≡◌, ℕ, zero, suc, ◌+◌, ◌-◌, nat_le, ◌<◌, ◌≤◌, ◌==◌, Bool, true, false, not, ◌||◌, List, [], ◌∷◌, ◌++◌, length, length-append, take, drop, get_or, slice_get, Option, Some, None, if◌then◌else◌, ◌⊎◌, inl, inr, arith, ap, sym, ◌∙◌, refl, subst}
 use Rattle.std.specs.List.Sorted.{IsNonDecreasing, IsPartitionPoint}
 use Rattle.std.specs.Option.{option_or}
 use Rattle.std.proofs.lemmas.Bool.{le-leb, lt-leb, cases_lt, eq-eqb, ne_eqb}
@@ -14,6 +14,7 @@ use Rattle.rv_store.specs.Locals.{last_up_to, first_above, local_line_in, AreRis
 use Rattle.rv_store.specs.Program.{Program, program_of, lines_that, last_line, first_line, no_statement, statement_at}
 use Rattle.rv_store.specs.References.{has_local, among_local, is_local, local_line}
 use Rattle.rv_store.specs.Rows.{AreLocals}
+use Rattle.rv_store.proofs.Lists.{no-items}
 
 -- The statements of a text
 
@@ -188,6 +189,10 @@ with_line-twice line xs = by (is_last line xs) refl
         let pushed : with_line line xs ≡ xs ++ line ∷ [] = ap (λ c. if c then xs else xs ++ line ∷ []) e in
         let there : is_last line (xs ++ line ∷ []) ≡ true = ap (is_some_line line) (last-push xs line) ∙ eq-eqb line line refl in
         ap (with_line line) pushed ∙ ap (λ c. if c then xs ++ line ∷ [] else (xs ++ line ∷ []) ++ line ∷ []) there ∙ sym pushed
+
+-- a line without labels
+pub no-labels : (line : ℕ) (ls : List Label) (rows : List (List ℕ)) → not (length ls == 0) ≡ false → AreWithLabels line ls rows rows
+no-labels line ls rows none = λ k. sym (ap (λ ls. with_labels line k ls (get_or rows k [])) (no-items ls none))
 
 -- one more label of a line
 pub with_labels-more : (line k : ℕ) (ls : List Label) (l : Label) (xs : List ℕ) → with_labels line k (ls ++ l ∷ []) xs ≡ with_label line k l (with_labels line k ls xs)

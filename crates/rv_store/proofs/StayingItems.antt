@@ -1,5 +1,5 @@
 -- The items that an edit leaves as they are.
-use Rattle.std.proofs.Common.{◌≡◌, ℕ, ◌+◌, ◌≤◌, Bool, false, not, ◌||◌, List, ◌∷◌, length, Option, Some, None, is_some, Decides, arith, ap, subst, sym, ◌∙◌, refl}
+use Rattle.std.proofs.Common.{◌≡◌, ℕ, ◌≤◌, Bool, false, not, ◌||◌, List, length, Option, Some, None, is_some, Decides, ap, subst, sym, ◌∙◌, refl}
 use Rattle.std.proofs.lemmas.Bool.{false≢true, not-false, or_parts}
 use Rattle.std.proofs.lemmas.Bool.Decides.{same_from_decides}
 use Rattle.rv_layout.specs.declared.measured.Measured.{Measured}
@@ -9,7 +9,7 @@ use Rattle.rv_store.specs.declared.line_values.LineValues.{LineValues}
 use Rattle.rv_store.specs.Changes.{program_after, is_new_or, differs_in_code, differs_in_values, is_reencoded, is_changed}
 use Rattle.rv_store.specs.Codes.{values_at, code_at, code_by_values}
 use Rattle.rv_store.specs.Edits.{line_before_edit}
-use Rattle.rv_store.specs.Former.{IsFormer, AreFormer}
+use Rattle.rv_store.specs.Former.{IsFormer}
 use Rattle.rv_store.specs.Items.{IsItem}
 use Rattle.rv_store.specs.Layout.{shape_at}
 use Rattle.rv_store.specs.Program.{Program, program_of, body_at}
@@ -22,12 +22,6 @@ use Rattle.rv_store.proofs.Sameness.{same_shape-Decides, same_values-Decides, sa
 stood_somewhere : (o : Option ℕ) (none : Bool) → is_some o ≡ not none → none ≡ false → (j : ℕ) × (o ≡ Some j)
 stood_somewhere None none test stands = absurd (false≢true (test ∙ ap not stands))
 stood_somewhere (Some j) none test stands = (j, refl)
-
--- of the items behind line k the first is that of the next line
-pub first_former : (base : ℕ) (lines : List (List ℕ)) (edit : Edit) (k : ℕ) (item : Item) (items : List Item) → AreFormer base lines edit k (item ∷ items) → IsFormer base lines edit (k + 1) item
-first_former base lines edit k item items are =
-    let next : k + 0 + 1 ≡ k + 1 = omega arith in
-    subst (λ n. IsFormer base lines edit n item) next (are 0 item refl)
 
 module _ (base : ℕ) (lines : List (List ℕ)) (edit : Edit) (k : ℕ) (item : Item) (former : IsFormer base lines edit k item) where
   -- a line that is not reencoded keeps its item

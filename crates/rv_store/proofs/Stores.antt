@@ -14,7 +14,7 @@ use Rattle.rv_store.specs.Text.{at_line}
 use Rattle.rv_store.proofs.NameRows.{row-grown, grows-length}
 use Rattle.rv_store.proofs.Programs.{length-for_lines, at-for_lines}
 
-past_zero : (j : ℕ) → (suc j == 0) ≡ false
+pub past_zero : (j : ℕ) → (suc j == 0) ≡ false
 past_zero j = ne_eqb (suc j) 0 (λ same. omega (arith, same))
 
 -- what a row by lines holds for line k
@@ -74,6 +74,10 @@ part_at_line lines f v items (suc j) made =
 pub found_line : {A : Type 0} (xs : List A) (k : ℕ) (x : A) → 1 ≤ k → Some x ≡ (if k == 0 then None else slice_get xs (k - 1)) → x ≡ get_or xs (k - 1) x
 found_line xs zero x first found = absurd (let no : 1 ≤ 0 = first in omega (arith, no))
 found_line xs (suc j) x first found = sym (get_or_from_slice_get xs (suc j - 1) x x (sym (rw (past_zero j) at found)))
+
+pub line_in_list : {A : Type 0} (xs : List A) (k : ℕ) (x : A) → 1 ≤ k → Some x ≡ (if k == 0 then None else slice_get xs (k - 1)) → slice_get xs (k - 1) ≡ Some x
+line_in_list xs zero x first found = absurd (let no : 1 ≤ 0 = first in omega (arith, no))
+line_in_list xs (suc j) x first found = sym (rw (past_zero j) at found)
 
 pub missing_line : {A : Type 0} (xs : List A) (k : ℕ) → 1 ≤ k → k ≤ length xs → None ≡ (if k == 0 then None else slice_get xs (k - 1)) → ⊥
 missing_line xs zero first last missing = absurd (let no : 1 ≤ 0 = first in omega (arith, no))

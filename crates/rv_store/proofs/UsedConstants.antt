@@ -1,5 +1,5 @@
 -- The shape of a line follows from the constants of the names that it uses.
-use Rattle.std.proofs.Common.{◌≡◌, ℕ, ℤ, Bool, true, false, List, [], ◌∷◌, Option, Some, None, if◌then◌else◌, ap, sym, ◌∙◌, refl}
+use Rattle.std.proofs.Common.{◌≡◌, ℕ, ℤ, Bool, true, false, ◌&&◌, List, [], ◌∷◌, Option, Some, None, if◌then◌else◌, true≢false, ap, sym, ◌∙◌, refl}
 use Rattle.std.specs.List.{list_any, flat_map}
 use Rattle.std.proofs.lemmas.Bool.{or_parts}
 use Rattle.std.proofs.lemmas.List.Folds.{list_any-append}
@@ -10,8 +10,38 @@ use Rattle.rv_stmt.specs.declared.statement.Body.{Body}
 use Rattle.rv_stmt.specs.declared.statement.Body.TheVariants as body
 use Rattle.rv_stmt.specs.declared.statement.Instruction.{Instruction}
 use Rattle.rv_layout.specs.Shapes.{constants, is_size, size_operand, or_not_constant, value_of_constant, at_span, constant_of_operand, load_size, fill_size, exponent_by_role, bytes_or_range, align_or_range, shape_by, shape_of_instructions, shape_of_fill, shape_of_alignment, shape_of}
-use Rattle.rv_store.specs.Uses.{names_in, expression_of, names_used}
+use Rattle.rv_store.specs.Uses.{names_in, expression_of, names_used, is_sized, uses_symbols}
 use Rattle.rv_store.proofs.UsedValues.{value-follows}
+
+-- A line without symbols
+
+none-differs : (differs : List ℕ → Bool) (names : List (List ℕ)) → list_any (λ name. true) names ≡ false → list_any differs names ≡ false
+none-differs differs [] none = refl
+none-differs differs (n ∷ ns) none = absurd (true≢false none)
+
+-- A line that is not sized
+
+no-size_operand : (os : List Operand) → list_any (λ o. is_size o.role) os ≡ false → size_operand os ≡ None
+no-size_operand [] none = refl
+no-size_operand (o ∷ os) none =
+    let parts = or_parts (is_size o.role) (list_any (λ o. is_size o.role) os) none in
+    ap (λ b. if b then Some o else size_operand os) parts.0 ∙ no-size_operand os parts.1
+
+-- its shape follows from no constant
+pub shape-by_no_operand : (f g : List ℕ → Option ℤ) (b : Body) → is_sized b ≡ false → shape_of f b ≡ shape_of g b
+shape-by_no_operand f g (body.Instr i) none =
+    let no = no-size_operand i.operands none in
+    ap (shape_of_instructions (constants f) i) no ∙ sym (ap (shape_of_instructions (constants g) i) no)
+shape-by_no_operand f g (body.Pseudo i) none =
+    let no = no-size_operand i.operands none in
+    ap (shape_of_instructions (constants f) i) no ∙ sym (ap (shape_of_instructions (constants g) i) no)
+shape-by_no_operand f g (body.Fill d) none =
+    let no = no-size_operand d.operands none in
+    ap (shape_of_fill (constants f)) no ∙ sym (ap (shape_of_fill (constants g)) no)
+shape-by_no_operand f g (body.Align d) none =
+    let no = no-size_operand d.operands none in
+    ap (shape_of_alignment (constants f)) no ∙ sym (ap (shape_of_alignment (constants g)) no)
+shape-by_no_operand f g b none = refl
 
 -- where names that do not differ have the same constant
 module _ (differs : List ℕ → Bool) (f g : List ℕ → Option ℤ) (same : (name : List ℕ) → differs name ≡ false → f name ≡ g name) where
@@ -55,3 +85,12 @@ module _ (differs : List ℕ → Bool) (f g : List ℕ → Option ℤ) (same : (
   shape-follows (body.Fill d) names = fill-follows (size_operand d.operands) (size_operand-follows d.operands names)
   shape-follows (body.Align d) names = alignment-follows (size_operand d.operands) (size_operand-follows d.operands names)
   shape-follows b names = refl
+
+  -- where the shape follows from no operand, or names that it uses are the same constants
+  pub shape-same : (b : Body) → (is_sized b && (uses_symbols b && list_any differs (names_used b))) ≡ false → shape_of f b ≡ shape_of g b
+  shape-same b same = at (is_sized b) refl (uses_symbols b) refl same
+    where
+      at : (sized : Bool) → is_sized b ≡ sized → (symbols : Bool) → uses_symbols b ≡ symbols → (sized && (symbols && list_any differs (names_used b))) ≡ false → shape_of f b ≡ shape_of g b
+      at true e true s names = shape-follows b names
+      at true e false s names = shape-follows b (none-differs differs (names_used b) s)
+      at false e symbols s names = shape-by_no_operand f g b e

@@ -26,8 +26,9 @@ pub record IsBefore (before : Before) : Type 0 where
   pub few : length (lines_before before) ≤ MAX_LINES
   pub allowed : refusal_of (lines_before before) (edit_on before) ≡ None
 
--- the rows of the text after the edit
+-- the rows of the text after the edit, by the same names
 pub record IsAfter (before : Before) (after : TextRows) : Type 0 where
   pub base : after.base ≡ base_before before
+  pub names : after.names.now ≡ before.symbols.text.names.now
   pub lines : after.lines.now ≡ lines_after (lines_before before) (edit_on before)
   pub few : length after.lines.now ≤ MAX_LINES

@@ -2,6 +2,8 @@
 use Rattle.std.specs.Prelude.{ℕ, ◌+◌, ◌-◌, ◌==◌, nat_lt, Option, Some, None, if◌then◌else◌}
 use Rattle.rv_store.specs.declared.edit.LineEdit.{LineEdit}
 use Rattle.rv_store.specs.declared.edit.LineEdit.TheVariants as code
+use Rattle.rv_store.specs.declared.edit.ReadEdit.{ReadEdit}
+use Rattle.rv_store.specs.declared.edit.ReadEdit.TheVariants as read
 use Rattle.rv_store.specs.Text.{Edit, Insert, Delete, Replace}
 
 -- the edit that one of the code is
@@ -9,6 +11,11 @@ abbrev pub edit_of : LineEdit → Edit
 edit_of (code.Insert place line) = Insert place line.now
 edit_of (code.Delete place) = Delete place
 edit_of (code.Replace place line) = Replace place line.now
+
+abbrev pub edit_of_read : ReadEdit → Edit
+edit_of_read (read.Insert place line) = Insert place line
+edit_of_read (read.Delete place) = Delete place
+edit_of_read (read.Replace place line) = Replace place line
 
 -- where line k of the text after the edit stood before it; a line that the edit put in stood nowhere
 abbrev pub line_before_edit : Edit → (k : ℕ) → Option ℕ

@@ -1,3 +1,5 @@
+pub mod Alike
+pub mod Appended
 pub mod Before
 pub mod Briefs
 pub mod Changes

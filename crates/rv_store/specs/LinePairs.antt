@@ -14,13 +14,14 @@ program_before_pair pair = program_in pair.before.now.text
 abbrev pub program_after_pair : LinePair → Program
 program_after_pair pair = program_in pair.after.now.text
 
--- the rows are those of the two texts, the lines are lines of these, and have one body
+-- the rows are those of the two texts, by the same names; the lines are lines of these, and have one body
 pub record IsLinePair (pair : LinePair) : Type 0 where
   pub before : AreSymbolRows pair.before.now
   pub after : AreSymbolRows pair.after.now
   pub few : length pair.before.now.text.lines.now ≤ MAX_LINES
   pub few_after : length pair.after.now.text.lines.now ≤ MAX_LINES
   pub base : pair.after.now.text.base ≡ pair.before.now.text.base
+  pub names : pair.after.now.text.names.now ≡ pair.before.now.text.names.now
   pub first_stood : 1 ≤ pair.stood
   pub last_stood : pair.stood ≤ length pair.before.now.text.lines.now
   pub first : 1 ≤ pair.line

@@ -32,6 +32,11 @@ abbrev pub lines_that : (ℕ → Bool) → (n : ℕ) → List ℕ
 lines_that test zero = []
 lines_that test (suc n) = lines_that test n ++ (if test (suc n) then suc n ∷ [] else [])
 
+-- those of the `count` lines after line k
+abbrev pub lines_ahead : (ℕ → Bool) → (k count : ℕ) → List ℕ
+lines_ahead test k zero = []
+lines_ahead test k (suc count) = (if test (suc k) then suc k ∷ [] else []) ++ lines_ahead test (suc k) count
+
 -- the last of the lines 1 to i that passes a test
 abbrev pub last_line : (ℕ → Bool) → (i : ℕ) → Option ℕ
 last_line test zero = None

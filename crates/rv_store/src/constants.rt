@@ -9,7 +9,7 @@ ghost use Rattle.rv_store.specs.Program.{program_of, body_at};
 ghost use Rattle.rv_store.specs.Rows.{in_row, AreDefinitions, AreConstants};
 ghost use Rattle.rv_store.specs.Work.{equ_operands};
 
-use crate::definitions::defining_equ;
+use crate::definitions::defining_equ_on;
 use crate::line::Line;
 use crate::names::{NameTable, entry_of};
 use rv_expr::{Direction, LabelReference, Names, ValueFault, value};
@@ -110,7 +110,7 @@ pub fn settle_constant<C: Count>(
     ensures encoded { C.encoded_count counter.new ≡ C.encoded_count counter.old }
 {
     let line = i as u32 + 1;
-    let Some((definition, number)) = defining_equ(lines[i].stmt(), line, names, definitions) else {
+    let Some((definition, number)) = defining_equ_on(&lines[i], line, names, definitions) else {
         return;
     };
     let given = LineConstants {

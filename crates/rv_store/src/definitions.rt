@@ -1,14 +1,16 @@
 //! Where the names of a text are defined.
 
-ghost use Rattle.std.specs.Prelude.{◌≡◌, ◌≤◌, ◌<◌, ◌+◌, ◌^◌, true, false, Some, None, length, IfSome, IfOk};
+ghost use Rattle.std.specs.Prelude.{◌≡◌, ◌≤◌, ◌<◌, ◌+◌, ◌^◌, ◌==◌, not, ◌||◌, true, false, Some, None, length, IfSome, IfOk};
 ghost use Rattle.rv_stmt.specs.declared.directive.Definition.{Definition};
 ghost use Rattle.rv_stmt.specs.declared.statement.Body.TheVariants.{Equ as EquBody};
+ghost use Rattle.rv_stmt.specs.Statement.{statement_of};
 ghost use Rattle.rv_list.specs.declared.view.DefinitionPlace.TheVariants.{Nowhere};
 ghost use Rattle.rv_store.specs.declared.limits.TheConstants.{MAX_LINES};
 ghost use Rattle.rv_store.specs.Defining.{only, of_label, then_also, Holds};
 ghost use Rattle.rv_store.specs.Definitions.{place_among_labels, place_in_body, place_in_statement, is_equ_on};
 ghost use Rattle.rv_store.specs.Program.{program_of};
 ghost use Rattle.rv_store.specs.Rows.{number_of, in_row, Grows, AreDefinitions};
+ghost use Rattle.rv_store.specs.Uses.{is_equ};
 
 use crate::line::Line;
 use crate::names::NameTable;
@@ -26,8 +28,8 @@ fn is_equ_on(line: u32, place: DefinitionPlace) -> bool
     }
 }
 
-/// The `.equ` of a line, with the number of its symbol, where it is the definition of its symbol.
-pub fn defining_equ<'a>(
+// The `.equ` of a statement, with the number of its symbol, where it is the definition of its symbol.
+fn defining_equ<'a>(
     stmt: &'a Stmt,
     line: u32,
     names: &NameTable,
@@ -49,6 +51,27 @@ pub fn defining_equ<'a>(
         return None;
     }
     Some((definition, number))
+}
+
+/// The `.equ` of a line, with the number of its symbol, where it is the definition of its symbol. Lines without an `.equ` are
+/// gone past without a look at their statements.
+pub fn defining_equ_on<'a>(
+    line: &'a Line,
+    number: u32,
+    names: &NameTable,
+    definitions: &[DefinitionPlace],
+) -> Option<(&'a Definition, usize)>
+    ensures body { IfSome result (λ r. (statement_of line.entry.now).body ≡ EquBody r.0.now) }
+    ensures number { IfSome result (λ r. number_of names.now r.0.now.symbol ≡ Some r.1) }
+    ensures within { IfSome result (λ r. r.1 < length definitions.now) }
+    ensures defines { IfSome result (λ r. is_equ_on number (in_row names.now definitions.now Nowhere r.0.now.symbol) ≡ true) }
+    ensures none { result ≡ None → (d : Definition) → (statement_of line.entry.now).body ≡ EquBody d
+        → is_equ_on number (in_row names.now definitions.now Nowhere d.symbol) ≡ false }
+{
+    if !line.brief().equ {
+        return None;
+    }
+    defining_equ(line.stmt(), number, names, definitions)
 }
 
 // The number of a name, which gets one if it has none, and a place in the row.
@@ -153,8 +176,8 @@ fn define_equ(
     }
 }
 
-// Writes what a line defines.
-fn define_line(
+// Writes what a statement defines.
+fn define_statement(
     alloc: Global,
     stmt: &Stmt,
     line: u32,
@@ -169,6 +192,33 @@ fn define_line(
     define_labels(alloc, stmt.labels.as_slice(), line, names, row)?;
     define_equ(alloc, &stmt.body, line, names, row)?;
     Ok(())
+}
+
+// Whether a line has labels or an `.equ`. Other lines define nothing.
+fn may_define(line: &Line) -> bool
+    ensures { result ≡ (not (length (statement_of line.now).labels == 0) || is_equ (statement_of line.now).body) }
+{
+    let brief = line.brief();
+    brief.labels || brief.equ
+}
+
+// Writes what a line defines. One that defines nothing is gone past without a look at its statement.
+fn define_line(
+    alloc: Global,
+    line: &Line,
+    number: u32,
+    names: &mut NameTable,
+    row: &mut Vec<DefinitionPlace>,
+) -> Result<(), AllocError>
+    requires { length row.old.items ≤ length names.old }
+    ensures row { IfOk result (λ _. Holds names.new row.new.items (then_also (in_row names.old row.old.items Nowhere) (place_in_statement number (statement_of line.now)))) }
+    ensures names { Grows names.old names.new }
+{
+    if !may_define(line) {
+        return Ok(());
+    }
+    line.labels_are_few();
+    define_statement(alloc, line.stmt(), number, names, row)
 }
 
 /// Where each name of a text is defined, by the names' numbers, in one loop over the lines. Names that the text defines get
@@ -186,8 +236,7 @@ pub fn definitions(
     let mut rest = lines;
     let mut number = 1;
     while let [line, later @ ..] = rest {
-        line.labels_are_few();
-        define_line(alloc, line.stmt(), number, names, &mut row)?;
+        define_line(alloc, line, number, names, &mut row)?;
         number += 1;
         rest = later;
     }

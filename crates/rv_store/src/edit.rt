@@ -5,6 +5,7 @@ ghost use Rattle.rv_store.specs.Edits.{edit_of, line_before_edit};
 ghost use Rattle.rv_store.specs.Text.{refusal_of};
 
 use crate::edit_error::EditError;
+use crate::line::Line;
 use crate::refusals::{delete_refused, insert_refused, replace_refused};
 
 /// An edit of a text: the number of the line, from 1 on, and the line that is put in.
@@ -13,6 +14,14 @@ pub enum LineEdit<'a> {
     Insert(u32, &'a [u8]),
     Delete(u32),
     Replace(u32, &'a [u8]),
+}
+
+/// An edit whose line, if it puts one in, has been read.
+#[derive(Drop)]
+pub enum ReadEdit {
+    Insert(u32, Line),
+    Delete(u32),
+    Replace(u32, Line),
 }
 
 impl LineEdit<'_> {

@@ -1,10 +1,12 @@
 //! Where the sections end after some lines of a text.
 
-ghost use Rattle.std.specs.Prelude.{◌≡◌, ◌≤◌, ◌^◌, []};
+ghost use Rattle.std.specs.Prelude.{◌≡◌, ℕ, ◌<◌, ◌≤◌, ◌^◌, []};
+ghost use Rattle.rv_layout.specs.Effects.{offset_reached};
+ghost use Rattle.rv_layout.specs.Sections.{sections};
 ghost use Rattle.rv_layout.specs.Places.{size_at, IsLimited};
-ghost use Rattle.rv_store.specs.Ends.{ends_of, next_offset, ends_after};
+ghost use Rattle.rv_store.specs.Ends.{ends_of, ends_reached, next_offset, ends_after};
 
-use rv_layout::{Measured, SECTIONS, section_number};
+use rv_layout::{Layout, Measured, SECTIONS, section_number};
 use rv_stmt::Sect;
 
 /// After some lines of a text: the section of the next one, and the offset at which each section ends.
@@ -36,6 +38,22 @@ impl Ends {
         Ends {
             section: Sect::Text,
             offsets: [0; SECTIONS],
+        }
+    }
+
+    /// Those of lines with this layout, the first ones of a text.
+    pub fn reached(layout: &Layout) -> Ends
+        requires { (t : ℕ) → t < sections → offset_reached layout.now t < 2 ^ 32 }
+        ensures { result ≡ ends_reached layout.now }
+    {
+        Ends {
+            section: layout.section(),
+            offsets: [
+                layout.offset(0) as u32,
+                layout.offset(1) as u32,
+                layout.offset(2) as u32,
+                layout.offset(3) as u32,
+            ],
         }
     }
 

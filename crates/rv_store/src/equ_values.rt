@@ -9,7 +9,7 @@ ghost use Rattle.rv_store.specs.TextRows.{AreTextRows, AreEquValuesIn, program_i
 ghost use Rattle.rv_store.specs.Work.{equ_operands, operands_through};
 
 use crate::constants::defined_value;
-use crate::definitions::defining_equ;
+use crate::definitions::defining_equ_on;
 use crate::line_names::references_before;
 use crate::text_rows::TextRows;
 use rv_expr::ValueFault;
@@ -60,8 +60,9 @@ fn settle_equ<C: Count>(text: &TextRows<'_>, i: usize, row: &mut Vec<Entry>, cou
     ensures encoded { C.encoded_count counter.new ≡ C.encoded_count counter.old }
 {
     let line = i as u32 + 1;
-    let stmt = text.lines[i].stmt();
-    let Some((definition, number)) = defining_equ(stmt, line, text.names, text.definitions) else {
+    let read = &text.lines[i];
+    let Some((definition, number)) = defining_equ_on(read, line, text.names, text.definitions)
+    else {
         return;
     };
     row[number] = value_on(text, row, line, definition, counter);

@@ -1,11 +1,12 @@
 //! The high halves on the lines of a text.
 
 ghost use Rattle.std.specs.Prelude.{◌≡◌, ◌≤◌, ◌<◌, ◌+◌, ◌^◌, ◌-◌, Err, length, IfOk, if◌then◌else◌};
-ghost use Rattle.std.specs.Option.{option_map};
+ghost use Rattle.std.specs.Option.{is_some, option_map};
 ghost use Rattle.rv_expr.specs.declared.faults.ValueFault.TheVariants.{NoPartner};
 ghost use Rattle.rv_store.specs.declared.limits.TheConstants.{MAX_LINES};
 ghost use Rattle.rv_store.specs.Before.{IsBefore, IsAfter, base_before, lines_before, edit_on};
 ghost use Rattle.rv_store.specs.Pairs.{pcrel_high_of, high_by, high_at};
+ghost use Rattle.rv_store.specs.Program.{body_at};
 ghost use Rattle.rv_store.specs.Rows.{AreHighs};
 ghost use Rattle.rv_store.specs.SymbolRows.{AreSymbolRows};
 ghost use Rattle.rv_store.specs.TextRows.{AreTextRows, AreEquValuesIn, program_in};
@@ -90,6 +91,15 @@ fn high_on<'a, C: Count>(
     )
 }
 
+// Whether a line is an `auipc` with `%pcrel_hi`.
+fn has_pcrel_high(text: &TextRows<'_>, line: u32) -> bool
+    requires first { 1 ≤ line }
+    requires last { line ≤ length text.now.lines.now }
+    ensures { result ≡ is_some (pcrel_high_of (body_at (program_in text.now) line)) }
+{
+    text.lines[line as usize - 1].brief().pcrel_high
+}
+
 // The high half on a line of the text after an edit: what it was, unless the edit invalidates the line.
 fn high_after<C: Count>(
     before: &Before<'_, '_>,
@@ -110,7 +120,7 @@ fn high_after<C: Count>(
     ensures parsed { C.parsed_count counter.new ≡ C.parsed_count counter.old }
     ensures encoded { C.encoded_count counter.new ≡ C.encoded_count counter.old }
 {
-    if pcrel_high(&statement_on(&after.text, line).body).is_none() {
+    if !has_pcrel_high(&after.text, line) {
         return Err(ValueFault::NoPartner);
     }
     if !is_invalidated(before, after, line) {

@@ -1,17 +1,18 @@
 //! Which lines an edit invalidates: their values may differ from those that they had.
 
-ghost use Rattle.std.specs.Prelude.{◌≡◌, ◌≤◌, length};
+ghost use Rattle.std.specs.Prelude.{◌≡◌, ◌≤◌, length, IfOk};
 ghost use Rattle.rv_store.specs.Before.{IsBefore, IsAfter, base_before, lines_before, edit_on};
 ghost use Rattle.rv_store.specs.Changes.{differs_in_place, differs_in_uses, is_invalidated};
 ghost use Rattle.rv_store.specs.LinePairs.{IsLinePair, IsOpenPair, differs_in_name_on, program_before_pair, program_after_pair};
-ghost use Rattle.rv_store.specs.Program.{body_at};
+ghost use Rattle.rv_store.specs.Program.{body_at, lines_that};
 ghost use Rattle.rv_store.specs.SymbolRows.{AreSymbolRows};
 
 use crate::before::Before;
 use crate::line_values::is_same_entry;
 use crate::symbol_rows::SymbolRows;
-use crate::text_lines::{place_on, statement_on};
-use crate::uses::{NameTest, any_name, is_equ, uses_address, uses_local_label, uses_paired_high};
+use crate::text_lines::{brief_on, place_on, statement_on};
+use crate::uses::{NameTest, any_name};
+use std::alloc::{AllocError, Global};
 
 // A line of a text after an edit, and the line that it was before it.
 #[derive(Drop)]
@@ -29,8 +30,11 @@ impl NameTest for LinePair<'_> {
     ghost test = { differs_in_name_on };
 
     fn passes(&self, name: &[u8]) -> bool {
-        !is_same_entry(self.after.value(name), self.before.value(name))
-            || self.after.constant(self.line, name) != self.before.constant(self.stood, name)
+        let after = self.after;
+        let number = after.text.names.number(name);
+        !is_same_entry(self.after.value_of(number), self.before.value_of(number))
+            || self.after.constant_of(self.line, number)
+                != self.before.constant_of(self.stood, number)
     }
 }
 
@@ -50,12 +54,11 @@ impl LinePair<'_> {
         requires { IsLinePair self.now }
         ensures { result ≡ differs_in_uses self.now.before.now.text.base (program_before_pair self.now) (program_after_pair self.now) self.now.line self.now.stood (body_at (program_after_pair self.now) self.now.line) }
     {
-        let body = &statement_on(&self.after.text, self.line).body;
-        is_equ(body)
-            || uses_local_label(body)
-            || uses_paired_high(body)
-            || uses_address(body) && self.differs_in_place()
-            || any_name(body, self)
+        let brief = brief_on(&self.after.text, self.line);
+        if brief.uncompared || brief.address && self.differs_in_place() {
+            return true;
+        }
+        brief.symbols && any_name(&statement_on(&self.after.text, self.line).body, self)
     }
 }
 
@@ -78,4 +81,25 @@ pub fn is_invalidated(before: &Before<'_, '_>, after: &SymbolRows<'_>, line: u32
         line,
     };
     pair.differs_in_uses()
+}
+
+/// The lines of the text after an edit that the edit invalidates, rising.
+pub fn invalidated_lines(
+    alloc: Global,
+    before: &Before<'_, '_>,
+    after: &SymbolRows<'_>,
+) -> Result<Vec<u32>, AllocError>
+    requires before { IsBefore before.now }
+    requires rows { AreSymbolRows after.now }
+    requires after { IsAfter before.now after.now.text }
+    ensures { IfOk result (λ row. row.items ≡ lines_that (is_invalidated (base_before before.now) (lines_before before.now) (edit_on before.now)) (length after.now.text.lines.now)) }
+{
+    let mut row = Vec::new(alloc);
+    for i in 0..after.text.lines.len() {
+        let line = i as u32 + 1;
+        if is_invalidated(before, after, line) {
+            row.push(line)?;
+        }
+    }
+    Ok(row)
 }

@@ -1,6 +1,7 @@
 //! A text kept as a list of lines, with the code of each line.
 #![tactic(auto)]
 
+mod alike;
 mod base;
 mod before;
 mod brief;
@@ -10,6 +11,7 @@ mod constants;
 mod definitions;
 mod edit;
 mod edit_error;
+mod ending;
 mod ends;
 mod equ_values;
 mod highs;
@@ -27,6 +29,9 @@ mod paired_highs;
 mod places;
 mod refusals;
 mod renewal;
+mod renewal_pass;
+mod renewed_line;
+mod replacement;
 mod shapes;
 mod store;
 mod survey;

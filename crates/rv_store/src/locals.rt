@@ -2,6 +2,7 @@
 
 ghost use Rattle.std.specs.Prelude.{◌≡◌, ◌≤◌, ◌<◌, ◌^◌, ℕ, [], nat_le, length, get_or, IfOk};
 ghost use Rattle.std.specs.List.Sorted.{IsNonDecreasing};
+ghost use Rattle.rv_stmt.specs.Statement.{statement_of};
 ghost use Rattle.rv_store.specs.Locals.{line_among, local_line_in, with_line, with_label, AreWithLabels};
 ghost use Rattle.rv_store.specs.Program.{program_of};
 ghost use Rattle.rv_store.specs.Rows.{AreLocals};
@@ -87,6 +88,21 @@ fn add_labels(
     Ok(())
 }
 
+// The labels of a line. One without labels is gone past without a look at its statement.
+fn add_labels_of(
+    alloc: Global,
+    rows: &mut Vec<Sequence<u32>>,
+    line: &Line,
+    number: u32,
+) -> Result<(), AllocError>
+    ensures { IfOk result (λ _. AreWithLabels number (statement_of line.now).labels rows.old.items rows.new.items) }
+{
+    if !line.brief().labels {
+        return Ok(());
+    }
+    add_labels(alloc, rows, line.stmt().labels.as_slice(), number)
+}
+
 // The line among those of a local label.
 fn line_among(lines: &[u32], line: u32, direction: Direction) -> Option<u32>
     requires { IsNonDecreasing lines.now }
@@ -121,12 +137,7 @@ impl Locals {
     {
         let mut rows = Vec::new(alloc);
         for (i, line) in lines.iter().enumerate() {
-            add_labels(
-                alloc,
-                &mut rows,
-                line.stmt().labels.as_slice(),
-                i as u32 + 1,
-            )?;
+            add_labels_of(alloc, &mut rows, line, i as u32 + 1)?;
         }
         Ok(Locals { rows })
     }

@@ -1,7 +1,7 @@
 //! Names that have numbers.
 
 ghost use Rattle.std.specs.Prelude.{◌≡◌, ◌<◌, [], Some, length, IfSome, IfOk};
-ghost use Rattle.rv_store.specs.Rows.{number_of, in_row, Grows};
+ghost use Rattle.rv_store.specs.Rows.{number_of, entry_at, in_row, Grows};
 
 use indexmap::IndexSet;
 use std::alloc::{AllocError, Global};
@@ -65,7 +65,15 @@ impl NameTable {
 pub fn entry_of<T: Copy>(names: &NameTable, row: &[T], other: T, name: &[u8]) -> T
     ensures { result ≡ in_row names.now row.now other name.now }
 {
-    let Some(number) = names.number(name) else {
+    entry_at(row, other, names.number(name))
+}
+
+/// What a row by the numbers of names holds for the name of this number: the other value where the name has no number, or no
+/// place in the row.
+pub fn entry_at<T: Copy>(row: &[T], other: T, number: Option<usize>) -> T
+    ensures { result ≡ entry_at row.now other number }
+{
+    let Some(number) = number else {
         return other;
     };
     match row.get(number) {

@@ -1,7 +1,8 @@
 //! Where the lines of a text lie.
 
-ghost use Rattle.std.specs.Prelude.{◌≡◌, ◌≤◌, ◌<◌, ◌+◌, ◌^◌, All, length, slice_index, IfOk};
-ghost use Rattle.rv_layout.specs.Effects.{layout_of};
+ghost use Rattle.std.specs.Prelude.{◌≡◌, ◌≤◌, ◌<◌, ◌+◌, ◌^◌, All, length, slice_index, IfOk, IfSome};
+ghost use Rattle.rv_layout.specs.Effects.{join, effect_of, layout_of};
+ghost use Rattle.rv_layout.specs.declared.measured.Measured.{Measured};
 ghost use Rattle.rv_layout.specs.Places.{section_of, address_of, line_size_of, IsBase, AreLimited};
 ghost use Rattle.rv_layout.specs.Sections.{section_number};
 ghost use Rattle.rv_store.specs.Ends.{next_offset, next_place};
@@ -12,20 +13,40 @@ use rv_layout::{Layout, Measured, SECTIONS, bases, section_number};
 use rv_list::LinePlace;
 use std::alloc::{AllocError, Global};
 
-/// The layout of all lines.
+// How many bytes have the layout of so many bytes and a line after them: none if the line is an alignment or a switch, or
+// if the sum does not fit.
+fn bytes_with(bytes: u32, shape: &Measured) -> Option<u32>
+    ensures joined { IfSome result (λ n. join (effect_of (Measured.Bytes bytes)) (effect_of shape.now) ≡ effect_of (Measured.Bytes n)) }
+    ensures fits { IfSome result (λ n. n < 2 ^ 32) }
+{
+    match shape {
+        Measured::Bytes(count) => bytes.checked_add(*count),
+        Measured::Nothing | Measured::Faulty(_) => Some(bytes),
+        Measured::Align(_) | Measured::Switch(_) => None,
+    }
+}
+
+/// The layout of all lines. Only alignments and switches are joined one by one: the bytes between them are added up.
 pub fn total_layout(shapes: &[Measured]) -> Layout
     requires limited { AreLimited shapes.now }
     ensures { result ≡ layout_of shapes.now }
 {
     let mut total = Layout::start();
+    let mut bytes = 0;
     for shape in shapes {
-        total = total.then(shape);
+        match bytes_with(bytes, shape) {
+            Some(sum) => bytes = sum,
+            None => {
+                total = total.then(&Measured::Bytes(bytes)).then(shape);
+                bytes = 0;
+            }
+        }
     }
-    total
+    total.then(&Measured::Bytes(bytes))
 }
 
 // The place of the next line.
-fn next_place(bases: &[u32; SECTIONS], ends: &Ends, shape: &Measured) -> LinePlace
+pub(crate) fn next_place(bases: &[u32; SECTIONS], ends: &Ends, shape: &Measured) -> LinePlace
     requires { slice_index bases.now (section_number ends.now.section) + next_offset ends.now < 2 ^ 32 }
     ensures { result ≡ next_place bases.now ends.now shape.now }
 {
@@ -52,7 +73,7 @@ pub fn places(
 {
     let bases = bases(total, base);
     let mut ends = Ends::start();
-    let mut row = Vec::new(alloc);
+    let mut row = Vec::with_capacity(alloc, shapes.len())?;
     for shape in shapes {
         row.push(next_place(&bases, &ends, shape))?;
         ends.advance(shape);

@@ -1,17 +1,15 @@
-//! The pass over the items of a text after an edit that makes anew what is kept of the lines that the edit invalidates.
+//! What is kept of the lines that an edit invalidates is made anew.
 
-ghost use Rattle.std.specs.Prelude.{◌≡◌, ◌≤◌, ◌<◌, ◌+◌, ◌-◌, ◌*◌, ◌^◌, [], false, length, unwrap_or, None, Ok, IfOk, IfErr};
+ghost use Rattle.std.specs.Prelude.{◌≡◌, ◌≤◌, ◌<◌, ◌+◌, ◌-◌, ◌*◌, ◌^◌, [], true, length, IfOk, IfErr};
 ghost use Rattle.rv_store.specs.declared.limits.TheConstants.{MAX_LINES};
 ghost use Rattle.rv_store.specs.Before.{IsBefore, IsAfter, base_before, lines_before, edit_on};
-ghost use Rattle.rv_store.specs.Changes.{program_after, is_reencoded, is_changed, changed_lines, most_codes};
-ghost use Rattle.rv_store.specs.Codes.{values_at};
+ghost use Rattle.rv_store.specs.Changes.{is_invalidated, changed_lines, most_codes};
 ghost use Rattle.rv_store.specs.Counted.{counts_of};
 ghost use Rattle.rv_store.specs.Edits.{edit_of};
-ghost use Rattle.rv_store.specs.Former.{IsFormer, AreFormer};
-ghost use Rattle.rv_store.specs.Items.{IsItem, AreItems};
-ghost use Rattle.rv_store.specs.Layout.{shape_at};
-ghost use Rattle.rv_store.specs.Program.{program_of};
-ghost use Rattle.rv_store.specs.Renewals.{changed_through, AreCounted, AreListed, AreLeft, IsRenewed};
+ghost use Rattle.rv_store.specs.Former.{AreFormer};
+ghost use Rattle.rv_store.specs.Items.{AreItems};
+ghost use Rattle.rv_store.specs.Program.{program_of, lines_that};
+ghost use Rattle.rv_store.specs.Renewals.{changed_through, AreCounted, AreListed, AreRenewed};
 ghost use Rattle.rv_store.specs.Surveys.{IsSurvey};
 ghost use Rattle.rv_store.specs.Text.{refusal_of, lines_after};
 ghost use Rattle.rv_store.specs.ValueRows.{AreValueRows, base_of};
@@ -19,178 +17,76 @@ ghost use Rattle.rv_store.specs.Work.{value_operands, work};
 
 use crate::before::Before;
 use crate::edit::LineEdit;
-use crate::edit_error::EditError;
-use crate::invalidation::is_invalidated;
+use crate::invalidation::invalidated_lines;
 use crate::item::Item;
 use crate::line_sum::LineSum;
-use crate::line_values::LineValues;
 use crate::names::NameTable;
+use crate::renewal_pass::renewed_in_one_pass;
+use crate::renewed_line::{add_changed, renewed};
 use crate::survey::Survey;
-use crate::text_lines::operands_are_few_on;
-use crate::value_rows::{ValueRows, shape_on};
-use rv_layout::Measured;
+use crate::value_rows::ValueRows;
 use rv_text::Count;
-use rv_tree::{Pass, SumTree, TreeError};
-use std::alloc::{AllocError, Global};
-use std::rc::Rc;
+use rv_tree::{SumTree, TreeError};
+use std::alloc::Global;
 
-// Whether a line is new, or has other values or another shape than it had.
-fn is_reencoded(
-    before: &Before<'_, '_>,
-    line: u32,
-    former: &Item,
-    values: &LineValues,
-    shape: Measured,
-) -> bool
-    requires last { line < 2 ^ 32 - 1 }
-    requires former { IsFormer (base_before before.now) (lines_before before.now) (edit_on before.now) line former.now }
-    requires values { values.now ≡ values_at (base_before before.now) (program_after (lines_before before.now) (edit_on before.now)) line }
-    requires shape { shape ≡ shape_at (program_after (lines_before before.now) (edit_on before.now)) line }
-    ensures { result ≡ is_reencoded (base_before before.now) (lines_before before.now) (edit_on before.now) line }
-{
-    if before.edit.line_before(line).is_none() {
-        return true;
-    }
-    !values.is_same(&former.values) || shape != former.shape
-}
+// Where more than one of so many lines is invalidated, one pass over the tree takes less time than a path for each of them.
+const LINES_TO_A_PATH: usize = 8;
 
-// A line anew, or `None` where it keeps the item that it had: the edit does not invalidate it, or its values and its shape
-// are what they were. The counts are as for the pass.
-fn renewed<C: Count>(
+// The items with a line made anew that the edit invalidates, and that line among the changed ones if it is new or has
+// another code than it had. The lines before it are made anew already.
+fn renew_line<C: Count>(
     alloc: Global,
     before: &Before<'_, '_>,
     rows: &ValueRows<'_>,
+    items: SumTree<Item>,
     line: u32,
-    former: &Item,
-    counter: &mut C,
-) -> Result<Option<Item>, EditError>
-    requires before { IsBefore before.now }
-    requires rows { AreValueRows rows.now }
-    requires after { IsAfter before.now rows.now.symbols.text }
-    requires first { 1 ≤ line }
-    requires last { line ≤ length rows.now.symbols.text.lines.now }
-    requires former { IsFormer (base_before before.now) (lines_before before.now) (edit_on before.now) line former.now }
-    requires valued { C.valued_count counter.old + 1000 < 2 ^ 64 }
-    requires encoded { C.encoded_count counter.old < 2 ^ 64 - 1 }
-    ensures item { IfOk result (λ item. IsItem (base_of rows.now) rows.now.symbols.text.lines.now line (unwrap_or item former.now)) }
-    ensures kept { result ≡ Ok None → is_reencoded (base_before before.now) (lines_before before.now) (edit_on before.now) line ≡ false }
-    ensures counted { AreCounted before.now (line - 1) line (counts_of C.parsed_count C.valued_count C.encoded_count counter.old) (counts_of C.parsed_count C.valued_count C.encoded_count counter.new) }
-{
-    if !is_invalidated(before, &rows.symbols, line) {
-        return Ok(None);
-    }
-    operands_are_few_on(&rows.symbols.text, line);
-    let values = rows.values(alloc, line, counter)?;
-    let shape = shape_on(rows, line);
-    if !is_reencoded(before, line, former, &values, shape) {
-        return Ok(None);
-    }
-    let code = rows.code(alloc, line, &values, counter)?;
-    Ok(Some(Item {
-        line: former.line.share()?,
-        shape,
-        values: Rc::new(alloc, values)?,
-        code: Rc::new(alloc, code)?,
-    }))
-}
-
-// Whether a line is new or has another code than it had.
-fn is_changed(before: &Before<'_, '_>, line: u32, former: &Item, item: &Item) -> bool
-    requires last { line < 2 ^ 32 - 1 }
-    requires former { IsFormer (base_before before.now) (lines_before before.now) (edit_on before.now) line former.now }
-    requires item { IsItem (base_before before.now) (lines_after (lines_before before.now) (edit_on before.now)) line item.now }
-    ensures { result ≡ is_changed (base_before before.now) (lines_before before.now) (edit_on before.now) line }
-{
-    if before.edit.line_before(line).is_none() {
-        return true;
-    }
-    !item.code.is_same(&former.code)
-}
-
-// Adds a line to the changed ones if it is new or has another code than it had.
-fn add_changed(
-    before: &Before<'_, '_>,
-    line: u32,
-    former: &Item,
-    item: &Item,
-    changed: &mut Vec<u32>,
-) -> Result<(), AllocError>
-    requires first { 1 ≤ line }
-    requires last { line < 2 ^ 32 - 1 }
-    requires former { IsFormer (base_before before.now) (lines_before before.now) (edit_on before.now) line former.now }
-    requires item { IsItem (base_before before.now) (lines_after (lines_before before.now) (edit_on before.now)) line item.now }
-    ensures { IfOk result (λ _. AreListed before.now (line - 1) line changed.old.items changed.new.items) }
-{
-    if is_changed(before, line, former, item) {
-        changed.push(line)?;
-    }
-    Ok(())
-}
-
-// Skips no line.
-#[derive(Drop)]
-struct Renewal<'a, 'e, C: Count> {
-    alloc: Global,
-    before: &'a Before<'a, 'e>,
-    rows: &'a ValueRows<'a>,
-    // The lines that have another code, so far.
-    changed: &'a mut Vec<u32>,
-    counter: &'a mut C,
-}
-
-impl<'a, 'e, C: Count> Pass<Item> for Renewal<'a, 'e, C> {
-    ghost accepts = { λ p b xs. AreLeft p.before.now p.rows.now b xs (counts_of C.parsed_count C.valued_count C.encoded_count p.counter.now) };
-
-    ghost gives = { λ p b x y q. IsRenewed p.rows.now b y × (q.before.now ≡ p.before.now) × (q.rows.now ≡ p.rows.now)
-        × AreCounted p.before.now b.count (b.count + 1) (counts_of C.parsed_count C.valued_count C.encoded_count p.counter.now) (counts_of C.parsed_count C.valued_count C.encoded_count q.counter.now)
-        × AreListed p.before.now b.count (b.count + 1) p.changed.now.items q.changed.now.items
-        × (q.changed.ghost_name ≡ p.changed.ghost_name)
-        × (q.counter.ghost_name ≡ p.counter.ghost_name) };
-
-    ghost refuses = { λ p b x q. (q.before.now ≡ p.before.now)
-        × AreCounted p.before.now b.count (b.count + 1) (counts_of C.parsed_count C.valued_count C.encoded_count p.counter.now) (counts_of C.parsed_count C.valued_count C.encoded_count q.counter.now)
-        × (q.changed.ghost_name ≡ p.changed.ghost_name)
-        × (q.counter.ghost_name ≡ p.counter.ghost_name) };
-
-    ghost keeps = { λ p b s. ⊥ };
-
-    fn visit(&mut self, before: &LineSum, item: &Item) -> Result<Option<Item>, AllocError> {
-        let line = before.count + 1;
-        match renewed(self.alloc, self.before, self.rows, line, item, self.counter) {
-            Ok(Some(new)) => {
-                add_changed(self.before, line, item, &new, self.changed)?;
-                Ok(Some(new))
-            }
-            Ok(None) => Ok(None),
-            Err(_) => Err(AllocError),
-        }
-    }
-
-    fn skips(&self, before: &LineSum, sum: &LineSum) -> bool {
-        false
-    }
-
-    ghost use Rattle.rv_store.specs.Renewals.{left-next};
-
-    ghost accepts_rest = { λ p q b x y xs c g. left-next p.before.now q.before.now p.rows.now q.rows.now b x y xs _ _ c g.1 g.2 g.3 };
-
-    ghost kept = { λ p b xs n v a k. absurd k };
-}
-
-// The items of a text after an edit, by the rows of both texts. It is as for `renewed_items`.
-fn renewed_all<C: Count>(
-    alloc: Global,
-    before: &Before<'_, '_>,
-    rows: &ValueRows<'_>,
-    items: &SumTree<Item>,
     changed: &mut Vec<u32>,
     counter: &mut C,
 ) -> Result<SumTree<Item>, TreeError>
     requires before { IsBefore before.now }
     requires rows { AreValueRows rows.now }
     requires after { IsAfter before.now rows.now.symbols.text }
-    requires count { length items.now.items ≡ length rows.now.symbols.text.lines.now }
-    requires former { AreFormer (base_before before.now) (lines_before before.now) (edit_on before.now) 0 items.now.items }
+    requires first { 1 ≤ line }
+    requires last { line ≤ length rows.now.symbols.text.lines.now }
+    requires invalidated { is_invalidated (base_before before.now) (lines_before before.now) (edit_on before.now) line ≡ true }
+    requires items { AreRenewed before.now rows.now (line - 1) items.items }
+    requires valued { C.valued_count counter.old + 1000 < 2 ^ 64 }
+    requires encoded { C.encoded_count counter.old < 2 ^ 64 - 1 }
+    ensures memory { IfErr result (λ e. e ≡ TreeError.Memory) }
+    ensures items { IfOk result (λ t. AreRenewed before.now rows.now line t.items) }
+    ensures changed { IfOk result (λ _. AreListed before.now (line - 1) line changed.old.items changed.new.items) }
+    ensures counted { AreCounted before.now (line - 1) line (counts_of C.parsed_count C.valued_count C.encoded_count counter.old) (counts_of C.parsed_count C.valued_count C.encoded_count counter.new) }
+{
+    let Some(former) = items.get(line) else {
+        return Err(TreeError::Place);
+    };
+    match renewed(alloc, before, rows, line, former, counter) {
+        Ok(Some(item)) => {
+            add_changed(before, line, former, &item, changed)?;
+            items.replaced(line, item)
+        }
+        Ok(None) => Ok(items),
+        Err(_) => Err(TreeError::Memory),
+    }
+}
+
+// The items of a text after an edit, those of these lines made anew one by one, which are those that the edit invalidates. It
+// is as for `renewed_items`.
+fn renewed_one_by_one<C: Count>(
+    alloc: Global,
+    before: &Before<'_, '_>,
+    rows: &ValueRows<'_>,
+    items: SumTree<Item>,
+    invalidated: &[u32],
+    changed: &mut Vec<u32>,
+    counter: &mut C,
+) -> Result<SumTree<Item>, TreeError>
+    requires before { IsBefore before.now }
+    requires rows { AreValueRows rows.now }
+    requires after { IsAfter before.now rows.now.symbols.text }
+    requires invalidated { invalidated.now ≡ lines_that (is_invalidated (base_before before.now) (lines_before before.now) (edit_on before.now)) (length rows.now.symbols.text.lines.now) }
+    requires count { length items.items ≡ length rows.now.symbols.text.lines.now }
+    requires former { AreFormer (base_before before.now) (lines_before before.now) (edit_on before.now) 0 items.items }
     requires changed { changed.old.items ≡ [] }
     requires valued { C.valued_count counter.old + 1000 * length rows.now.symbols.text.lines.now < 2 ^ 64 }
     requires encoded { C.encoded_count counter.old + length rows.now.symbols.text.lines.now < 2 ^ 64 }
@@ -199,14 +95,40 @@ fn renewed_all<C: Count>(
     ensures changed { IfOk result (λ _. changed.new.items ≡ changed_through before.now (length rows.now.symbols.text.lines.now)) }
     ensures counted { AreCounted before.now 0 (length rows.now.symbols.text.lines.now) (counts_of C.parsed_count C.valued_count C.encoded_count counter.old) (counts_of C.parsed_count C.valued_count C.encoded_count counter.new) }
 {
-    let mut pass = Renewal {
-        alloc,
-        before,
-        rows,
-        changed,
-        counter,
-    };
-    items.rewritten(&mut pass)
+    let mut items = items;
+    for line in invalidated {
+        items = renew_line(alloc, before, rows, items, *line, changed, counter)?;
+    }
+    Ok(items)
+}
+
+// The items of a text after an edit, by the rows of both texts. It is as for `renewed_items`.
+fn renewed_all<C: Count>(
+    alloc: Global,
+    before: &Before<'_, '_>,
+    rows: &ValueRows<'_>,
+    items: SumTree<Item>,
+    changed: &mut Vec<u32>,
+    counter: &mut C,
+) -> Result<SumTree<Item>, TreeError>
+    requires before { IsBefore before.now }
+    requires rows { AreValueRows rows.now }
+    requires after { IsAfter before.now rows.now.symbols.text }
+    requires count { length items.items ≡ length rows.now.symbols.text.lines.now }
+    requires former { AreFormer (base_before before.now) (lines_before before.now) (edit_on before.now) 0 items.items }
+    requires changed { changed.old.items ≡ [] }
+    requires valued { C.valued_count counter.old + 1000 * length rows.now.symbols.text.lines.now < 2 ^ 64 }
+    requires encoded { C.encoded_count counter.old + length rows.now.symbols.text.lines.now < 2 ^ 64 }
+    ensures memory { IfErr result (λ e. e ≡ TreeError.Memory) }
+    ensures items { IfOk result (λ t. AreItems (base_of rows.now) rows.now.symbols.text.lines.now t.items) }
+    ensures changed { IfOk result (λ _. changed.new.items ≡ changed_through before.now (length rows.now.symbols.text.lines.now)) }
+    ensures counted { AreCounted before.now 0 (length rows.now.symbols.text.lines.now) (counts_of C.parsed_count C.valued_count C.encoded_count counter.old) (counts_of C.parsed_count C.valued_count C.encoded_count counter.new) }
+{
+    let invalidated = invalidated_lines(alloc, before, &rows.symbols)?;
+    if invalidated.len() > rows.symbols.text.lines.len() / LINES_TO_A_PATH {
+        return renewed_in_one_pass(alloc, before, rows, &items, &invalidated, changed, counter);
+    }
+    renewed_one_by_one(alloc, before, rows, items, &invalidated, changed, counter)
 }
 
 /// The items of a text after an edit, by the survey of the text before it, `old`, and by its own: those of the lines that the
@@ -226,7 +148,7 @@ pub fn renewed_items<'a, C: Count>(
     old: &'a Survey,
     edit: &LineEdit<'_>,
     survey: &'a Survey,
-    items: &SumTree<Item>,
+    items: SumTree<Item>,
     changed: &mut Vec<u32>,
     counter: &mut C,
 ) -> Result<SumTree<Item>, TreeError>
@@ -236,8 +158,8 @@ pub fn renewed_items<'a, C: Count>(
     requires survey { IsSurvey base (program_of survey.now.lines.items) names.now survey.now }
     requires edited { survey.now.lines.items ≡ lines_after old.now.lines.items (edit_of edit.now) }
     requires few { length survey.now.lines.items ≤ MAX_LINES }
-    requires count { length items.now.items ≡ length survey.now.lines.items }
-    requires former { AreFormer base old.now.lines.items (edit_of edit.now) 0 items.now.items }
+    requires count { length items.items ≡ length survey.now.lines.items }
+    requires former { AreFormer base old.now.lines.items (edit_of edit.now) 0 items.items }
     requires changed { changed.old.items ≡ [] }
     requires valued { C.valued_count counter.old + 1000 * length survey.now.lines.items < 2 ^ 64 }
     requires encoded { C.encoded_count counter.old + length survey.now.lines.items < 2 ^ 64 }

@@ -1,6 +1,7 @@
 //! The shapes of the lines of a text, with its constants.
 
-ghost use Rattle.std.specs.Prelude.{◌≡◌, ◌≤◌, ◌<◌, ◌+◌, ◌*◌, ◌-◌, ◌^◌, None, length, IfOk};
+ghost use Rattle.std.specs.Prelude.{◌≡◌, ◌≤◌, ◌<◌, ◌+◌, ◌*◌, ◌-◌, ◌^◌, ◌&&◌, None, length, IfOk};
+ghost use Rattle.std.specs.List.{list_any};
 ghost use Rattle.rv_stmt.specs.Statement.{statement_of};
 ghost use Rattle.rv_layout.specs.Places.{IsLimited, AreLimited};
 ghost use Rattle.rv_layout.specs.Shapes.{shape_of, size_operands};
@@ -11,6 +12,7 @@ ghost use Rattle.rv_store.specs.Layout.{shape_at};
 ghost use Rattle.rv_store.specs.Program.{program_of};
 ghost use Rattle.rv_store.specs.Rows.{in_row, AreDefinitions, AreConstants, AreShapes};
 ghost use Rattle.rv_store.specs.Text.{lines_after};
+ghost use Rattle.rv_store.specs.Uses.{is_sized, names_used, uses_symbols};
 ghost use Rattle.rv_store.specs.Work.{constant_operands, work};
 
 use crate::before::Before;
@@ -65,6 +67,16 @@ fn shape_of_line<C: Count>(line: &Line, given: &LineConstants<'_>, counter: &mut
     measure(line.stmt(), given, counter)
 }
 
+// Whether a line may have another shape than it had: it follows from an operand, and a name that the line uses is another
+// constant. Other lines are gone past without a look at their statements.
+fn may_differ(line: &Line, pair: &ConstantPair<'_, '_>) -> bool
+    requires { IsConstantPair pair.now }
+    ensures { result ≡ (is_sized (statement_of line.now).body && (uses_symbols (statement_of line.now).body && list_any (differs_in_constant pair.now) (names_used (statement_of line.now).body))) }
+{
+    let brief = line.brief();
+    brief.sized && brief.symbols && any_name(&line.stmt().body, pair)
+}
+
 // The shape of line `i + 1` of the text after an edit, where names have the constants that they have there: what it was,
 // unless the line is new or a name that it uses is another constant.
 fn shape_after<C: Count>(
@@ -97,7 +109,7 @@ fn shape_after<C: Count>(
             stood,
             given: &*given,
         };
-        if !any_name(&lines[i].stmt().body, &pair) {
+        if !may_differ(&lines[i], &pair) {
             return before.shapes[stood as usize - 1];
         }
     }

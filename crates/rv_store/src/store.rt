@@ -1,11 +1,14 @@
 //! The store.
 
-ghost use Rattle.std.specs.Prelude.{◌≡◌, ◌+◌, ◌*◌, ◌-◌, ◌^◌, ◌<◌, ◌≤◌, ◌==◌, [], length, map, None, if◌then◌else◌, IfOk, IfErr, IfSome, OnOk, OnErr, slice_get, true, false};
+ghost use Rattle.std.specs.Prelude.{◌≡◌, ◌+◌, ◌*◌, ◌-◌, ◌^◌, ◌<◌, ◌≤◌, ◌==◌, [], length, map, None, if◌then◌else◌, IfOk, IfErr, IfSome, OnOk, OnErr, IsTrue, slice_get, true, false};
 ghost use Rattle.std.specs.Option.{option_map};
+ghost use Rattle.rv_stmt.specs.Statement.{statement_of};
+ghost use Rattle.rv_store.specs.Alike.{IsAlike};
+ghost use Rattle.rv_store.specs.Appended.{IsEnding};
 ghost use Rattle.rv_store.specs.Changes.{changed_lines, most_values, most_codes};
 ghost use Rattle.rv_store.specs.Codes.{code_at};
 ghost use Rattle.rv_store.specs.Counted.{counts_of, lines_read, Counted};
-ghost use Rattle.rv_store.specs.Edits.{edit_of};
+ghost use Rattle.rv_store.specs.Edits.{edit_of, edit_of_read};
 ghost use Rattle.rv_store.specs.Former.{AreFormer};
 ghost use Rattle.rv_store.specs.Layout.{address_at};
 ghost use Rattle.rv_store.specs.Program.{program_of};
@@ -14,15 +17,18 @@ ghost use Rattle.rv_store.specs.Text.{is_base, is_line, at_line, Insert, Delete,
 
 mod shown;
 
+use crate::alike::is_alike;
 use crate::base::base_ok;
 use crate::changed::Changed;
-use crate::edit::LineEdit;
+use crate::edit::{LineEdit, ReadEdit};
 use crate::edit_error::EditError;
+use crate::ending::{Ending, appended, bare_ending};
 use crate::item::Item;
 use crate::limits::MAX_LINES;
 use crate::line::Line;
 use crate::names::NameTable;
 use crate::renewal::renewed_items;
+use crate::replacement::item_replaced;
 use crate::survey::Survey;
 use crate::symbols::SymValue;
 use crate::text_rows::address_in;
@@ -143,18 +149,11 @@ impl Store {
         }
     }
 
-    // The lines after an edit that is not refused, and their items: what was kept of each line, and nothing of the line that
-    // the edit puts in. That line is read.
-    fn edited<C: Count>(
-        &self,
-        edit: &LineEdit<'_>,
-        counter: &mut C,
-    ) -> Result<(Vec<Line>, SumTree<Item>), EditError>
+    // An edit that is not refused, with its line read.
+    fn read<C: Count>(&self, edit: &LineEdit<'_>, counter: &mut C) -> Result<ReadEdit, EditError>
         requires allowed { refusal_of self.now.lines (edit_of edit.now) ≡ None }
         requires parsed { C.parsed_count counter.old ≤ 2 ^ 63 }
-        ensures lines { IfOk result (λ r. r.0.items ≡ lines_after self.now.lines (edit_of edit.now)) }
-        ensures items { IfOk result (λ r. map (λ i. i.line) r.1.items ≡ lines_after self.now.lines (edit_of edit.now)) }
-        ensures former { IfOk result (λ r. AreFormer self.now.base self.now.lines (edit_of edit.now) 0 r.1.items) }
+        ensures edit { IfOk result (λ r. edit_of_read r ≡ edit_of edit.now) }
         ensures memory { IfErr result (λ e. e ≡ EditError.Memory) }
         ensures read { IfOk result (λ _. C.parsed_count counter.new ≡ C.parsed_count counter.old + lines_read (edit_of edit.now)) }
         ensures parsed_least { C.parsed_count counter.old ≤ C.parsed_count counter.new }
@@ -162,20 +161,156 @@ impl Store {
         ensures valued { C.valued_count counter.new ≡ C.valued_count counter.old }
         ensures encoded { C.encoded_count counter.new ≡ C.encoded_count counter.old }
     {
-        let mut lines = shared_lines(self.alloc, &self.survey.lines)?;
         match *edit {
             LineEdit::Insert(k, line) => {
-                let entered = Line::read(self.alloc, line, counter)?;
+                Ok(ReadEdit::Insert(k, Line::read(self.alloc, line, counter)?))
+            }
+            LineEdit::Delete(k) => Ok(ReadEdit::Delete(k)),
+            LineEdit::Replace(k, line) => {
+                Ok(ReadEdit::Replace(k, Line::read(self.alloc, line, counter)?))
+            }
+        }
+    }
+
+    // Whether a line can stand in the place of line `k`, and all other lines stay as they are. Nothing is counted.
+    fn takes<C: Count>(&self, k: u32, line: &Line, counter: &mut C) -> bool
+        requires first { 1 ≤ k }
+        requires last { k ≤ length self.now.lines }
+        requires valued { C.valued_count counter.old < 2 ^ 64 - 1 }
+        ensures alike { IsTrue result → IsAlike (program_of self.now.lines) k (statement_of line.now) }
+        ensures parsed { C.parsed_count counter.new ≡ C.parsed_count counter.old }
+        ensures valued { C.valued_count counter.new ≡ C.valued_count counter.old }
+        ensures encoded { C.encoded_count counter.new ≡ C.encoded_count counter.old }
+    {
+        let place = k as usize - 1;
+        let former = &self.survey.lines[place];
+        is_alike(former, self.survey.shapes[place], line, counter)
+    }
+
+    // Puts a line in the place of line `k`, which it is alike: only this line is made anew. Where there is no memory for that,
+    // the text stays.
+    fn put<C: Count>(&mut self, k: u32, line: Line, counter: &mut C) -> Result<Changed, EditError>
+        requires allowed { refusal_of self.old.lines (Replace k line) ≡ None }
+        requires alike { IsAlike (program_of self.old.lines) k (statement_of line) }
+        requires valued { C.valued_count counter.old ≤ 2 ^ 63 }
+        requires encoded { C.encoded_count counter.old ≤ 2 ^ 63 }
+        ensures ok { OnOk result (self.new ≡ text_after self.old (Replace k line)) }
+        ensures err { OnErr result (self.new ≡ self.old) }
+        ensures changed { IfOk result (λ c. c.lines ≡ changed_lines self.old.base self.old.lines (Replace k line)) }
+        ensures memory { IfErr result (λ e. e ≡ EditError.Memory) }
+        ensures parsed { C.parsed_count counter.new ≡ C.parsed_count counter.old }
+        ensures valued { (C.valued_count counter.old ≤ C.valued_count counter.new) × (C.valued_count counter.new ≤ C.valued_count counter.old + 1000) }
+        ensures encoded { (C.encoded_count counter.old ≤ C.encoded_count counter.new) × (C.encoded_count counter.new ≤ C.encoded_count counter.old + 1) }
+        ensures values { C.valued_count counter.new ≤ C.valued_count counter.old + most_values self.old.base self.old.lines (Replace k line) }
+        ensures codes { C.encoded_count counter.new ≤ C.encoded_count counter.old + most_codes self.old.base self.old.lines (Replace k line) }
+    {
+        let place = k as usize - 1;
+        let former = self.survey.lines[place].share()?;
+        self.survey.lines[place] = line;
+        match item_replaced(
+            self.alloc,
+            self.base,
+            &self.names,
+            &self.survey,
+            &self.items,
+            k,
+            counter,
+        ) {
+            Ok((items, changed)) => {
+                self.items = items;
+                Ok(changed)
+            }
+            Err(e) => {
+                self.survey.lines[place] = former;
+                Err(e)
+            }
+        }
+    }
+
+    // What a line adds as line `k`, if that is the end of the text, and no other line has to do with it. Nothing is counted.
+    fn ending<C: Count>(&self, k: u32, line: &Line, counter: &mut C) -> Option<Ending>
+        requires allowed { refusal_of self.now.lines (Insert k line.now) ≡ None }
+        requires valued { C.valued_count counter.old < 2 ^ 64 - 1 }
+        ensures end { IfSome result (λ end. k ≡ length self.now.lines + 1) }
+        ensures ending { IfSome result (IsEnding self.now.base (program_of self.now.lines) (statement_of line.now)) }
+        ensures parsed { C.parsed_count counter.new ≡ C.parsed_count counter.old }
+        ensures valued { C.valued_count counter.new ≡ C.valued_count counter.old }
+        ensures encoded { C.encoded_count counter.new ≡ C.encoded_count counter.old }
+    {
+        if k <= self.items.len() {
+            return None;
+        }
+        bare_ending(self.base, &self.survey, line, counter)
+    }
+
+    // Puts a line at the end of the text, with which no other line has to do: only this line is made. Where there is no memory
+    // for that, the text stays.
+    fn append<C: Count>(
+        &mut self,
+        k: u32,
+        line: Line,
+        end: &Ending,
+        counter: &mut C,
+    ) -> Result<Changed, EditError>
+        requires allowed { refusal_of self.old.lines (Insert k line) ≡ None }
+        requires end { k ≡ length self.old.lines + 1 }
+        requires ending { IsEnding self.old.base (program_of self.old.lines) (statement_of line) end.now }
+        requires valued { C.valued_count counter.old ≤ 2 ^ 63 }
+        requires encoded { C.encoded_count counter.old ≤ 2 ^ 63 }
+        ensures ok { OnOk result (self.new ≡ text_after self.old (Insert k line)) }
+        ensures err { OnErr result (self.new ≡ self.old) }
+        ensures changed { IfOk result (λ c. c.lines ≡ changed_lines self.old.base self.old.lines (Insert k line)) }
+        ensures memory { IfErr result (λ e. e ≡ EditError.Memory) }
+        ensures parsed { C.parsed_count counter.new ≡ C.parsed_count counter.old }
+        ensures valued { (C.valued_count counter.old ≤ C.valued_count counter.new) × (C.valued_count counter.new ≤ C.valued_count counter.old + 1000) }
+        ensures encoded { (C.encoded_count counter.old ≤ C.encoded_count counter.new) × (C.encoded_count counter.new ≤ C.encoded_count counter.old + 1) }
+        ensures values { C.valued_count counter.new ≤ C.valued_count counter.old + most_values self.old.base self.old.lines (Insert k line) }
+        ensures codes { C.encoded_count counter.new ≤ C.encoded_count counter.old + most_codes self.old.base self.old.lines (Insert k line) }
+    {
+        let count = self.len();
+        let total = self.survey.total;
+        match appended(
+            self.alloc,
+            self.base,
+            &self.names,
+            &mut self.survey,
+            &self.items,
+            line,
+            end,
+            counter,
+        ) {
+            Ok((items, changed)) => {
+                self.items = items;
+                Ok(changed)
+            }
+            Err(e) => {
+                self.survey.shorten(count, total);
+                Err(e)
+            }
+        }
+    }
+
+    // The lines after an edit that is not refused, and their items: what was kept of each line, and nothing of the line that
+    // the edit puts in.
+    fn edited(&self, edit: ReadEdit) -> Result<(Vec<Line>, SumTree<Item>), EditError>
+        requires allowed { refusal_of self.now.lines (edit_of_read edit) ≡ None }
+        ensures lines { IfOk result (λ r. r.0.items ≡ lines_after self.now.lines (edit_of_read edit)) }
+        ensures items { IfOk result (λ r. map (λ i. i.line) r.1.items ≡ lines_after self.now.lines (edit_of_read edit)) }
+        ensures former { IfOk result (λ r. AreFormer self.now.base self.now.lines (edit_of_read edit) 0 r.1.items) }
+        ensures memory { IfErr result (λ e. e ≡ EditError.Memory) }
+    {
+        let mut lines = shared_lines(self.alloc, &self.survey.lines)?;
+        match edit {
+            ReadEdit::Insert(k, entered) => {
                 lines.insert(k as usize - 1, entered.share()?)?;
                 let item = Item::entered(self.alloc, entered)?;
                 Ok((lines, self.items.inserted(k, item)?))
             }
-            LineEdit::Delete(k) => {
+            ReadEdit::Delete(k) => {
                 let _ = lines.remove(k as usize - 1);
                 Ok((lines, self.items.deleted(k)?))
             }
-            LineEdit::Replace(k, line) => {
-                let entered = Line::read(self.alloc, line, counter)?;
+            ReadEdit::Replace(k, entered) => {
                 lines[k as usize - 1] = entered.share()?;
                 let item = Item::entered(self.alloc, entered)?;
                 Ok((lines, self.items.replaced(k, item)?))
@@ -189,13 +324,13 @@ impl Store {
         &mut self,
         edit: &LineEdit<'_>,
         lines: Vec<Line>,
-        items: &SumTree<Item>,
+        items: SumTree<Item>,
         counter: &mut C,
     ) -> Result<Changed, EditError>
         requires allowed { refusal_of self.old.lines (edit_of edit.now) ≡ None }
         requires lines { lines.items ≡ lines_after self.old.lines (edit_of edit.now) }
-        requires items { map (λ i. i.line) items.now.items ≡ lines.items }
-        requires former { AreFormer self.old.base self.old.lines (edit_of edit.now) 0 items.now.items }
+        requires items { map (λ i. i.line) items.items ≡ lines.items }
+        requires former { AreFormer self.old.base self.old.lines (edit_of edit.now) 0 items.items }
         requires valued { C.valued_count counter.old ≤ 2 ^ 63 }
         requires encoded { C.encoded_count counter.old ≤ 2 ^ 63 }
         ensures ok { OnOk result (self.new ≡ text_after self.old (edit_of edit.now)) }
@@ -234,6 +369,41 @@ impl Store {
         Ok(Changed::of(changed))
     }
 
+    // Makes an edit that is not refused, whose line was read. Where there is no memory for that, the text stays.
+    fn make<C: Count>(
+        &mut self,
+        edit: &LineEdit<'_>,
+        read: ReadEdit,
+        counter: &mut C,
+    ) -> Result<Changed, EditError>
+        requires allowed { refusal_of self.old.lines (edit_of edit.now) ≡ None }
+        requires read { edit_of_read read ≡ edit_of edit.now }
+        requires valued { C.valued_count counter.old ≤ 2 ^ 63 }
+        requires encoded { C.encoded_count counter.old ≤ 2 ^ 63 }
+        ensures ok { OnOk result (self.new ≡ text_after self.old (edit_of edit.now)) }
+        ensures err { OnErr result (self.new ≡ self.old) }
+        ensures changed { IfOk result (λ c. c.lines ≡ changed_lines self.old.base self.old.lines (edit_of edit.now)) }
+        ensures memory { IfErr result (λ e. e ≡ EditError.Memory) }
+        ensures parsed { C.parsed_count counter.new ≡ C.parsed_count counter.old }
+        ensures valued { (C.valued_count counter.old ≤ C.valued_count counter.new) × (C.valued_count counter.new < C.valued_count counter.old + 2 ^ 32) }
+        ensures encoded { (C.encoded_count counter.old ≤ C.encoded_count counter.new) × (C.encoded_count counter.new < C.encoded_count counter.old + 2 ^ 32) }
+        ensures values { C.valued_count counter.new ≤ C.valued_count counter.old + most_values self.old.base self.old.lines (edit_of edit.now) }
+        ensures codes { C.encoded_count counter.new ≤ C.encoded_count counter.old + most_codes self.old.base self.old.lines (edit_of edit.now) }
+    {
+        if let ReadEdit::Replace(k, line) = &read {
+            if self.takes(*k, line, counter) {
+                return self.put(*k, line.share()?, counter);
+            }
+        }
+        if let ReadEdit::Insert(k, line) = &read {
+            if let Some(end) = self.ending(*k, line, counter) {
+                return self.append(*k, line.share()?, &end, counter);
+            }
+        }
+        let (lines, items) = self.edited(read)?;
+        self.assemble(edit, lines, items, counter)
+    }
+
     // Makes an edit, or says why not.
     fn edit<C: Count>(&mut self, edit: &LineEdit<'_>, counter: &mut C) -> Result<Changed, EditError>
         requires parsed { C.parsed_count counter.old ≤ 2 ^ 63 }
@@ -249,8 +419,8 @@ impl Store {
         if let Some(e) = edit.refusal(self.len()) {
             return Err(e);
         }
-        let (lines, items) = self.edited(edit, counter)?;
-        self.assemble(edit, lines, &items, counter)
+        let read = self.read(edit, counter)?;
+        self.make(edit, read, counter)
     }
 
     /// Makes `line` the line number `k`, from 1 to one more than there are; the lines from `k` on move down by one.

@@ -153,6 +153,7 @@ impl Survey {
         requires { IsSurvey base (program_of self.now.lines.items) names.now self.now }
         ensures rows { AreSymbolRows result }
         ensures base { result.text.base ≡ base }
+        ensures names { result.text.names.now ≡ names.now }
         ensures lines { result.text.lines.now ≡ self.now.lines.items }
     {
         SymbolRows {
@@ -181,6 +182,7 @@ impl Survey {
         requires allowed { refusal_of self.now.lines.items (edit_of edit.now) ≡ None }
         ensures before { IsBefore result }
         ensures base { base_before result ≡ base }
+        ensures names { result.symbols.text.names.now ≡ names.now }
         ensures lines { lines_before result ≡ self.now.lines.items }
         ensures edit { edit_on result ≡ edit_of edit.now }
     {
@@ -213,6 +215,7 @@ impl Survey {
         requires { IsSurvey base (program_of self.now.lines.items) names.now self.now }
         ensures rows { AreValueRows result }
         ensures base { base_of result ≡ base }
+        ensures names { result.symbols.text.names.now ≡ names.now }
         ensures lines { result.symbols.text.lines.now ≡ self.now.lines.items }
     {
         ValueRows {

@@ -1,15 +1,16 @@
 //! What the symbols of a text are.
 
-ghost use Rattle.std.specs.Prelude.{◌≡◌, ◌≤◌, length};
+ghost use Rattle.std.specs.Prelude.{◌≡◌, ◌≤◌, ℕ, List, length};
 ghost use Rattle.rv_store.specs.declared.limits.TheConstants.{MAX_LINES};
 ghost use Rattle.rv_store.specs.Constants.{constant_of};
 ghost use Rattle.rv_store.specs.Definitions.{definition_of};
 ghost use Rattle.rv_store.specs.References.{symbol_through};
+ghost use Rattle.rv_store.specs.Rows.{number_of};
 ghost use Rattle.rv_store.specs.SymbolRows.{AreSymbolRows};
 ghost use Rattle.rv_store.specs.TextRows.{AreTextRows, program_in};
 
 use crate::line_names::by_definition;
-use crate::names::entry_of;
+use crate::names::entry_at;
 use crate::text_rows::TextRows;
 use rv_expr::ValueFault;
 use rv_fix::Entry;
@@ -26,33 +27,38 @@ pub struct SymbolRows<'a> {
 }
 
 impl SymbolRows<'_> {
-    // Where a symbol is defined.
-    fn definition(&self, name: &[u8]) -> DefinitionPlace
+    // Where the symbol of this number is defined; a name that has no number is nowhere.
+    fn definition_of(&self, number: Option<usize>) -> DefinitionPlace
         requires { AreTextRows self.now.text }
-        ensures { result ≡ definition_of (program_in self.now.text) name.now }
+        ensures { (name : List ℕ) → number_of self.now.text.names.now name ≡ number → result ≡ definition_of (program_in self.now.text) name }
     {
-        entry_of(
-            self.text.names,
-            self.text.definitions,
-            DefinitionPlace::Nowhere,
-            name,
-        )
+        entry_at(self.text.definitions, DefinitionPlace::Nowhere, number)
     }
 
-    /// What a symbol gives on the lines that are no `.equ`.
-    pub fn value(&self, name: &[u8]) -> Entry
+    /// What the symbol of this number, or one that has none, gives on the lines that are no `.equ`.
+    pub fn value_of(&self, number: Option<usize>) -> Entry
         requires rows { AreSymbolRows self.now }
         requires few { length self.now.text.lines.now ≤ MAX_LINES }
-        ensures { result ≡ symbol_through self.now.text.base (program_in self.now.text) (length self.now.text.lines.now) name.now }
+        ensures { (name : List ℕ) → number_of self.now.text.names.now name ≡ number
+            → result ≡ symbol_through self.now.text.base (program_in self.now.text) (length self.now.text.lines.now) name }
     {
         let last = self.text.lines.len() as u32;
-        let value = entry_of(
-            self.text.names,
-            self.equ_values,
-            Err(ValueFault::LaterEqu),
-            name,
-        );
-        by_definition(self.text.places, last, self.definition(name), value)
+        let value = entry_at(self.equ_values, Err(ValueFault::LaterEqu), number);
+        by_definition(self.text.places, last, self.definition_of(number), value)
+    }
+
+    /// The constant that the symbol of this number, or one that has none, is on a line, if it is one there.
+    pub fn constant_of(&self, line: u32, number: Option<usize>) -> Option<i64>
+        requires { AreSymbolRows self.now }
+        ensures { (name : List ℕ) → number_of self.now.text.names.now name ≡ number → result ≡ constant_of (program_in self.now.text) line name }
+    {
+        match self.definition_of(number) {
+            DefinitionPlace::Nowhere | DefinitionPlace::Label(_, _) => None,
+            DefinitionPlace::Equ(definition) if definition < line => {
+                entry_at(self.constants, None, number)
+            }
+            DefinitionPlace::Equ(_) => None,
+        }
     }
 
     /// The constant that a symbol is on a line, if it is one there.
@@ -60,12 +66,6 @@ impl SymbolRows<'_> {
         requires { AreSymbolRows self.now }
         ensures { result ≡ constant_of (program_in self.now.text) line name.now }
     {
-        match self.definition(name) {
-            DefinitionPlace::Nowhere | DefinitionPlace::Label(_, _) => None,
-            DefinitionPlace::Equ(definition) if definition < line => {
-                entry_of(self.text.names, self.constants, None, name)
-            }
-            DefinitionPlace::Equ(_) => None,
-        }
+        self.constant_of(line, self.text.names.number(name))
     }
 }

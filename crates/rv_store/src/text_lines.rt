@@ -1,11 +1,13 @@
 //! The lines of a text, by their numbers from 1 on.
 
 ghost use Rattle.std.specs.Prelude.{◌≡◌, ◌≤◌, length};
+ghost use Rattle.rv_store.specs.Briefs.{brief_of};
 ghost use Rattle.rv_store.specs.Layout.{place_at};
 ghost use Rattle.rv_stmt.specs.Statement.{operands_of};
 ghost use Rattle.rv_store.specs.Program.{statement_at, body_at};
 ghost use Rattle.rv_store.specs.TextRows.{AreTextRows, program_in};
 
+use crate::brief::Brief;
 use crate::line::Line;
 use crate::text_rows::TextRows;
 use rv_list::LinePlace;
@@ -19,6 +21,16 @@ pub fn statement_on<'a>(text: &TextRows<'a>, line: u32) -> &'a Stmt
     ensures { result.now ≡ statement_at (program_in text.now) line }
 {
     text.lines[line as usize - 1].stmt()
+}
+
+/// What a line defines and uses, in brief.
+#[tactic(auto, using(crate::proofs::TextLines::statement_of_line))]
+pub fn brief_on(text: &TextRows<'_>, line: u32) -> Brief
+    requires first { 1 ≤ line }
+    requires last { line ≤ length text.now.lines.now }
+    ensures { result ≡ brief_of (statement_at (program_in text.now) line) }
+{
+    text.lines[line as usize - 1].brief()
 }
 
 /// A line has at most 1,000 operands.

@@ -19,7 +19,7 @@ returns-in_default-clause-after g c =
       each = c.requires.before.each
           ∙ sym (constants-kept program c.args.i (λ d is.
           equ-by_row program c.args.names.now c.args.definitions.now c.requires.definitions c.args.i d.symbol false
-          (c.in_default.ensures.none refl d (ap (λ s. s.body) c.stmt.ensures ∙ sym here ∙ is))))
+          (c.in_default.ensures.none refl d (sym here ∙ is))))
           ∙ ap (constant_through program) next;
       within = c.requires.before.within;
     }
@@ -32,7 +32,7 @@ returns-clause-after g c =
     let d = c.in-Some.definition.now in
     record {
       each = constants-set program c.args.i c.args.names.now c.args.row.now.items d c.in-Some.number c.ok.result
-          (here ∙ ap (λ s. s.body) (sym c.stmt.ensures) ∙ c.in-Some.ensures.body)
+          (here ∙ c.in-Some.ensures.body)
           (equ-by_row program c.args.names.now c.args.definitions.now c.requires.definitions c.args.i d.symbol true c.in-Some.ensures.defines)
           c.in-Some.ensures.number
           (omega (arith, c.requires.as_many, c.in-Some.ensures.within))

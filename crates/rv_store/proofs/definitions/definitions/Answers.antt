@@ -1,7 +1,5 @@
-use Rattle.std.proofs.Common.{◌+◌, length, ap, sym, ◌∙◌}
+use Rattle.std.proofs.Common.{◌+◌, length, sym, ◌∙◌}
 use Rattle.rv_list.specs.declared.view.DefinitionPlace.TheVariants.{Nowhere}
-use Rattle.rv_store.specs.Defining.{then_also}
-use Rattle.rv_store.specs.Definitions.{place_in_statement}
 use Rattle.rv_store.specs.Rows.{in_row}
 use Rattle.rv_store.proofs.DefinitionRows.{count-next, lines-next, no_lines_left}
 use Rattle.rv_store.proofs.NameRows.{grows-trans}
@@ -15,7 +13,7 @@ loop-rest-preserved c =
     record {
       each = lines-next so_far (in_row c.define_line.new.names c.define_line.new.row.items Nowhere)
           c.loop-rest.number c.loop-rest.rest.now c.line-item.result c.in-len1-up.len_at_least c.line-item.is
-          (held.each ∙ ap (λ s. then_also so_far (place_in_statement c.loop-rest.number s)) c.stmt.ensures)
+          held.each
           ∙ before.each;
       within = held.within;
       names = grows-trans c.args.names.now c.loop-rest.names c.define_line.new.names before.names c.in_ok-define_line.ensures.names;

@@ -23,7 +23,7 @@ returns-in_default-clause-after g c =
     body-read text.lines.now c.args.i c.index-text-i.result c.requires.within c.index-text-i.is ∙ ap (λ t. (statement_of t).body) c.index-text-i.is in
     equ_values-kept text.base program c.args.i text.names.now c.args.row.now.items
     (λ d is. equ-by_row program text.names.now text.definitions.now c.requires.rows.defined c.args.i d.symbol false
-    (c.in_default.ensures.none refl d (ap (λ s. s.body) c.stmt-stmt.ensures ∙ sym here ∙ is)))
+    (c.in_default.ensures.none refl d (sym here ∙ is)))
     c.requires.before
 
 pub returns-clause-after : goal.returns-clause-after
@@ -35,7 +35,7 @@ returns-clause-after g c =
     let d = c.in-Some.definition.now in
     let next : c.args.i + 1 ≡ suc c.args.i = omega arith in
     equ_values-set text.base program c.args.i text.names.now c.args.row.now.items d c.in-Some.number c.value_on.result
-    (here ∙ ap (λ s. s.body) (sym c.stmt-stmt.ensures) ∙ c.in-Some.ensures.body)
+    (here ∙ c.in-Some.ensures.body)
     (equ-by_row program text.names.now text.definitions.now c.requires.rows.defined c.args.i d.symbol true c.in-Some.ensures.defines)
     c.in-Some.ensures.number
     (omega (arith, c.requires.as_many, c.in-Some.ensures.within, c.requires.rows.defined.within))

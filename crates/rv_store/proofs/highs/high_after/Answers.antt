@@ -1,15 +1,23 @@
 use Rattle.std.proofs.Common.{◌≡◌, true, Some, Ok, pos, arith, ap, sym, ◌∙◌}
-use Rattle.std.specs.Option.{option_map}
+use Rattle.std.specs.Option.{is_some}
 use Rattle.rv_store.specs.Before.{base_before, lines_before, edit_on}
 use Rattle.rv_store.specs.Changes.{is_invalidated}
 use Rattle.rv_store.specs.Edits.{line_before_edit}
+use Rattle.rv_store.specs.Layout.{address_at}
 use Rattle.rv_store.specs.Pairs.{pcrel_high_of, high_at}
 use Rattle.rv_store.specs.Program.{body_at}
+use Rattle.rv_store.specs.References.{references_at}
 use Rattle.rv_store.specs.TextRows.{program_in}
-use Rattle.rv_store.proofs.HighLaws.{high-kept, length_of_highs, high_of_line, high-counted}
+use Rattle.rv_store.proofs.HighLaws.{high-kept, length_of_highs, high_of_line, no-high, high-counted}
 use Rattle.rv_store.proofs.LinePairLaws.{stood-before, body-before, invalidated-by_uses, invalidated-new}
 use Rattle.rv_store.proofs.highs.high_after.Goals as goal
 use Rattle.rv_store.proofs.highs.high_after.Goals.{then-not-is_invalidated+in_default, else-not-is_invalidated}
+
+pub returns-then-not-has_pcrel_high-clause-value : goal.returns-then-not-has_pcrel_high-clause-value
+returns-then-not-has_pcrel_high-clause-value g c =
+    let text = c.args.after.now.text in
+    let line = c.args.line in
+    sym (no-high (references_at text.base (program_in text) line) (address_at text.base (program_in text) line) (pcrel_high_of (body_at (program_in text) line)) (sym c.has_pcrel_high.ensures ∙ c.if-not-has_pcrel_high.true))
 
 pub bounds-before-stood : goal.bounds-before-stood
 bounds-before-stood g c =
@@ -41,6 +49,6 @@ returns-clause-most g c =
       | then-not-is_invalidated+in_default w ↦ invalidated-new (base_before before) (lines_before before) (edit_on before) c.args.line (sym w.line_before.ensures ∙ w.in_default.is)
       | else-not-is_invalidated w ↦ sym c.is_invalidated.ensures ∙ w.if-not-is_invalidated.false
     ] in
-    let high : option_map (λ e. e.now) c.pcrel_high.result ≡ pcrel_high_of (body_at (program_in c.args.after.now.text) c.args.line) = c.pcrel_high.ensures ∙ ap (λ s. pcrel_high_of s.body) c.statement_on.ensures in
-    let one = high-counted before c.args.after.now.text c.args.line (λ e. e.now) c.pcrel_high.result c.requires.after c.requires.first high c.if-is_none.ensures invalidated in
+    let high : is_some (pcrel_high_of (body_at (program_in c.args.after.now.text) c.args.line)) ≡ true = sym c.has_pcrel_high.ensures ∙ c.if-not-has_pcrel_high.false in
+    let one = high-counted before c.args.after.now.text c.args.line c.requires.after c.requires.first high invalidated in
     omega (arith, one, c.high_on.ensures.most)

@@ -18,6 +18,7 @@ differs_in_uses-requires c =
       few = c.requires.before.few;
       few_after = c.requires.after.few;
       base = c.requires.after.base;
+      names = c.requires.after.names;
       first_stood = there.first;
       last_stood = there.last;
       first = c.requires.first;

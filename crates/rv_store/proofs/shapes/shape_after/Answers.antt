@@ -1,4 +1,4 @@
-use Rattle.std.proofs.Common.{◌≡◌, ◌≤◌, ◌+◌, ◌-◌, get_or, None, true, arith, ap, sym, subst, ◌∙◌}
+use Rattle.std.proofs.Common.{◌≡◌, ◌≤◌, ◌+◌, ◌-◌, get_or, None, true, arith, sym, subst, ◌∙◌}
 use Rattle.rv_stmt.specs.Statement.{statement_of, data_size_of}
 use Rattle.rv_layout.specs.Places.{IsLimited}
 use Rattle.rv_store.specs.Before.{base_before, lines_before, edit_on}
@@ -8,7 +8,7 @@ use Rattle.rv_store.specs.Program.{program_of}
 use Rattle.rv_store.specs.Rows.{in_row}
 use Rattle.rv_store.proofs.KeptShapes.{constants-on, body-on, shape-on, has-shape, shape-before, shape-stays, constant-invalidates, new-invalidated, work-on}
 use Rattle.rv_store.proofs.shapes.shape_after.Goals as goal
-use Rattle.rv_store.proofs.shapes.shape_after.Goals.{in-Some+else-not-any_name, in_default}
+use Rattle.rv_store.proofs.shapes.shape_after.Goals.{in-Some+else-not-may_differ, in_default}
 
 pub bounds-before-stood : goal.bounds-before-stood
 bounds-before-stood g c =
@@ -21,17 +21,18 @@ copied g c =
     let there = sym c.line_before.ensures ∙ c.in-Some.is in
     let lines = c.args.lines.now in
     let given = c.args.given.now in
-    let body = ap (λ s. s.body) c.stmt.ensures ∙ body-on lines c.args.i c.index-lines-i-in-Some.result c.requires.within c.index-lines-i-in-Some.is in
+    let text = c.index-lines-i-in-Some.result in
+    let body = body-on lines c.args.i text c.requires.within c.index-lines-i-in-Some.is in
     shape-before c.args.before.now c.requires.before lines c.requires.after c.args.i c.in-Some.stood c.requires.within there c.index-before-stood.result
     ∙ sym (shape-stays c.args.before.now c.requires.before lines c.requires.after c.args.i c.in-Some.stood c.requires.within there
     (in_row given.names.now given.row.now None) (constants-on (program_of lines) c.args.i given.names.now given.row.now c.requires.constants)
-    c.stmt.result.now.body body (sym c.any_name.ensures ∙ c.if-not-any_name.true))
+    (statement_of text).body body (sym c.may_differ.ensures ∙ c.if-not-may_differ.true))
 
-pub returns-then-not-any_name-clause-shape : goal.returns-then-not-any_name-clause-shape
-returns-then-not-any_name-clause-shape g c = copied g c
+pub returns-then-not-may_differ-clause-shape : goal.returns-then-not-may_differ-clause-shape
+returns-then-not-may_differ-clause-shape g c = copied g c
 
-pub returns-then-not-any_name-clause-limited : goal.returns-then-not-any_name-clause-limited
-returns-then-not-any_name-clause-limited g c =
+pub returns-then-not-may_differ-clause-limited : goal.returns-then-not-may_differ-clause-limited
+returns-then-not-may_differ-clause-limited g c =
     let given = c.args.given.now in
     let text = c.index-lines-i.result in
     let few : data_size_of (statement_of text).body ≤ 65536 = omega (arith, c.data_are_few.ensures) in
@@ -51,12 +52,12 @@ invalidated g c =
     let lines = c.args.lines.now in
     let given = c.args.given.now in
     elim c.match-line_before.branch [
-      | in-Some+else-not-any_name w ↦
+      | in-Some+else-not-may_differ w ↦
           constant-invalidates before c.requires.before lines c.requires.after c.args.i w.in-Some.stood c.requires.within (sym c.line_before.ensures ∙ w.in-Some.is)
           (in_row given.names.now given.row.now None) (constants-on (program_of lines) c.args.i given.names.now given.row.now c.requires.constants)
-          w.stmt.result.now.body
-          (ap (λ s. s.body) w.stmt.ensures ∙ body-on lines c.args.i w.index-lines-i-in-Some.result c.requires.within w.index-lines-i-in-Some.is)
-          (sym w.any_name.ensures ∙ w.if-not-any_name.false)
+          (statement_of w.index-lines-i-in-Some.result).body
+          (body-on lines c.args.i w.index-lines-i-in-Some.result c.requires.within w.index-lines-i-in-Some.is)
+          (sym w.may_differ.ensures ∙ w.if-not-may_differ.false)
       | in_default w ↦
           new-invalidated (base_before before) (lines_before before) (edit_on before) (c.args.i + 1) (sym c.line_before.ensures ∙ w.in_default.is)
     ]

@@ -45,8 +45,8 @@ renewed_items-requires-clause-former g c =
     let old = c.args.self.now in
     let base : c.self.inside.base ≡ old.base = ap (λ t. t.base) c.self.view_is in
     let lines : c.self.inside.survey.lines.items ≡ old.lines = c.self.invariant.listed ∙ ap (λ t. t.lines) c.self.view_is in
-    subst (λ b. AreFormer b c.self.inside.survey.lines.items (edit_of c.args.edit.now) 0 c.args.items.now.items) (sym base)
-    (subst (λ ls. AreFormer old.base ls (edit_of c.args.edit.now) 0 c.args.items.now.items) (sym lines) c.requires.former)
+    subst (λ b. AreFormer b c.self.inside.survey.lines.items (edit_of c.args.edit.now) 0 c.args.items.items) (sym base)
+    (subst (λ ls. AreFormer old.base ls (edit_of c.args.edit.now) 0 c.args.items.items) (sym lines) c.requires.former)
 
 pub renewed_items-requires-clause-valued : goal.renewed_items-requires-clause-valued
 renewed_items-requires-clause-valued g c =

@@ -1,5 +1,5 @@
 use Rattle.std.proofs.Common.{◌≡◌, ap, sym, subst, ◌∙◌, map, None}
-use Rattle.rv_store.specs.Edits.{edit_of}
+use Rattle.rv_store.specs.Edits.{edit_of_read}
 use Rattle.rv_store.specs.Former.{AreFormer}
 use Rattle.rv_store.specs.Items.{AreItems}
 use Rattle.rv_store.specs.Text.{Insert, Delete, Replace, refusal_of, lines_after}
@@ -7,55 +7,55 @@ use Rattle.rv_store.proofs.FormerItems.{lines-inserted, lines-deleted, lines-rep
 use Rattle.rv_store.proofs.store.Store.edited.Goals as goal
 
 pub returns-in_ok-inserted-in-Insert-clause-items : goal.returns-in_ok-inserted-in-Insert-clause-items
-returns-in_ok-inserted-in-Insert-clause-items g c =
+returns-in_ok-inserted-in-Insert-clause-items c =
     let old = c.args.self.now in
     let view : map (λ i. i.line) c.self.inside.items.items ≡ old.lines = ap (λ t. t.lines) c.self.view_is in
     ap (map (λ i. i.line)) c.in_ok-inserted-in-Insert.ensures.items
-    ∙ lines-inserted old.lines c.in-Insert.k c.in-Insert.line.now c.self.inside.items.items c.in_ok-item-in-Insert.item view (c.in_ok-item-in-Insert.ensures ∙ c.in_ok-entered-in-Insert.ensures.line)
-    ∙ ap (λ e. lines_after old.lines (edit_of e)) (sym c.in-Insert.is)
+    ∙ lines-inserted old.lines c.in-Insert.k c.in-Insert.entered c.self.inside.items.items c.in_ok-item-in-Insert.item view c.in_ok-item-in-Insert.ensures
+    ∙ ap (λ e. lines_after old.lines (edit_of_read e)) (sym c.in-Insert.is)
 
 pub returns-in_ok-inserted-in-Insert-clause-former : goal.returns-in_ok-inserted-in-Insert-clause-former
-returns-in_ok-inserted-in-Insert-clause-former g c =
+returns-in_ok-inserted-in-Insert-clause-former c =
     let old = c.args.self.now in
     let items = c.self.inside.items.items in
     let are : AreItems old.base old.lines items = rw (← c.self.view_is) c.self.invariant.assembled in
-    let allowed : refusal_of old.lines (Insert c.in-Insert.k c.in-Insert.line.now) ≡ None = ap (λ e. refusal_of old.lines (edit_of e)) (sym c.in-Insert.is) ∙ c.requires.allowed in
-    subst (λ e. AreFormer old.base old.lines (edit_of e) 0 c.in_ok-inserted-in-Insert.field-0.items) (sym c.in-Insert.is)
-    (subst (AreFormer old.base old.lines (Insert c.in-Insert.k c.in-Insert.line.now) 0) (sym c.in_ok-inserted-in-Insert.ensures.items)
-    (former-inserted old.base old.lines c.in-Insert.k c.in-Insert.line.now items c.in_ok-item-in-Insert.item are allowed (c.in_ok-item-in-Insert.ensures ∙ c.in_ok-entered-in-Insert.ensures.line)))
+    let allowed : refusal_of old.lines (Insert c.in-Insert.k c.in-Insert.entered) ≡ None = ap (λ e. refusal_of old.lines (edit_of_read e)) (sym c.in-Insert.is) ∙ c.requires.allowed in
+    subst (λ e. AreFormer old.base old.lines (edit_of_read e) 0 c.in_ok-inserted-in-Insert.field-0.items) (sym c.in-Insert.is)
+    (subst (AreFormer old.base old.lines (Insert c.in-Insert.k c.in-Insert.entered) 0) (sym c.in_ok-inserted-in-Insert.ensures.items)
+    (former-inserted old.base old.lines c.in-Insert.k c.in-Insert.entered items c.in_ok-item-in-Insert.item are allowed c.in_ok-item-in-Insert.ensures))
 
 pub returns-in_ok-deleted-in-Delete-clause-items : goal.returns-in_ok-deleted-in-Delete-clause-items
-returns-in_ok-deleted-in-Delete-clause-items g c =
+returns-in_ok-deleted-in-Delete-clause-items c =
     let old = c.args.self.now in
     let view : map (λ i. i.line) c.self.inside.items.items ≡ old.lines = ap (λ t. t.lines) c.self.view_is in
     ap (map (λ i. i.line)) c.in_ok-deleted-in-Delete.ensures.items
     ∙ lines-deleted old.lines c.in-Delete.k c.self.inside.items.items view
-    ∙ ap (λ e. lines_after old.lines (edit_of e)) (sym c.in-Delete.is)
+    ∙ ap (λ e. lines_after old.lines (edit_of_read e)) (sym c.in-Delete.is)
 
 pub returns-in_ok-deleted-in-Delete-clause-former : goal.returns-in_ok-deleted-in-Delete-clause-former
-returns-in_ok-deleted-in-Delete-clause-former g c =
+returns-in_ok-deleted-in-Delete-clause-former c =
     let old = c.args.self.now in
     let items = c.self.inside.items.items in
     let are : AreItems old.base old.lines items = rw (← c.self.view_is) c.self.invariant.assembled in
-    let allowed : refusal_of old.lines (Delete c.in-Delete.k) ≡ None = ap (λ e. refusal_of old.lines (edit_of e)) (sym c.in-Delete.is) ∙ c.requires.allowed in
-    subst (λ e. AreFormer old.base old.lines (edit_of e) 0 c.in_ok-deleted-in-Delete.field-0.items) (sym c.in-Delete.is)
+    let allowed : refusal_of old.lines (Delete c.in-Delete.k) ≡ None = ap (λ e. refusal_of old.lines (edit_of_read e)) (sym c.in-Delete.is) ∙ c.requires.allowed in
+    subst (λ e. AreFormer old.base old.lines (edit_of_read e) 0 c.in_ok-deleted-in-Delete.field-0.items) (sym c.in-Delete.is)
     (subst (AreFormer old.base old.lines (Delete c.in-Delete.k) 0) (sym c.in_ok-deleted-in-Delete.ensures.items)
     (former-deleted old.base old.lines c.in-Delete.k items are allowed))
 
 pub returns-in_ok-replaced-in-Replace-clause-items : goal.returns-in_ok-replaced-in-Replace-clause-items
-returns-in_ok-replaced-in-Replace-clause-items g c =
+returns-in_ok-replaced-in-Replace-clause-items c =
     let old = c.args.self.now in
     let view : map (λ i. i.line) c.self.inside.items.items ≡ old.lines = ap (λ t. t.lines) c.self.view_is in
     ap (map (λ i. i.line)) c.in_ok-replaced-in-Replace.ensures.items
-    ∙ lines-replaced old.lines c.in-Replace.k c.in-Replace.line.now c.self.inside.items.items c.in_ok-item-in-Replace.item view (c.in_ok-item-in-Replace.ensures ∙ c.in_ok-entered-in-Replace.ensures.line)
-    ∙ ap (λ e. lines_after old.lines (edit_of e)) (sym c.in-Replace.is)
+    ∙ lines-replaced old.lines c.in-Replace.k c.in-Replace.entered c.self.inside.items.items c.in_ok-item-in-Replace.item view c.in_ok-item-in-Replace.ensures
+    ∙ ap (λ e. lines_after old.lines (edit_of_read e)) (sym c.in-Replace.is)
 
 pub returns-in_ok-replaced-in-Replace-clause-former : goal.returns-in_ok-replaced-in-Replace-clause-former
-returns-in_ok-replaced-in-Replace-clause-former g c =
+returns-in_ok-replaced-in-Replace-clause-former c =
     let old = c.args.self.now in
     let items = c.self.inside.items.items in
     let are : AreItems old.base old.lines items = rw (← c.self.view_is) c.self.invariant.assembled in
-    let allowed : refusal_of old.lines (Replace c.in-Replace.k c.in-Replace.line.now) ≡ None = ap (λ e. refusal_of old.lines (edit_of e)) (sym c.in-Replace.is) ∙ c.requires.allowed in
-    subst (λ e. AreFormer old.base old.lines (edit_of e) 0 c.in_ok-replaced-in-Replace.field-0.items) (sym c.in-Replace.is)
-    (subst (AreFormer old.base old.lines (Replace c.in-Replace.k c.in-Replace.line.now) 0) (sym c.in_ok-replaced-in-Replace.ensures.items)
-    (former-replaced old.base old.lines c.in-Replace.k c.in-Replace.line.now items c.in_ok-item-in-Replace.item are allowed (c.in_ok-item-in-Replace.ensures ∙ c.in_ok-entered-in-Replace.ensures.line)))
+    let allowed : refusal_of old.lines (Replace c.in-Replace.k c.in-Replace.entered) ≡ None = ap (λ e. refusal_of old.lines (edit_of_read e)) (sym c.in-Replace.is) ∙ c.requires.allowed in
+    subst (λ e. AreFormer old.base old.lines (edit_of_read e) 0 c.in_ok-replaced-in-Replace.field-0.items) (sym c.in-Replace.is)
+    (subst (AreFormer old.base old.lines (Replace c.in-Replace.k c.in-Replace.entered) 0) (sym c.in_ok-replaced-in-Replace.ensures.items)
+    (former-replaced old.base old.lines c.in-Replace.k c.in-Replace.entered items c.in_ok-item-in-Replace.item are allowed c.in_ok-item-in-Replace.ensures))

@@ -1,25 +1,5 @@
-use Rattle.std.proofs.Common.{length, sym, subst, ◌∙◌}
-use Rattle.rv_store.specs.Rows.{AreConstants}
-use Rattle.rv_store.specs.TextRows.{program_in}
-use Rattle.rv_store.proofs.ConstantLaws.{constant-of_other, constant-of_later, constant-of_earlier}
-use Rattle.rv_store.proofs.Programs.{length-program}
+use Rattle.std.proofs.Common.{sym}
 use Rattle.rv_store.proofs.symbol_rows.SymbolRows.constant.Goals as goal
 
-pub returns-in-Nowhere : goal.returns-in-Nowhere
-returns-in-Nowhere c =
-    sym (constant-of_other (program_in c.args.self.now.text) c.args.line c.args.name.now c.definition.result c.definition.ensures c.in-Nowhere.is)
-
-pub returns-in-Equ : goal.returns-in-Equ
-returns-in-Equ c =
-    let text = c.args.self.now.text in
-    let row = c.args.self.now.constants.now in
-    let are : AreConstants (program_in text) (length (program_in text)) text.names.now row =
-    subst (λ n. AreConstants (program_in text) n text.names.now row) (sym (length-program text.lines.now)) c.requires.constants in
-    c.entry_of.ensures
-    ∙ constant-of_earlier (program_in text) text.names.now row c.args.line c.args.name.now c.in-Equ.definition are
-    (sym c.definition.ensures ∙ c.in-Equ.is) c.if-definition-line.true
-
-pub returns-in-Equ-2 : goal.returns-in-Equ-2
-returns-in-Equ-2 c =
-    sym (constant-of_later (program_in c.args.self.now.text) c.args.line c.args.name.now c.in-Equ.definition
-    (sym c.definition.ensures ∙ c.in-Equ.is) c.if-definition-line.false)
+pub returns : goal.returns
+returns c = c.constant_of.ensures c.args.name.now (sym c.number.ensures.number)

@@ -1,0 +1,18 @@
+use Rattle.std.proofs.Common.{length, Err, arith, ap, sym, ◌∙◌}
+use Rattle.rv_expr.specs.declared.faults.ValueFault.TheVariants.{LaterEqu}
+use Rattle.rv_store.specs.References.{by_definition}
+use Rattle.rv_store.specs.Rows.{entry_at}
+use Rattle.rv_store.specs.TextRows.{address_in}
+use Rattle.rv_store.proofs.LineNameLaws.{symbol_by-rows}
+use Rattle.rv_store.proofs.symbol_rows.SymbolRows.value_of.Goals as goal
+
+pub returns : goal.returns
+returns c =
+    let rows = c.args.self.now in
+    let text = rows.text in
+    let last = length text.lines.now in
+    λ name numbered.
+    c.by_definition.ensures
+    ∙ ap (λ place. by_definition (address_in text.places.now) last place c.entry_at-value.result) (c.definition_of.ensures name numbered)
+    ∙ ap (by_definition (address_in text.places.now) last _) (c.entry_at-value.ensures ∙ ap (entry_at rows.equ_values.now (Err LaterEqu)) (sym numbered))
+    ∙ symbol_by-rows text rows.equ_values.now last last name c.requires.rows.text c.requires.rows.equ_values (omega arith)

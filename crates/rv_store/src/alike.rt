@@ -1,0 +1,104 @@
+//! Lines that can stand in each other's places.
+
+ghost use Rattle.std.specs.Prelude.{◌≡◌, ℕ, ◌<◌, ◌-◌, ◌^◌, None, false, IsTrue};
+ghost use Rattle.rv_stmt.specs.Statement.{statement_of};
+ghost use Rattle.rv_layout.specs.Shapes.{shape_of};
+ghost use Rattle.rv_store.specs.Alike.{same_name, same_labels, DefinesSame, IsAlike};
+ghost use Rattle.rv_store.specs.Constants.{constant_of};
+ghost use Rattle.rv_store.specs.Layout.{shape_at};
+ghost use Rattle.rv_store.specs.Program.{Program, statement_at};
+ghost use Rattle.rv_store.specs.Uses.{is_sized};
+
+use crate::line::Line;
+use rv_layout::{Consts, Measured, measure};
+use rv_stmt::{Label, LabelName};
+use rv_text::Count;
+
+// Whether two labels define the same.
+fn is_same_name(name: &LabelName, other: &LabelName) -> bool
+    ensures { result ≡ same_name name.now other.now }
+{
+    match (name, other) {
+        (LabelName::Symbol(symbol), LabelName::Symbol(another)) => {
+            symbol.bytes() == another.bytes()
+        }
+        (LabelName::Local(number), LabelName::Local(another)) => number == another,
+        _ => false,
+    }
+}
+
+// Whether the labels of two lines define the same.
+fn are_same_labels(mut labels: &[Label], mut others: &[Label]) -> bool
+    ensures { result ≡ same_labels labels.entry.now others.entry.now }
+{
+    while let [label, rest @ ..] = labels {
+        let [other, later @ ..] = others else {
+            return false;
+        };
+        if !is_same_name(&label.name, &other.name) {
+            return false;
+        }
+        labels = rest;
+        others = later;
+    }
+    others.is_empty()
+}
+
+// Whether two lines have the same labels and define no more. Most lines have none.
+fn defines_same(former: &Line, line: &Line) -> bool
+    ensures { IsTrue result → DefinesSame (statement_of former.now) (statement_of line.now) }
+{
+    let before = former.brief();
+    let after = line.brief();
+    if before.equ || before.pcrel_high || after.equ || after.pcrel_high {
+        return false;
+    }
+    if !before.labels && !after.labels {
+        return true;
+    }
+    are_same_labels(
+        line.stmt().labels.as_slice(),
+        former.stmt().labels.as_slice(),
+    )
+}
+
+// No name is a constant.
+#[derive(Drop)]
+struct NoConstants;
+
+impl Consts for NoConstants {
+    ghost constant_of = { λ c name. None };
+
+    fn constant(&self, _name: &[u8]) -> Option<i64> {
+        None
+    }
+}
+
+/// The shape of a line that follows from no constant. Nothing is counted.
+pub fn unsized_shape<C: Count>(line: &Line, counter: &mut C) -> Measured
+    requires size { is_sized (statement_of line.now).body ≡ false }
+    requires valued { C.valued_count counter.old < 2 ^ 64 - 1 }
+    ensures shape { (program : Program) (k : ℕ) → result ≡ shape_of (constant_of program k) (statement_of line.now).body }
+    ensures parsed { C.parsed_count counter.new ≡ C.parsed_count counter.old }
+    ensures valued { C.valued_count counter.new ≡ C.valued_count counter.old }
+    ensures encoded { C.encoded_count counter.new ≡ C.encoded_count counter.old }
+{
+    line.data_are_few();
+    measure(line.stmt(), &NoConstants, counter)
+}
+
+/// Whether a line can stand in the place of one that has this shape, and all other lines stay as they are: it defines the
+/// same, and has the same shape, which follows from no constant. Nothing is counted. Other lines may be alike, too.
+pub fn is_alike<C: Count>(former: &Line, shape: Measured, line: &Line, counter: &mut C) -> bool
+    requires valued { C.valued_count counter.old < 2 ^ 64 - 1 }
+    ensures alike { (program : Program) (k : ℕ) → statement_at program k ≡ statement_of former.now → shape ≡ shape_at program k
+        → IsTrue result → IsAlike program k (statement_of line.now) }
+    ensures parsed { C.parsed_count counter.new ≡ C.parsed_count counter.old }
+    ensures valued { C.valued_count counter.new ≡ C.valued_count counter.old }
+    ensures encoded { C.encoded_count counter.new ≡ C.encoded_count counter.old }
+{
+    if line.brief().sized || !defines_same(former, line) {
+        return false;
+    }
+    unsized_shape(line, counter) == shape
+}

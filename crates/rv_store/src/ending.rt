@@ -1,0 +1,221 @@
+//! A line at the end of a text that no other line has to do with.
+
+ghost use Rattle.std.specs.Prelude.{◌≡◌, ℕ, ◌≤◌, ◌<◌, ◌+◌, ◌-◌, ◌^◌, suc, false, [], ◌∷◌, ◌++◌, length, IfOk, IfErr, IfSome, OnOk, OnErr, IsTrue};
+ghost use Rattle.rv_layout.specs.Effects.{layout_of, offset_reached, base_by_layout};
+ghost use Rattle.rv_layout.specs.Places.{sum_below, AreLimited, IsBase};
+ghost use Rattle.rv_layout.specs.Sections.{sections};
+ghost use Rattle.rv_stmt.specs.Statement.{statement_of};
+ghost use Rattle.rv_store.specs.declared.limits.TheConstants.{MAX_LINES};
+ghost use Rattle.rv_store.specs.Appended.{IsBare, IsEnding, AreExtended, BeginAs, AreSameRows};
+ghost use Rattle.rv_store.specs.Briefs.{brief_of};
+ghost use Rattle.rv_store.specs.Ends.{place_by_shapes};
+ghost use Rattle.rv_store.specs.Items.{IsItemAdded};
+ghost use Rattle.rv_store.specs.Program.{program_of, body_at};
+ghost use Rattle.rv_store.specs.Rows.{AreShapes};
+ghost use Rattle.rv_store.specs.Surveys.{IsSurvey};
+ghost use Rattle.rv_store.specs.Uses.{is_sized};
+ghost use Rattle.rv_store.specs.Work.{value_operands};
+
+use crate::alike::unsized_shape;
+use crate::changed::Changed;
+use crate::edit_error::EditError;
+use crate::ends::Ends;
+use crate::item::Item;
+use crate::line::Line;
+use crate::names::NameTable;
+use crate::places::next_place;
+use crate::replacement::item_of_line;
+use crate::survey::Survey;
+use rv_expr::ValueFault;
+use rv_layout::{Layout, Measured, bases, layouts_tell_places, shapes_are_limited};
+use rv_list::LinePlace;
+use rv_text::Count;
+use rv_tree::SumTree;
+use std::alloc::{AllocError, Global};
+
+/// What a line adds at the end of a text.
+#[derive(Clone, Copy)]
+pub struct Ending {
+    /// Its shape.
+    pub shape: Measured,
+    /// The layout of all lines with it.
+    pub total: Layout,
+    /// Where it lies.
+    pub place: LinePlace,
+}
+
+// Whether a line defines nothing, and no operand is computed for its shape.
+fn is_bare(line: &Line) -> bool
+    ensures bare { IsTrue result → IsBare (statement_of line.now) }
+    ensures no_size { IsTrue result → is_sized (statement_of line.now).body ≡ false }
+{
+    let brief = line.brief();
+    !brief.labels & !brief.equ & !brief.pcrel_high & !brief.sized
+}
+
+// Whether all sections begin where they began before lines were added.
+fn stay_sections(base: u32, before: &Layout, total: &Layout) -> bool
+    requires base { IsBase base }
+    requires ends_before { sum_below (offset_reached before.now) sections ≤ 2 ^ 30 }
+    requires ends { sum_below (offset_reached total.now) sections ≤ 2 ^ 30 }
+    ensures { IsTrue result → (t : ℕ) → t < sections → base_by_layout base total.now t ≡ base_by_layout base before.now t }
+{
+    bases(total, base) == bases(before, base)
+}
+
+// Where the line lies.
+fn place_at_end(base: u32, survey: &Survey, total: &Layout, shape: &Measured) -> LinePlace
+    requires base { IsBase base }
+    requires few { length survey.now.shapes.items < MAX_LINES }
+    requires limited { AreLimited (survey.now.shapes.items ++ shape.now ∷ []) }
+    requires before { survey.now.total ≡ layout_of survey.now.shapes.items }
+    requires total { total.now ≡ layout_of (survey.now.shapes.items ++ shape.now ∷ []) }
+    ensures { result ≡ place_by_shapes base (survey.now.shapes.items ++ shape.now ∷ []) (suc (length survey.now.shapes.items)) }
+{
+    layouts_tell_places();
+    next_place(&bases(total, base), &Ends::reached(&survey.total), shape)
+}
+
+/// What a line adds at the end of a text, if no other line has to do with it: it defines nothing, no operand is computed for
+/// its shape, and no section moves by it.
+pub fn bare_ending<C: Count>(
+    base: u32,
+    survey: &Survey,
+    line: &Line,
+    counter: &mut C,
+) -> Option<Ending>
+    requires base { IsBase base }
+    requires shapes { AreShapes (program_of survey.now.lines.items) survey.now.shapes.items }
+    requires limited { AreLimited survey.now.shapes.items }
+    requires total { survey.now.total ≡ layout_of survey.now.shapes.items }
+    requires few { length survey.now.lines.items < MAX_LINES }
+    requires valued { C.valued_count counter.old < 2 ^ 64 - 1 }
+    ensures ending { IfSome result (IsEnding base (program_of survey.now.lines.items) (statement_of line.now)) }
+    ensures parsed { C.parsed_count counter.new ≡ C.parsed_count counter.old }
+    ensures valued { C.valued_count counter.new ≡ C.valued_count counter.old }
+    ensures encoded { C.encoded_count counter.new ≡ C.encoded_count counter.old }
+{
+    if !is_bare(line) {
+        return None;
+    }
+    line.data_are_few();
+    shapes_are_limited();
+    layouts_tell_places();
+    let shape = unsized_shape(line, counter);
+    let total = survey.total.then(&shape);
+    if !stay_sections(base, &survey.total, &total) {
+        return None;
+    }
+    let place = place_at_end(base, survey, &total, &shape);
+    Some(Ending {
+        shape,
+        total,
+        place,
+    })
+}
+
+impl Survey {
+    /// Adds a line at the end. Where there is no memory for that, some rows have one entry more.
+    pub fn push(&mut self, line: Line, end: &Ending) -> Result<(), AllocError>
+        requires few { length self.old.lines.items < MAX_LINES }
+        requires shapes { length self.old.shapes.items ≡ length self.old.lines.items }
+        requires places { length self.old.places.items ≡ length self.old.lines.items }
+        requires highs { length self.old.highs.items ≡ length self.old.lines.items }
+        requires paired_highs { length self.old.paired_highs.items ≡ length self.old.lines.items }
+        ensures ok { OnOk result (AreExtended line end.now self.old self.new) }
+        ensures err { OnErr result (BeginAs (length self.old.lines.items) self.old self.new) }
+    {
+        self.lines.push(line)?;
+        self.shapes.push(end.shape)?;
+        self.places.push(end.place)?;
+        self.highs.push(Err(ValueFault::NoPartner))?;
+        self.paired_highs.push(Err(ValueFault::NoPartner))?;
+        self.total = end.total;
+        Ok(())
+    }
+
+    /// Takes back what was added after the first lines, whose layout is `total`.
+    pub fn shorten(&mut self, count: usize, total: Layout)
+        ensures rows { (old : Survey) → old.total ≡ total → BeginAs count old self.old → AreSameRows old self.new }
+    {
+        self.lines.truncate(count);
+        self.shapes.truncate(count);
+        self.places.truncate(count);
+        self.highs.truncate(count);
+        self.paired_highs.truncate(count);
+        self.total = total;
+    }
+}
+
+// The items of a text with that of its last line, which is made by the survey of the text.
+fn with_last_item<C: Count>(
+    alloc: Global,
+    base: u32,
+    names: &NameTable,
+    survey: &Survey,
+    items: &SumTree<Item>,
+    counter: &mut C,
+) -> Result<SumTree<Item>, EditError>
+    requires survey { IsSurvey base (program_of survey.now.lines.items) names.now survey.now }
+    requires few { length survey.now.lines.items ≤ MAX_LINES }
+    requires count { length items.now.items + 1 ≡ length survey.now.lines.items }
+    requires valued { C.valued_count counter.old ≤ 2 ^ 63 }
+    requires encoded { C.encoded_count counter.old ≤ 2 ^ 63 }
+    ensures items { IfOk result (λ t. IsItemAdded base survey.now.lines.items items.now.items t.items) }
+    ensures memory { IfErr result (λ e. e ≡ EditError.Memory) }
+    ensures parsed { C.parsed_count counter.new ≡ C.parsed_count counter.old }
+    ensures valued_least { C.valued_count counter.old ≤ C.valued_count counter.new }
+    ensures valued_most { C.valued_count counter.new ≤ C.valued_count counter.old + value_operands (body_at (program_of survey.now.lines.items) (length survey.now.lines.items)) }
+    ensures valued_few { C.valued_count counter.new ≤ C.valued_count counter.old + 1000 }
+    ensures encoded_least { C.encoded_count counter.old ≤ C.encoded_count counter.new }
+    ensures encoded_most { C.encoded_count counter.new ≤ C.encoded_count counter.old + 1 }
+{
+    let rows = survey.rows(base, names);
+    let last = survey.lines.len() as u32;
+    let item = item_of_line(alloc, &rows, last, counter)?;
+    Ok(items.inserted(last, item)?)
+}
+
+/// Adds a line at the end of a text, with which no other line has to do, and makes its item, by the survey of the text. The
+/// report is that this line is new.
+///
+/// The counter's number of expressions computed rises by at most the operands of the line, and its number of lines encoded by
+/// at most one, whatever the outcome.
+///
+/// # Errors
+///
+/// `Memory` if there was no memory for what is kept; the rows of the lines before it are as they were.
+pub fn appended<C: Count>(
+    alloc: Global,
+    base: u32,
+    names: &NameTable,
+    survey: &mut Survey,
+    items: &SumTree<Item>,
+    line: Line,
+    end: &Ending,
+    counter: &mut C,
+) -> Result<(SumTree<Item>, Changed), EditError>
+    requires survey { IsSurvey base (program_of survey.old.lines.items) names.now survey.old }
+    requires ending { IsEnding base (program_of survey.old.lines.items) (statement_of line) end.now }
+    requires few { length survey.old.lines.items < MAX_LINES }
+    requires count { length items.now.items ≡ length survey.old.lines.items }
+    requires valued { C.valued_count counter.old ≤ 2 ^ 63 }
+    requires encoded { C.encoded_count counter.old ≤ 2 ^ 63 }
+    ensures ok { OnOk result (AreExtended line end.now survey.old survey.new) }
+    ensures err { OnErr result (BeginAs (length survey.old.lines.items) survey.old survey.new) }
+    ensures items { IfOk result (λ r. IsItemAdded base (survey.old.lines.items ++ line ∷ []) items.now.items r.0.items) }
+    ensures changed { IfOk result (λ r. r.1.lines ≡ (length survey.old.lines.items + 1) ∷ []) }
+    ensures memory { IfErr result (λ e. e ≡ EditError.Memory) }
+    ensures parsed { C.parsed_count counter.new ≡ C.parsed_count counter.old }
+    ensures valued_least { C.valued_count counter.old ≤ C.valued_count counter.new }
+    ensures valued_most { C.valued_count counter.new ≤ C.valued_count counter.old + value_operands (statement_of line).body }
+    ensures valued_few { C.valued_count counter.new ≤ C.valued_count counter.old + 1000 }
+    ensures encoded_least { C.encoded_count counter.old ≤ C.encoded_count counter.new }
+    ensures encoded_most { C.encoded_count counter.new ≤ C.encoded_count counter.old + 1 }
+{
+    let mut numbers = Vec::new(alloc);
+    numbers.push(survey.lines.len() as u32 + 1)?;
+    survey.push(line, end)?;
+    let items = with_last_item(alloc, base, names, survey, items, counter)?;
+    Ok((items, Changed::of(numbers)))
+}

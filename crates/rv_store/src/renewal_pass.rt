@@ -1,0 +1,130 @@
+//! The pass over all items of a text after an edit that makes anew those of the lines that the edit invalidates.
+
+ghost use Rattle.std.specs.Prelude.{◌≡◌, ◌≤◌, ◌<◌, ◌+◌, ◌-◌, ◌*◌, ◌^◌, ℕ, suc, [], true, false, length, None, IfOk, IfErr, IfSome};
+ghost use Rattle.rv_store.specs.Before.{IsBefore, IsAfter, base_before, lines_before, edit_on};
+ghost use Rattle.rv_store.specs.Changes.{is_invalidated};
+ghost use Rattle.rv_store.specs.Counted.{counts_of};
+ghost use Rattle.rv_store.specs.Former.{AreFormer};
+ghost use Rattle.rv_store.specs.Items.{AreItems};
+ghost use Rattle.rv_store.specs.Program.{lines_that, lines_ahead};
+ghost use Rattle.rv_store.specs.Renewals.{changed_through, AreCounted, AreListed, AreLeft, IsAheadNext, IsRenewed};
+ghost use Rattle.rv_store.specs.ValueRows.{AreValueRows, base_of};
+
+use crate::before::Before;
+use crate::item::Item;
+use crate::line_sum::LineSum;
+use crate::renewed_line::{add_changed, renewed};
+use crate::value_rows::ValueRows;
+use rv_text::Count;
+use rv_tree::{Pass, SumTree, TreeError};
+use std::alloc::{AllocError, Global};
+
+// Skips no line.
+#[derive(Drop)]
+struct Renewal<'a, 'e, C: Count> {
+    alloc: Global,
+    before: &'a Before<'a, 'e>,
+    rows: &'a ValueRows<'a>,
+    // The lines ahead that the edit invalidates.
+    ahead: &'a [u32],
+    // The lines that have another code, so far.
+    changed: &'a mut Vec<u32>,
+    counter: &'a mut C,
+}
+
+// The lines behind line `k + 1` that an edit invalidates, if it invalidates that line; `ahead` are those behind line `k`.
+fn ahead_of_next<'a>(before: &Before<'_, '_>, ahead: &'a [u32], k: u32) -> Option<&'a [u32]>
+    requires ahead { (m : ℕ) × (ahead.now ≡ lines_ahead (is_invalidated (base_before before.now) (lines_before before.now) (edit_on before.now)) k (suc m)) }
+    requires last { k < 2 ^ 32 - 1 }
+    ensures invalidated { IfSome result (λ later. is_invalidated (base_before before.now) (lines_before before.now) (edit_on before.now) (k + 1) ≡ true) }
+    ensures later { IfSome result (λ later. IsAheadNext before.now k ahead.now later.now) }
+    ensures none { result ≡ None → is_invalidated (base_before before.now) (lines_before before.now) (edit_on before.now) (k + 1) ≡ false }
+{
+    let [line, later @ ..] = ahead else {
+        return None;
+    };
+    if *line != k + 1 {
+        return None;
+    }
+    Some(later)
+}
+
+impl<'a, 'e, C: Count> Pass<Item> for Renewal<'a, 'e, C> {
+    ghost accepts = { λ p b xs. AreLeft p.before.now p.rows.now p.ahead.now b xs (counts_of C.parsed_count C.valued_count C.encoded_count p.counter.now) };
+
+    ghost gives = { λ p b x y q. IsRenewed p.rows.now b y × (q.before.now ≡ p.before.now) × (q.rows.now ≡ p.rows.now)
+        × AreCounted p.before.now b.count (b.count + 1) (counts_of C.parsed_count C.valued_count C.encoded_count p.counter.now) (counts_of C.parsed_count C.valued_count C.encoded_count q.counter.now)
+        × AreListed p.before.now b.count (b.count + 1) p.changed.now.items q.changed.now.items
+        × (q.changed.ghost_name ≡ p.changed.ghost_name)
+        × (q.counter.ghost_name ≡ p.counter.ghost_name)
+        × IsAheadNext p.before.now b.count p.ahead.now q.ahead.now };
+
+    ghost refuses = { λ p b x q. (q.before.now ≡ p.before.now)
+        × AreCounted p.before.now b.count (b.count + 1) (counts_of C.parsed_count C.valued_count C.encoded_count p.counter.now) (counts_of C.parsed_count C.valued_count C.encoded_count q.counter.now)
+        × (q.changed.ghost_name ≡ p.changed.ghost_name)
+        × (q.counter.ghost_name ≡ p.counter.ghost_name) };
+
+    ghost keeps = { λ p b s. ⊥ };
+
+    fn visit(&mut self, before: &LineSum, item: &Item) -> Result<Option<Item>, AllocError> {
+        let Some(ahead) = ahead_of_next(self.before, self.ahead, before.count) else {
+            return Ok(None);
+        };
+        self.ahead = ahead;
+        let line = before.count + 1;
+        match renewed(self.alloc, self.before, self.rows, line, item, self.counter) {
+            Ok(Some(new)) => {
+                add_changed(self.before, line, item, &new, self.changed)?;
+                Ok(Some(new))
+            }
+            Ok(None) => Ok(None),
+            Err(_) => Err(AllocError),
+        }
+    }
+
+    fn skips(&self, before: &LineSum, sum: &LineSum) -> bool {
+        false
+    }
+
+    ghost use Rattle.rv_store.specs.Renewals.{left-next};
+
+    ghost accepts_rest = { λ p q b x y xs c g. left-next p.before.now q.before.now p.rows.now q.rows.now _ _ b x y xs _ _ c g.1 g.2 g.3 g.7 };
+
+    ghost kept = { λ p b xs n v a k. absurd k };
+}
+
+/// The items of a text after an edit, those of these lines made anew, which are those that the edit invalidates: one pass over
+/// the tree. It is as for `renewed_items`.
+pub fn renewed_in_one_pass<C: Count>(
+    alloc: Global,
+    before: &Before<'_, '_>,
+    rows: &ValueRows<'_>,
+    items: &SumTree<Item>,
+    invalidated: &[u32],
+    changed: &mut Vec<u32>,
+    counter: &mut C,
+) -> Result<SumTree<Item>, TreeError>
+    requires before { IsBefore before.now }
+    requires rows { AreValueRows rows.now }
+    requires after { IsAfter before.now rows.now.symbols.text }
+    requires invalidated { invalidated.now ≡ lines_that (is_invalidated (base_before before.now) (lines_before before.now) (edit_on before.now)) (length rows.now.symbols.text.lines.now) }
+    requires count { length items.now.items ≡ length rows.now.symbols.text.lines.now }
+    requires former { AreFormer (base_before before.now) (lines_before before.now) (edit_on before.now) 0 items.now.items }
+    requires changed { changed.old.items ≡ [] }
+    requires valued { C.valued_count counter.old + 1000 * length rows.now.symbols.text.lines.now < 2 ^ 64 }
+    requires encoded { C.encoded_count counter.old + length rows.now.symbols.text.lines.now < 2 ^ 64 }
+    ensures memory { IfErr result (λ e. e ≡ TreeError.Memory) }
+    ensures items { IfOk result (λ t. AreItems (base_of rows.now) rows.now.symbols.text.lines.now t.items) }
+    ensures changed { IfOk result (λ _. changed.new.items ≡ changed_through before.now (length rows.now.symbols.text.lines.now)) }
+    ensures counted { AreCounted before.now 0 (length rows.now.symbols.text.lines.now) (counts_of C.parsed_count C.valued_count C.encoded_count counter.old) (counts_of C.parsed_count C.valued_count C.encoded_count counter.new) }
+{
+    let mut pass = Renewal {
+        alloc,
+        before,
+        rows,
+        ahead: invalidated,
+        changed,
+        counter,
+    };
+    items.rewritten(&mut pass)
+}

@@ -1,0 +1,95 @@
+//! Replacing a line by one that it is alike: only that line is made anew.
+
+ghost use Rattle.std.specs.Prelude.{◌≡◌, ◌≤◌, ◌+◌, ◌^◌, [], ◌∷◌, length, IfOk, IfErr};
+ghost use Rattle.rv_store.specs.declared.limits.TheConstants.{MAX_LINES};
+ghost use Rattle.rv_store.specs.Items.{IsItem, IsItemPut};
+ghost use Rattle.rv_store.specs.Program.{program_of, body_at};
+ghost use Rattle.rv_store.specs.Surveys.{IsSurvey};
+ghost use Rattle.rv_store.specs.ValueRows.{AreValueRows, base_of, body_in};
+ghost use Rattle.rv_store.specs.Work.{value_operands};
+
+use crate::changed::Changed;
+use crate::edit_error::EditError;
+use crate::item::Item;
+use crate::names::NameTable;
+use crate::survey::Survey;
+use crate::text_lines::operands_are_few_on;
+use crate::value_rows::{ValueRows, shape_on};
+use rv_text::Count;
+use rv_tree::SumTree;
+use std::alloc::Global;
+use std::rc::Rc;
+
+/// A line with all that is kept of it, by the rows of its text.
+pub fn item_of_line<C: Count>(
+    alloc: Global,
+    rows: &ValueRows<'_>,
+    line: u32,
+    counter: &mut C,
+) -> Result<Item, EditError>
+    requires rows { AreValueRows rows.now }
+    requires few { length rows.now.symbols.text.lines.now ≤ MAX_LINES }
+    requires first { 1 ≤ line }
+    requires last { line ≤ length rows.now.symbols.text.lines.now }
+    requires valued { C.valued_count counter.old ≤ 2 ^ 63 }
+    requires encoded { C.encoded_count counter.old ≤ 2 ^ 63 }
+    ensures item { IfOk result (λ item. IsItem (base_of rows.now) rows.now.symbols.text.lines.now line item) }
+    ensures memory { IfErr result (λ e. e ≡ EditError.Memory) }
+    ensures parsed { C.parsed_count counter.new ≡ C.parsed_count counter.old }
+    ensures valued_least { C.valued_count counter.old ≤ C.valued_count counter.new }
+    ensures valued_most { C.valued_count counter.new ≤ C.valued_count counter.old + value_operands (body_in rows.now line) }
+    ensures valued_few { C.valued_count counter.new ≤ C.valued_count counter.old + 1000 }
+    ensures encoded_least { C.encoded_count counter.old ≤ C.encoded_count counter.new }
+    ensures encoded_most { C.encoded_count counter.new ≤ C.encoded_count counter.old + 1 }
+{
+    operands_are_few_on(&rows.symbols.text, line);
+    let values = rows.values(alloc, line, counter)?;
+    let code = rows.code(alloc, line, &values, counter)?;
+    Ok(Item {
+        line: rows.symbols.text.lines[line as usize - 1].share()?,
+        shape: shape_on(rows, line),
+        values: Rc::new(alloc, values)?,
+        code: Rc::new(alloc, code)?,
+    })
+}
+
+/// The items of a text with that of line `k` made anew, by the survey of the text, and the report that this line is new.
+///
+/// The counter's number of expressions computed rises by at most the operands of the line, and its number of lines encoded by
+/// at most one, whatever the outcome.
+///
+/// # Errors
+///
+/// `Memory` if there was no memory for what is kept.
+pub fn item_replaced<C: Count>(
+    alloc: Global,
+    base: u32,
+    names: &NameTable,
+    survey: &Survey,
+    items: &SumTree<Item>,
+    k: u32,
+    counter: &mut C,
+) -> Result<(SumTree<Item>, Changed), EditError>
+    requires survey { IsSurvey base (program_of survey.now.lines.items) names.now survey.now }
+    requires few { length survey.now.lines.items ≤ MAX_LINES }
+    requires count { length items.now.items ≡ length survey.now.lines.items }
+    requires first { 1 ≤ k }
+    requires last { k ≤ length survey.now.lines.items }
+    requires valued { C.valued_count counter.old ≤ 2 ^ 63 }
+    requires encoded { C.encoded_count counter.old ≤ 2 ^ 63 }
+    ensures items { IfOk result (λ r. IsItemPut base survey.now.lines.items k items.now.items r.0.items) }
+    ensures changed { IfOk result (λ r. r.1.lines ≡ k ∷ []) }
+    ensures memory { IfErr result (λ e. e ≡ EditError.Memory) }
+    ensures parsed { C.parsed_count counter.new ≡ C.parsed_count counter.old }
+    ensures valued_least { C.valued_count counter.old ≤ C.valued_count counter.new }
+    ensures valued_most { C.valued_count counter.new ≤ C.valued_count counter.old + value_operands (body_at (program_of survey.now.lines.items) k) }
+    ensures valued_few { C.valued_count counter.new ≤ C.valued_count counter.old + 1000 }
+    ensures encoded_least { C.encoded_count counter.old ≤ C.encoded_count counter.new }
+    ensures encoded_most { C.encoded_count counter.new ≤ C.encoded_count counter.old + 1 }
+{
+    let rows = survey.rows(base, names);
+    let item = item_of_line(alloc, &rows, k, counter)?;
+    let mut numbers = Vec::new(alloc);
+    numbers.push(k)?;
+    Ok((items.replaced(k, item)?, Changed::of(numbers)))
+}
