@@ -7,6 +7,8 @@ mod edits;
 #[cfg(test)]
 mod images;
 #[cfg(test)]
+mod limits;
+#[cfg(test)]
 mod lines;
 #[cfg(test)]
 mod reports;

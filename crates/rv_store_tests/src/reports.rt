@@ -166,6 +166,32 @@ fn lines_that_only_move_stay(rt: HostRuntime) -> Result<(), Fail> {
 }
 
 #[test]
+fn lines_alike_are_replaced(rt: HostRuntime) -> Result<(), Fail> {
+    let text = "x: addi a0, a0, 1\nbeq a0, a1, x\nj y\ny: nop\n1: j 1b";
+    let edits = [
+        // An operand, a remark, and a branch to another label.
+        (
+            Edit::Replace(1, "x: addi a0, a0, 2"),
+            Report::of(&[1], 1, 2, 1),
+        ),
+        (Edit::Replace(4, "y: nop # here"), Report::of(&[4], 1, 0, 1)),
+        (Edit::Replace(2, "bne a0, a1, y"), Report::of(&[2], 1, 2, 1)),
+        // Another label, and then another size.
+        (
+            Edit::Replace(1, "y: addi a0, a0, 2"),
+            Report::of(&[1, 2, 3], 1, 8, 3),
+        ),
+        (
+            Edit::Replace(1, "y: .word 1, 2"),
+            Report::of(&[1, 2, 3], 1, 10, 3),
+        ),
+        // Another local label.
+        (Edit::Replace(5, "2: j 1b"), Report::of(&[5], 1, 2, 1)),
+    ];
+    are_reported(&rt, rt.alloc(), text, &edits)
+}
+
+#[test]
 fn refused_edits_count_nothing(rt: HostRuntime) -> Result<(), Fail> {
     let edits = [
         (Edit::Insert(3, "nop"), Report::refused(EditError::Place)),

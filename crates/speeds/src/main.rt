@@ -2,7 +2,9 @@
 //! and lines to assemble, after a line break; or `rows` and bytes to disassemble, after a line break.
 #![tactic(auto)]
 
+mod edits;
 mod lines;
+mod mixed;
 mod rows;
 mod store;
 mod texts;
@@ -30,7 +32,7 @@ fn main(rt: HostRuntime) -> Result<(), Fail> {
         return store::measure(&rt, count);
     }
     if let Some(count) = count_after(input, b"text ") {
-        return store::print_text(&rt, count);
+        return mixed::print(&rt, count);
     }
     if let Some(text) = input.strip_prefix(b"lines\n".as_slice()) {
         return lines::measure(&rt, text);

@@ -51,7 +51,7 @@ fn time_text(rt: &HostRuntime, store: &Store, text: Text, times: &mut Times) -> 
 }
 
 /// Prints how long it takes to write each of the texts to memory, in nanoseconds.
-pub fn measure_texts(rt: &HostRuntime, store: &Store) -> Result<(), Fail> {
+pub fn measure(rt: &HostRuntime, store: &Store) -> Result<(), Fail> {
     for (name, text) in TEXTS {
         let mut times = Times::new(rt.alloc());
         for _ in 0..ROUNDS {

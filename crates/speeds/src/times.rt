@@ -24,6 +24,15 @@ impl Times {
         Ok(())
     }
 
+    /// Prints the median and the longest.
+    pub fn print_with_worst(&self, rt: &HostRuntime, name: &str) -> Result<(), Fail> {
+        let median = self.rounds.get(self.rounds.len() / 2);
+        if let (Some(median), Some(worst)) = (median, self.rounds.last()) {
+            println!(rt; "{name}: {median} ns, at worst {worst} ns")?;
+        }
+        Ok(())
+    }
+
     /// Prints the median.
     pub fn print(&self, rt: &HostRuntime, name: &str) -> Result<(), Fail> {
         if let Some(time) = self.rounds.get(self.rounds.len() / 2) {
