@@ -1,129 +1,153 @@
-//! Edits of mixed lines.
+//! Random edits.
+
+ghost use Rattle.std.specs.Prelude.{◌≡◌};
 
 use crate::generator::Random;
-use rv_store::{Changed, EditError, Store};
+use crate::lines::random_line;
+use crate::task::Task;
+use rv_store::{Changed, EditError, MAX_LINE_LENGTH, MAX_LINES, Store};
 use rv_text::Tally;
 use std::alloc::{AllocError, Global};
 
-// Lines, in which `@` stands for a number of a name.
-const LINES: [&str; 40] = [
-    "l@: addi a0, a0, 1",
-    "l@:",
-    "l@: .word 1, 2",
-    "nop",
-    "c.nop",
-    "add a4, a3, a2",
-    "lw a2, 8(sp)",
-    "j l@",
-    "c.j l@",
-    "beq a0, a1, l@",
-    "c.beqz a0, l@",
-    "call l@",
-    "la a0, l@",
-    "lw a0, l@",
-    "sw a1, l@, t0",
-    "lui a0, %hi(l@)",
-    "addi a0, a0, %lo(l@)",
-    "h@: auipc a0, %pcrel_hi(l@)",
-    "addi a0, a0, %pcrel_lo(h@)",
-    "sw a1, %pcrel_lo(1b)(a0)",
-    "1: auipc a0, %pcrel_hi(c@)",
-    "1:",
-    "2: j 1f",
-    "bnez a0, 1b",
-    "j 2b + 4",
-    "j .",
-    ".equ c@, 5000",
-    ".equ c@, 4",
-    ".equ c@, c1 + 1",
-    ".equ c@, l@ - l1",
-    "li a0, c@",
-    "li a0, 0x12345678",
-    "addi a0, a0, c@",
-    ".space c@ & 15",
-    ".align 2",
-    ".balign 16",
-    ".byte 1, l@ - .",
-    ".word l@, c@",
-    ".data",
-    ".text",
-];
-
-#[derive(Clone, Copy)]
-enum Kind {
+/// What is done with a line.
+#[derive(Clone, Copy, Debug)]
+pub enum Kind {
+    /// It becomes the line with that number.
     Insert,
+    /// The line with that number goes.
     Delete,
+    /// It takes the place of the line with that number.
     Replace,
 }
 
-/// An edit, which `kind` names, of line number `place`.
+/// An edit of one line.
 #[derive(Drop)]
 pub struct Edit {
     kind: Kind,
     place: u32,
-    line: String,
+    line: Vec<u8>,
 }
 
-// A line. There are half as many names as lines.
-fn random_line(alloc: Global, random: &mut Random, count: u32) -> Result<String, AllocError> {
-    let name = format!(in alloc; "{}", random.below(count / 2 + 2))?;
-    let form = random.below(LINES.len() as u32) as usize;
-    match LINES.get(form) {
-        Some(form) => form.replace(alloc, "@", name.as_str()),
-        None => Ok(name),
-    }
-}
-
-// Of a text of `len` lines, which has `count` in the end.
+// Of a text of `len` lines, which has `count` in the end. A full text is asked to take more.
 fn random_kind(random: &mut Random, len: u32, count: u32) -> Kind {
     if len < count / 2 + 1 {
         return Kind::Insert;
     }
     match random.below(4) {
         0 => Kind::Delete,
-        1 if len < count => Kind::Insert,
+        1 if len < count || len as usize >= MAX_LINES => Kind::Insert,
         _ => Kind::Replace,
     }
 }
 
+// One of so many places, and where the text is hostile seldom another.
+fn random_place(random: &mut Random, places: u32, is_hostile: bool) -> u32 {
+    let place = random.below(places).saturating_add(1);
+    if !is_hostile {
+        return place;
+    }
+    match random.below(64) {
+        0 => 0,
+        1 => places.saturating_add(1),
+        2 => places.saturating_add(random.below(u32::MAX)),
+        3 => 1,
+        4 => places,
+        _ => place,
+    }
+}
+
 impl Edit {
-    /// An edit of a text of `len` lines, which has about `count`.
+    /// An edit of a text of `len` lines.
     pub fn random(
         alloc: Global,
         random: &mut Random,
         len: u32,
-        count: u32,
+        task: Task,
     ) -> Result<Edit, AllocError> {
-        let kind = random_kind(random, len, count);
+        let kind = random_kind(random, len, task.lines);
         let places = match kind {
             Kind::Insert => len.saturating_add(1),
             Kind::Delete | Kind::Replace => len,
         };
         Ok(Edit {
             kind,
-            place: random.below(places).saturating_add(1),
-            line: random_line(alloc, random, count)?,
+            place: random_place(random, places, task.is_hostile),
+            line: random_line(alloc, random, task.lines, task.is_hostile)?,
         })
     }
 
-    /// Makes it.
-    pub fn make(&self, store: &mut Store) -> Result<Changed, EditError> {
-        let mut tally = Tally::new();
-        let line = self.line.as_bytes();
+    /// One line more after `len` lines.
+    pub fn append(
+        alloc: Global,
+        random: &mut Random,
+        len: u32,
+        task: Task,
+    ) -> Result<Edit, AllocError> {
+        Ok(Edit {
+            kind: Kind::Insert,
+            place: len.saturating_add(1),
+            line: random_line(alloc, random, task.lines, false)?,
+        })
+    }
+
+    /// What is done.
+    pub fn kind(&self) -> Kind {
+        self.kind
+    }
+
+    /// The number of the line.
+    pub fn place(&self) -> u32 {
+        self.place
+    }
+
+    /// The line that is put in, where one is.
+    pub fn line(&self) -> &[u8] {
+        self.line.as_slice()
+    }
+
+    // Whether a text of `len` lines has such a place.
+    fn has_place(&self, len: usize) -> bool {
+        let places = match self.kind {
+            Kind::Insert => len.saturating_add(1),
+            Kind::Delete | Kind::Replace => len,
+        };
+        self.place >= 1 && self.place as usize <= places
+    }
+
+    // Whether no text may have this line.
+    fn has_wrong_line(&self) -> bool {
+        self.line.len() > MAX_LINE_LENGTH || self.line.iter().any(|byte| *byte == b'\n')
+    }
+
+    /// Why a text of `len` lines refuses it, whatever the memory.
+    pub fn refusal(&self, len: usize) -> Option<EditError> {
+        if !self.has_place(len) {
+            return Some(EditError::Place);
+        }
         match self.kind {
-            Kind::Insert => store.insert(self.place, line, &mut tally),
-            Kind::Delete => store.delete(self.place, &mut tally),
-            Kind::Replace => store.replace(self.place, line, &mut tally),
+            Kind::Insert | Kind::Replace if self.has_wrong_line() => Some(EditError::Line),
+            Kind::Insert if len >= MAX_LINES => Some(EditError::TooMany),
+            _ => None,
         }
     }
 
-    /// Where a line of the text after it stood before it, if it is not the line that was put in.
-    pub fn line_before(&self, line: u32) -> Option<u32> {
+    /// How many lines are read where it is made.
+    pub fn lines_read(&self) -> u64 {
         match self.kind {
-            Kind::Insert | Kind::Replace if line == self.place => None,
-            Kind::Insert if line > self.place => line.checked_sub(1),
-            Kind::Delete if line >= self.place => line.checked_add(1),
-            _ => Some(line),
+            Kind::Insert | Kind::Replace => 1,
+            Kind::Delete => 0,
+        }
+    }
+
+    /// Makes it.
+    pub fn make(&self, store: &mut Store, tally: &mut Tally) -> Result<Changed, EditError>
+        requires { tally.old ≡ record { parsed = 0; valued = 0; encoded = 0 } }
+    {
+        let line = self.line.as_slice();
+        match self.kind {
+            Kind::Insert => store.insert(self.place, line, tally),
+            Kind::Delete => store.delete(self.place, tally),
+            Kind::Replace => store.replace(self.place, line, tally),
         }
     }
 }

@@ -30,4 +30,14 @@ impl Random {
             None => 0,
         }
     }
+
+    /// A byte.
+    pub fn byte(&mut self) -> u8 {
+        (self.next() % 256) as u8
+    }
+
+    /// A place in a list of this length, or 0 where there is none.
+    pub fn place(&mut self, length: usize) -> usize {
+        self.below(u32::try_from(length).unwrap_or(u32::MAX)) as usize
+    }
 }

@@ -1,54 +1,59 @@
-//! The texts that two stores write.
+//! The texts that a store writes.
 
-ghost use Rattle.std.specs.Prelude.{◌≡◌};
+ghost use Rattle.std.specs.Prelude.{◌≡◌, None};
 
 use rv_list::{ListError, write_faults, write_image, write_listing, write_symbols};
 use rv_store::{EditError, Store};
-use rv_text::{MemSink, Tally};
+use rv_text::{Failed, Sink, Tally};
 use std::alloc::Global;
 use std::test::Fail;
 
-// Room for the longest text.
-const ROOM: usize = 67_108_864;
-
-const TEXTS: [Text; 4] = [Text::Image, Text::Listing, Text::Symbols, Text::Faults];
-
-#[derive(Clone, Copy)]
-enum Text {
-    Image,
-    Listing,
-    Symbols,
-    Faults,
+/// A writer into memory.
+#[derive(Drop)]
+pub struct TextSink {
+    bytes: Vec<u8>,
+    failures: u64,
 }
 
-fn write(store: &Store, sink: &mut MemSink, text: Text) -> Result<(), ListError>
+impl TextSink {
+    /// The bytes that were written.
+    pub fn bytes(&self) -> &[u8] {
+        self.bytes.as_slice()
+    }
+}
+
+impl Sink for TextSink {
+    ghost taken = { λ _. None };
+
+    ghost failures = { λ s. s.failures };
+
+    fn write(&mut self, bytes: &[u8]) -> Result<usize, Failed> {
+        if self.bytes.extend_from_slice(bytes).is_err() {
+            self.failures += 1;
+            return Err(Failed);
+        }
+        Ok(bytes.len())
+    }
+}
+
+// Writes the image, the listing, the symbols and the faults, one after another.
+fn write(store: &Store, sink: &mut TextSink) -> Result<(), ListError>
     requires { sink.old.failures ≡ 0 }
 {
-    match text {
-        Text::Image => write_image(store, sink),
-        Text::Listing => write_listing(store, sink),
-        Text::Symbols => write_symbols(store, sink),
-        Text::Faults => write_faults(store, sink),
-    }
+    write_image(store, sink)?;
+    write_listing(store, sink)?;
+    write_symbols(store, sink)?;
+    write_faults(store, sink)
 }
 
-fn is_same_text(alloc: Global, store: &Store, other: &Store, text: Text) -> Result<bool, Fail> {
-    let mut sink = MemSink::new(alloc, ROOM)?;
-    write(store, &mut sink, text)?;
-    let mut other_sink = MemSink::new(alloc, ROOM)?;
-    write(other, &mut other_sink, text)?;
-    Ok(sink.bytes() == other_sink.bytes())
-}
-
-// How many of the texts of two stores differ.
-fn differing_texts(alloc: Global, store: &Store, other: &Store) -> Result<u32, Fail> {
-    let mut count = 0;
-    for text in TEXTS {
-        if !is_same_text(alloc, store, other, text)? {
-            count = u32::wrapping_add(count, 1);
-        }
-    }
-    Ok(count)
+/// The four texts of a store.
+pub fn texts_of(alloc: Global, store: &Store) -> Result<TextSink, Fail> {
+    let mut sink = TextSink {
+        bytes: Vec::new(alloc),
+        failures: 0,
+    };
+    write(store, &mut sink)?;
+    Ok(sink)
 }
 
 // Puts all lines of a store at the end of another.
@@ -62,9 +67,9 @@ fn append_lines(store: &Store, other: &mut Store) -> Result<(), EditError> {
     Ok(())
 }
 
-/// How many of the four texts of a store differ from those of one that is made anew, line by line.
-pub fn differences(alloc: Global, base: u32, store: &Store) -> Result<u32, Fail> {
+/// The four texts of a store that is made anew, line by line, of the lines of another.
+pub fn texts_anew(alloc: Global, base: u32, store: &Store) -> Result<TextSink, Fail> {
     let mut other = Store::new(alloc, base)?;
     append_lines(store, &mut other)?;
-    differing_texts(alloc, store, &other)
+    texts_of(alloc, &other)
 }

@@ -17,8 +17,11 @@ fn are_bytes(found: &Result<Vec<u8>, AllocError>) -> bool {
 // `section_bytes` of a store, to which a line is added first.
 fn bytes_refused(alloc: Global, pads: u32, store: &mut Store) -> Outcome {
     let line = store.insert(1, b"addi a0, a0, 1", &mut Tally::new());
-    if line.is_err() || !pad(alloc, pads) {
-        return Outcome::Unprepared;
+    if line.is_err() {
+        return Outcome::Unprepared(0);
+    }
+    if let Err(outcome) = pad(alloc, pads) {
+        return outcome;
     }
     let first = section_bytes(alloc, store, 0);
     if are_bytes(&first) {
@@ -36,6 +39,6 @@ fn bytes_refused(alloc: Global, pads: u32, store: &mut Store) -> Outcome {
 pub fn section_bytes_refused(alloc: Global, pads: u32) -> Outcome {
     match Store::new(alloc, 0x1000) {
         Ok(mut store) => bytes_refused(alloc, pads, &mut store),
-        Err(_) => Outcome::Unprepared,
+        Err(_) => Outcome::Unprepared(0),
     }
 }

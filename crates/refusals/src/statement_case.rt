@@ -3,13 +3,38 @@
 ghost use Rattle.std.specs.Prelude.{◌≤◌, length};
 
 use crate::case::{Outcome, pad};
-use rv_expr::{BinaryOp, Expr, Node, ReadFault, UnaryOp, read};
+use rv_expr::{BinaryOp, Expr, Name, Node, ReadFault, UnaryOp, read};
 use rv_stmt::{
     Body, Data, DataContent, Instruction, Label, LabelName, Operand, OperandValue, Role, Stmt,
     StmtError, read_line,
 };
 use rv_text::{Span, Tally, tokens};
-use std::alloc::Global;
+use std::alloc::{AllocError, Global};
+
+// Whether this is the name.
+fn is_name(found: &Result<Name, AllocError>) -> bool {
+    match found {
+        Ok(name) => name.bytes() == b"symbol".as_slice(),
+        Err(_) => false,
+    }
+}
+
+/// `Name::of` some bytes.
+pub fn name_refused(alloc: Global, pads: u32) -> Outcome {
+    if let Err(outcome) = pad(alloc, pads) {
+        return outcome;
+    }
+    let first = Name::of(alloc, b"symbol");
+    if is_name(&first) {
+        return Outcome::Made;
+    }
+    let again = Name::of(alloc, b"symbol");
+    if first.is_err() && is_name(&again) {
+        Outcome::Refused
+    } else {
+        Outcome::Wrong
+    }
+}
 
 // Whether this is the symbol.
 fn is_symbol(found: &Expr, symbol: &[u8]) -> bool {
@@ -64,10 +89,10 @@ fn is_expression(found: &Result<Expr, ReadFault>) -> bool {
 /// `read` of an expression.
 pub fn expression_refused(alloc: Global, pads: u32) -> Outcome {
     let Ok(tokens) = tokens(alloc, b"symbol - (2 + -.) * 3") else {
-        return Outcome::Unprepared;
+        return Outcome::Unprepared(0);
     };
-    if !pad(alloc, pads) {
-        return Outcome::Unprepared;
+    if let Err(outcome) = pad(alloc, pads) {
+        return outcome;
     }
     let count = tokens.tokens().len();
     let first = read(alloc, &tokens, 0, count);
@@ -184,8 +209,8 @@ impl Line {
 
 /// `read_line` of a line.
 pub fn statement_refused(alloc: Global, pads: u32, line: Line) -> Outcome {
-    if !pad(alloc, pads) {
-        return Outcome::Unprepared;
+    if let Err(outcome) = pad(alloc, pads) {
+        return outcome;
     }
     let first = read_line(alloc, line.text(), &mut Tally::new());
     if line.is_read(&first) {

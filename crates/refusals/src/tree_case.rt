@@ -98,10 +98,10 @@ fn is_made(found: &Result<SumTree<Block>, TreeError>, call: TreeCall) -> bool {
 /// A call on a tree of five blocks, and once more where it is refused.
 pub fn tree_call_refused(alloc: Global, pads: u32, call: TreeCall) -> Outcome {
     let Ok(tree) = make_tree(alloc) else {
-        return Outcome::Unprepared;
+        return Outcome::Unprepared(0);
     };
-    if !pad(alloc, pads) {
-        return Outcome::Unprepared;
+    if let Err(outcome) = pad(alloc, pads) {
+        return outcome;
     }
     let first = make(alloc, &tree, call);
     if !has_blocks(&tree, BEFORE) {
@@ -112,7 +112,9 @@ pub fn tree_call_refused(alloc: Global, pads: u32, call: TreeCall) -> Outcome {
     }
     let again = make(alloc, &tree, call);
     match first {
-        Err(TreeError::Memory) if is_made(&again, call) => Outcome::Refused,
+        Err(TreeError::Memory) if is_made(&again, call) && has_blocks(&tree, BEFORE) => {
+            Outcome::Refused
+        }
         _ => Outcome::Wrong,
     }
 }

@@ -1,6 +1,7 @@
 //! How a run ends early, and what it says.
 
-use crate::slow::{LongSource, SlowSink, SlowSource};
+use crate::slow::{FilledSource, LongSource, SlowSink, SlowSource};
+use crate::transcripts::EMPTY;
 use rv_commands::{MAX_INPUT, RunError, message, run, status};
 use rv_text::{FailsAt, MemSink, MemSource};
 use std::alloc::{AllocError, Global};
@@ -125,6 +126,36 @@ fn a_byte_past_the_limit_is_a_fault(rt: HostRuntime) -> Result<(), Fail> {
         assert_eq!(rt; done, wanted, "with {beyond} bytes beyond");
         assert_eq!(rt; sink.bytes().len(), 4 * 8192, "with {beyond} bytes beyond");
         assert!(rt; sink.bytes().starts_with(b"bad\nbad\n"));
+    }
+    Ok(())
+}
+
+// How an input begins, how many bytes `x` follow to its end, how the run ends, and its output in two parts. The first and the
+// third input are as long as one may be.
+const LONG_INPUTS: [(&str, usize, Result<(), RunError>, &str, &str); 4] = [
+    ("a ", 67_108_862, Ok(()), "refused 3\n", ""),
+    ("a ", 67_108_863, Err(RunError::Read), "", ""),
+    ("image\n", 67_108_858, Ok(()), EMPTY, "bad\n"),
+    ("image\n", 67_108_859, Err(RunError::Read), EMPTY, ""),
+];
+
+#[test]
+fn a_line_to_the_limit_is_answered(rt: HostRuntime) -> Result<(), Fail> {
+    for (front, left, wanted, image, answer) in LONG_INPUTS {
+        let mut source = FilledSource {
+            front: front.as_bytes(),
+            left,
+        };
+        let mut output = Vec::from_slice(rt.alloc(), image.as_bytes())?;
+        output.extend_from_slice(answer.as_bytes())?;
+        let mut sink = MemSink::new(rt.alloc(), 1000)?;
+        let done = run(rt.alloc(), &mut source, &mut sink, 0);
+        assert_eq!(rt; done, wanted, "at {left} bytes after {front:?}");
+        assert_eq!(rt;
+            sink.bytes(),
+            output.as_slice(),
+            "at {left} bytes after {front:?}"
+        );
     }
     Ok(())
 }

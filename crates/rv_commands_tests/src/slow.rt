@@ -1,4 +1,4 @@
-//! A reader and a writer that need many calls.
+//! Readers and writers that need many calls.
 
 ghost use Rattle.std.specs.Prelude.{None};
 
@@ -59,6 +59,37 @@ impl Source for LongSource {
         if n > 0 {
             front[n - 1] = b'\n';
         }
+        self.left -= n;
+        Ok(n)
+    }
+}
+
+/// Gives these bytes, and then so many bytes `x`.
+#[derive(Drop)]
+pub struct FilledSource<'a> {
+    /// What is given first.
+    pub front: &'a [u8],
+    /// How many bytes `x` are left.
+    pub left: usize,
+}
+
+impl<'a> Source for FilledSource<'a> {
+    ghost left = { λ _. None };
+
+    ghost failures = { λ _. 0 };
+
+    fn read(&mut self, buffer: &mut [u8]) -> Result<usize, Failed> {
+        let n = buffer.len().min(self.front.len());
+        if n > 0 {
+            let (given, rest) = self.front.split_at(n);
+            let (room, _) = buffer.split_at_mut(n);
+            room.copy_from_slice(given);
+            self.front = rest;
+            return Ok(n);
+        }
+        let n = buffer.len().min(self.left);
+        let (room, _) = buffer.split_at_mut(n);
+        room.fill(b'x');
         self.left -= n;
         Ok(n)
     }

@@ -5,17 +5,18 @@ ghost use Rattle.std.specs.Prelude.{◌<◌, ◌-◌, ◌^◌};
 use crate::slow::{CountedSink, SlowSource};
 use rv_commands::run;
 use rv_text::{MemSink, MemSource, Sink, Source};
-use std::alloc::Global;
+use std::alloc::{AllocError, Global};
 use std::process::Abort;
 use std::test::Fail;
 
-const EMPTY: &str =
+/// The image of an empty text.
+pub const EMPTY: &str =
     ".text 0x00000000 0\n.rodata 0x00000000 0\n.data 0x00000000 0\n.bss 0x00000000 0\n";
 
 const NEXT_PAGE: &str = ".rodata 0x00001000 0\n.data 0x00001000 0\n.bss 0x00001000 0\n";
 
 // An input, and its output in two parts.
-const TRANSCRIPTS: [(&str, &str, &str); 25] = [
+const TRANSCRIPTS: [(&str, &str, &str); 26] = [
     ("", "", ""),
     ("\n", "bad\n", ""),
     ("x\nd\nd 1\na\n", "bad\nbad\nrefused 2\nok 1\n", ""),
@@ -66,6 +67,7 @@ const TRANSCRIPTS: [(&str, &str, &str); 25] = [
     ),
     ("image", "", EMPTY),
     ("image\n", "", EMPTY),
+    ("image\nimage", EMPTY, EMPTY),
     ("a addi a0, a0, 1\nd 1\nimage\n", "ok 1\nok 0\n", EMPTY),
     (
         "a addi a0, a0, 1\nimage\n",
@@ -155,6 +157,33 @@ fn long_lines_are_answered(rt: HostRuntime) -> Result<(), Fail> {
         assert_eq!(rt; done, Ok(()), "at {start} and {length}");
         assert_eq!(rt; sink.bytes(), output.as_bytes(), "at {start} and {length}");
     }
+    Ok(())
+}
+
+// Commands that append as many blank lines as there may be and one more, and their answers.
+fn full_text(alloc: Global) -> Result<(Vec<u8>, Vec<u8>), AllocError> {
+    let mut input = Vec::new(alloc);
+    let mut output = Vec::new(alloc);
+    for number in 1..=16384u32 {
+        input.extend_from_slice(b"a\n")?;
+        let answer = format!(in alloc; "ok {number}\n")?;
+        output.extend_from_slice(answer.as_bytes())?;
+    }
+    input.extend_from_slice(b"a\ntext\n")?;
+    output.extend_from_slice(b"refused 4\ntext 16384\n")?;
+    let lines = vec![in alloc; b'\n'; 16384]?;
+    output.extend_from_slice(lines.as_slice())?;
+    Ok((input, output))
+}
+
+#[test]
+fn a_full_text_refuses_a_line(rt: HostRuntime) -> Result<(), Fail> {
+    let (input, output) = full_text(rt.alloc())?;
+    let mut source = MemSource::new(input.as_slice());
+    let mut sink = MemSink::new(rt.alloc(), 200_000)?;
+    let done = run(rt.alloc(), &mut source, &mut sink, 0);
+    assert_eq!(rt; done, Ok(()));
+    assert!(rt; sink.bytes() == output.as_slice());
     Ok(())
 }
 

@@ -1,6 +1,6 @@
 //! The bytes of a line.
 
-ghost use Rattle.std.specs.Prelude.{◌≡◌, ◌<◌, ◌++◌, length, replicate, true, Some, IsTrue, OnOk, ◌↔◌};
+ghost use Rattle.std.specs.Prelude.{◌≡◌, ◌<◌, ◌++◌, length, replicate, take, true, Some, IsTrue, OnOk, OnErr, ◌↔◌};
 ghost use Rattle.std.specs.List.{slice_get};
 ghost use Rattle.rv_fix.specs.Padding.{padding};
 
@@ -131,9 +131,10 @@ impl Payload {
         }
     }
 
-    // Appends the bytes to a list, one after another.
+    // Appends the bytes to a list, one after another. Where the memory for one is refused, those before it stay.
     fn append_each(&self, list: &mut Vec<u8>) -> Result<(), AllocError>
-        ensures { OnOk result (list.new.items ≡ list.old.items ++ self.now) }
+        ensures appended { OnOk result (list.new.items ≡ list.old.items ++ self.now) }
+        ensures begins { OnErr result (take (length list.old.items) list.new.items ≡ list.old.items) }
     {
         for place in 0..self.len() {
             let Some(byte) = self.byte(place) else {
@@ -144,17 +145,31 @@ impl Payload {
         Ok(())
     }
 
+    // Appends the bytes to a list, all or none of them.
+    fn append_all(&self, list: &mut Vec<u8>) -> Result<(), AllocError>
+        ensures appended { OnOk result (list.new.items ≡ list.old.items ++ self.now) }
+        ensures refused { OnErr result (list.new.items ≡ list.old.items) }
+    {
+        let count = list.len();
+        let appended = self.append_each(list);
+        if appended.is_err() {
+            list.truncate(count);
+        }
+        appended
+    }
+
     /// Appends the bytes to a list.
     ///
     /// # Errors
     ///
-    /// `AllocError` if there is no memory for them. The list may then end with some of them.
+    /// `AllocError` if there is no memory for them. The list then has the bytes that it had before.
     pub fn append_to(&self, list: &mut Vec<u8>) -> Result<(), AllocError>
-        ensures { OnOk result (list.new.items ≡ list.old.items ++ self.now) }
+        ensures appended { OnOk result (list.new.items ≡ list.old.items ++ self.now) }
+        ensures refused { OnErr result (list.new.items ≡ list.old.items) }
     {
         match &self.form {
             Form::Bytes(bytes) => list.extend_from_slice(bytes.as_slice()),
-            _ => self.append_each(list),
+            _ => self.append_all(list),
         }
     }
 

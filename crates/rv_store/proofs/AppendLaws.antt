@@ -1,58 +1,44 @@
 -- A statement that defines nothing, at the end of a text: where no section moves, the lines before it stay as they are.
-use Rattle.std.proofs.Common.{◌≡◌, ℕ, zero, suc, ◌+◌, ◌-◌, ◌<◌, ◌≤◌, nat_le, Bool, true, false, ◌==◌, not, ◌&&◌, List, [], ◌∷◌, ◌++◌, length, take, get_or, Option, Some, None, Err, Ok, ok_or, pos, if◌then◌else◌, true≢false, arith, ap, sym, subst, ◌∙◌, refl}
-use Rattle.std.specs.Result.{result_ok}
+use Rattle.std.proofs.Common.{◌≡◌, ℕ, zero, suc, ◌+◌, ◌-◌, ◌<◌, ◌≤◌, nat_le, Bool, true, false, ◌==◌, not, ◌&&◌, List, [], ◌∷◌, ◌++◌, length, Option, Some, None, Err, Ok, ok_or, pos, if◌then◌else◌, true≢false, arith, ap, sym, ◌∙◌, refl}
 use Rattle.std.proofs.lemmas.Bool.{le-leb}
-use Rattle.std.proofs.lemmas.List.{length-append, get_or_append_left, take-append-le}
-use Rattle.std.proofs.Math.Seq.{get_or-append_seam}
+use Rattle.std.proofs.lemmas.List.{get_or_append_left, take-append-le}
 use Rattle.std.proofs.Math.Path.{fun_ext}
-use Rattle.rv_expr.specs.declared.faults.ValueFault.TheVariants.{NotConstant, NoPartner, Undefined, LaterEqu}
+use Rattle.rv_expr.specs.declared.faults.ValueFault.TheVariants.{NoPartner, Undefined, LaterEqu}
 use Rattle.rv_expr.specs.declared.tree.Direction.{Direction}
 use Rattle.rv_expr.specs.declared.tree.Direction.TheVariants.{Back, Forward}
 use Rattle.rv_expr.specs.declared.tree.LabelReference.{LabelReference}
 use Rattle.rv_expr.specs.declared.tree.LabelReference.TheVariants as reference
-use Rattle.rv_expr.specs.Value.{Environment}
 use Rattle.rv_stmt.specs.declared.directive.Definition.{Definition}
 use Rattle.rv_stmt.specs.declared.statement.Body.{Body}
 use Rattle.rv_stmt.specs.declared.statement.Body.TheVariants as body
 use Rattle.rv_stmt.specs.declared.statement.Stmt.{Stmt}
 use Rattle.rv_stmt.specs.declared.section.Sect.TheVariants.{Text}
 use Rattle.rv_stmt.specs.Readings.{and_then}
-use Rattle.rv_layout.specs.declared.measured.Measured.{Measured}
 use Rattle.rv_layout.specs.declared.measured.Measured.TheVariants as measured
 use Rattle.rv_layout.specs.PlaceLaws.{number_below}
 use Rattle.rv_layout.specs.Places.{before, section_through, offset_through, section_of, offset_of, size_at, line_size_of, section_base_of, address_of}
-use Rattle.rv_layout.specs.Sections.{sections, section_number}
-use Rattle.rv_layout.specs.Shapes.{constants, shape_of}
+use Rattle.rv_layout.specs.Sections.{section_number}
 use Rattle.rv_fix.specs.Values.{Entry, operand_values_of}
 use Rattle.rv_list.specs.declared.view.DefinitionPlace.{DefinitionPlace}
 use Rattle.rv_list.specs.declared.view.DefinitionPlace.TheVariants.{Nowhere, Label as ByLabel, Equ}
-use Rattle.rv_list.specs.declared.view.LinePlace.{LinePlace}
-use Rattle.rv_store.specs.declared.line_values.LineValues.{LineValues}
 use Rattle.rv_store.specs.declared.line_values.LineValues.TheVariants.{Nothing, Operands, Symbol, Padding}
-use Rattle.rv_store.specs.Alike.{IsPlain}
 use Rattle.rv_store.specs.Appended.{IsBare, shape_at_end, StaySections}
 use Rattle.rv_store.specs.Codes.{is_text, values_of_body, values_by_shape, values_at, code_by_values, code_at}
-use Rattle.rv_store.specs.Constants.{defined_value, constant_through, constant_of}
-use Rattle.rv_store.specs.Definitions.{place_among_labels, place_in_body, or_place, place_in_statement, first_place, definition_of, is_equ_on}
+use Rattle.rv_store.specs.Constants.{defined_value, constant_through}
+use Rattle.rv_store.specs.Definitions.{place_among_labels, or_place, place_in_statement, first_place, definition_of, is_equ_on}
 use Rattle.rv_store.specs.Layout.{shape_at, shapes_of, section_at, address_at, size_at as size_on, place_at}
 use Rattle.rv_store.specs.Pairs.{pcrel_high_of, high_by, high_at, has_bytes_in, high_at_line, paired_high_of, names_at}
-use Rattle.rv_store.specs.Program.{Program, no_statement, statement_at, body_at, for_lines, lines_that, last_line, first_line}
+use Rattle.rv_store.specs.Program.{Program, body_at, lines_that, last_line, first_line}
 use Rattle.rv_store.specs.References.{among_local, has_local, local_line, line_of_place, label_line, or_faulty_equ, by_definition, address_of_line, names_on, no_pairs, equ_value, symbol_through, usable_equs, reference_of, references_at}
 use Rattle.rv_store.specs.Uses.{is_equ}
 use Rattle.rv_store.proofs.AlikeLaws.{place_in-plain}
 use Rattle.rv_store.proofs.ConstantRows.{constants-kept}
 use Rattle.rv_store.proofs.DefinitionLaws.{IsWithin, definition-within}
 use Rattle.rv_store.proofs.EquLaws.{equ_values-same}
+use Rattle.rv_store.proofs.LongerPrograms.{more, count-more, statement-earlier, statement-last, body-earlier, body-last, constants-same, shape-same, shapes-more}
 use Rattle.rv_store.proofs.Programs.{length-for_lines}
 
 -- Lines
-
-pub for_lines-same : {A : Type 0} (f g : ℕ → A) (n : ℕ) → ((i : ℕ) → 1 ≤ i → i ≤ n → f i ≡ g i) → for_lines f n ≡ for_lines g n
-for_lines-same f g zero same = refl
-for_lines-same f g (suc n) same =
-    let earlier = for_lines-same f g n (λ i first last. same i first (omega (arith, last))) in
-    let here = same (suc n) (omega arith) (omega arith) in
-    λ j. earlier j ++ here j ∷ []
 
 pub lines_that-same : (f g : ℕ → Bool) (n : ℕ) → ((i : ℕ) → 1 ≤ i → i ≤ n → f i ≡ g i) → lines_that f n ≡ lines_that g n
 lines_that-same f g zero same = refl
@@ -113,26 +99,6 @@ no_equ b d h e = true≢false (sym (ap is_equ e) ∙ h)
 -- The text with one statement more
 
 module _ (p : Program) (s : Stmt) (bare : IsBare s) where
-  abbrev pub more : Program
-  more = p ++ s ∷ []
-
-  pub count-more : length more ≡ suc (length p)
-  count-more = length-append p (s ∷ []) ∙ (let e : length p + 1 ≡ suc (length p) = omega arith in e)
-
-  pub statement-earlier : (i : ℕ) → 1 ≤ i → i ≤ length p → statement_at more i ≡ statement_at p i
-  statement-earlier i first last = get_or_append_left p (s ∷ []) no_statement (i - 1) (omega (arith, first, last))
-
-  pub statement-last : statement_at more (suc (length p)) ≡ s
-  statement-last =
-      let back : suc (length p) - 1 ≡ length p = omega arith in
-      ap (λ i. get_or more i no_statement) back ∙ get_or-append_seam p s [] no_statement
-
-  body-earlier : (i : ℕ) → 1 ≤ i → i ≤ length p → body_at more i ≡ body_at p i
-  body-earlier i first last = ap (λ t. t.body) (statement-earlier i first last)
-
-  pub body-last : body_at more (suc (length p)) ≡ s.body
-  body-last = ap (λ t. t.body) statement-last
-
   -- Definitions and constants
 
   nothing-here : (line : ℕ) (name : List ℕ) → place_in_statement line s name ≡ Nowhere
@@ -144,97 +110,68 @@ module _ (p : Program) (s : Stmt) (bare : IsBare s) where
   first_place-more line (t ∷ ss) name =
       ap (or_place (place_in_statement line t name)) (first_place-more (line + 1) ss name)
 
-  pub definitions-same : definition_of more ≡ definition_of p
+  pub definitions-same : definition_of (more p s) ≡ definition_of p
   definitions-same = fun_ext (λ name. first_place-more 1 p name)
 
-  pub constants-same : (m : ℕ) → m ≤ length p → constant_through more m ≡ constant_through p m
-  constants-same zero within = refl
-  constants-same (suc m) within =
-      let earlier = constants-same m (omega (arith, within)) in
-      let here = body-earlier (suc m) (omega arith) within in
-      λ i name. if is_equ_on (suc m) (definitions-same i name) then result_ok (defined_value (constants (earlier i)) (here i)) else earlier i name
+  none-last : (d : Definition) → body_at (more p s) (suc (length p)) ≡ body.Equ d → is_equ_on (suc (length p)) (definition_of (more p s) d.symbol) ≡ false
+  none-last d here = absurd (no_equ s.body d bare.plain.equ (sym (body-last p s) ∙ here))
 
-  none-last : (d : Definition) → body_at more (suc (length p)) ≡ body.Equ d → is_equ_on (suc (length p)) (definition_of more d.symbol) ≡ false
-  none-last d here = absurd (no_equ s.body d bare.plain.equ (sym body-last ∙ here))
-
-  pub constants-last : constant_through more (length more) ≡ constant_through p (length p)
+  pub constants-last : constant_through (more p s) (length (more p s)) ≡ constant_through p (length p)
   constants-last =
-      ap (constant_through more) count-more ∙ constants-kept more (length p) none-last ∙ constants-same (length p) (omega arith)
-
-  -- Shapes
-
-  pub shape-same : (i : ℕ) → 1 ≤ i → i ≤ length p → shape_at more i ≡ shape_at p i
-  shape-same i first last =
-      let given = constants-same (i - 1) (omega (arith, last)) in
-      let here = body-earlier i first last in
-      λ j. shape_of (given j) (here j)
-
-  abbrev last_shape : Measured
-  last_shape = shape_at_end p s
-
-  pub shape-last : shape_at more (suc (length p)) ≡ last_shape
-  shape-last =
-      let back : suc (length p) - 1 ≡ length p = omega arith in
-      let given = ap (constant_through more) back ∙ constants-same (length p) (omega arith) in
-      λ j. shape_of (given j) (body-last j)
-
-  pub shapes-more : shapes_of more ≡ shapes_of p ++ last_shape ∷ []
-  shapes-more =
-      let earlier = for_lines-same (shape_at more) (shape_at p) (length p) shape-same in
-      ap (for_lines (shape_at more)) count-more ∙ (λ j. earlier j ++ shape-last j ∷ [])
+      ap (constant_through (more p s)) (count-more p s) ∙ constants-kept (more p s) (length p) none-last ∙ constants-same p s (length p) (omega arith)
 
   -- Local labels
 
-  pub has_local-same : (number i : ℕ) → 1 ≤ i → i ≤ length p → has_local more number i ≡ has_local p number i
-  has_local-same number i first last = ap (λ t. among_local number t.labels) (statement-earlier i first last)
+  pub has_local-same : (number i : ℕ) → 1 ≤ i → i ≤ length p → has_local (more p s) number i ≡ has_local p number i
+  has_local-same number i first last = ap (λ t. among_local number t.labels) (statement-earlier p s i first last)
 
-  pub has_local-last : (number : ℕ) → has_local more number (suc (length p)) ≡ false
-  has_local-last number = ap (λ t. among_local number t.labels) statement-last ∙ ap (among_local number) bare.labels
+  pub has_local-last : (number : ℕ) → has_local (more p s) number (suc (length p)) ≡ false
+  has_local-last number = ap (λ t. among_local number t.labels) (statement-last p s) ∙ ap (among_local number) bare.labels
 
-  pub local_line-same : (i number : ℕ) (direction : Direction) → i ≤ length p → local_line more i number direction ≡ local_line p i number direction
+  pub local_line-same : (i number : ℕ) (direction : Direction) → i ≤ length p → local_line (more p s) i number direction ≡ local_line p i number direction
   local_line-same i number Back within =
-      last_line-same (has_local more number) (has_local p number) i (λ j first last. has_local-same number j first (omega (arith, last, within)))
+      last_line-same (has_local (more p s) number) (has_local p number) i (λ j first last. has_local-same number j first (omega (arith, last, within)))
   local_line-same i number Forward within =
-      let count : length more - i ≡ suc (length p - i) = omega (arith, count-more, within) in
+      let count : length (more p s) - i ≡ suc (length p - i) = omega (arith, count-more p s, within) in
       let end : suc (i + (length p - i)) ≡ suc (length p) = omega (arith, within) in
-      ap (first_line (has_local more number) i) count
-      ∙ first_line-more (has_local more number) (has_local p number) i (length p - i)
+      ap (first_line (has_local (more p s) number) i) count
+      ∙ first_line-more (has_local (more p s) number) (has_local p number) i (length p - i)
       (λ j above below. has_local-same number j (omega (arith, above)) (omega (arith, below, within)))
-      (ap (has_local more number) end ∙ has_local-last number)
+      (ap (has_local (more p s) number) end ∙ has_local-last number)
 
-  pub label_line-same : (i : ℕ) (label : LabelReference) → i ≤ length p → label_line more i label ≡ label_line p i label
+  pub label_line-same : (i : ℕ) (label : LabelReference) → i ≤ length p → label_line (more p s) i label ≡ label_line p i label
   label_line-same i (reference.Symbol name) within = λ j. line_of_place (definitions-same j name)
   label_line-same i (reference.Local number direction) within = λ j. ok_or (local_line-same i number direction within j) Undefined
   label_line-same i reference.Here within = refl
 
   -- Places, where no section moves
 
-  module _ (base : ℕ) (stay : StaySections base p last_shape) where
+  module _ (base : ℕ) (stay : StaySections base p (shape_at_end p s)) where
     count-shapes : length (shapes_of p) ≡ length p
     count-shapes = length-for_lines (shape_at p) (length p)
 
-    before-same : (i : ℕ) → i ≤ suc (length p) → before i (shapes_of p ++ last_shape ∷ []) ≡ before i (shapes_of p)
-    before-same i last = take-append-le (i - 1) (shapes_of p) (last_shape ∷ []) (omega (arith, last, count-shapes))
+    before-same : (i : ℕ) → i ≤ suc (length p) → before i (shapes_of p ++ shape_at_end p s ∷ []) ≡ before i (shapes_of p)
+    before-same i last = take-append-le (i - 1) (shapes_of p) (shape_at_end p s ∷ []) (omega (arith, last, count-shapes))
 
-    pub section-same : (i : ℕ) → i ≤ suc (length p) → section_at more i ≡ section_at p i
-    section-same i last = ap (λ ms. section_of ms i) shapes-more ∙ ap (section_through Text) (before-same i last)
+    pub section-same : (i : ℕ) → i ≤ suc (length p) → section_at (more p s) i ≡ section_at p i
+    section-same i last = ap (λ ms. section_of ms i) (shapes-more p s) ∙ ap (section_through Text) (before-same i last)
 
-    offset-same : (i : ℕ) → i ≤ suc (length p) → offset_of (shapes_of p ++ last_shape ∷ []) i ≡ offset_of (shapes_of p) i
+    offset-same : (i : ℕ) → i ≤ suc (length p) → offset_of (shapes_of p ++ shape_at_end p s ∷ []) i ≡ offset_of (shapes_of p) i
     offset-same i last = ap (λ ms. offset_through (section_number (section_through Text ms)) Text 0 ms) (before-same i last)
 
-    pub address-same : (i : ℕ) → i ≤ suc (length p) → address_at base more i ≡ address_at base p i
+    pub address-same : (i : ℕ) → i ≤ suc (length p) → address_at base (more p s) i ≡ address_at base p i
     address-same i last =
-        ap (λ ms. address_of base ms i) shapes-more
-        ∙ ap (λ ms. section_base_of base (shapes_of p ++ last_shape ∷ []) (section_number (section_through Text ms)) + offset_of (shapes_of p ++ last_shape ∷ []) i) (before-same i last)
+        ap (λ ms. address_of base ms i) (shapes-more p s)
+        ∙ ap (λ ms. section_base_of base (shapes_of p ++ shape_at_end p s ∷ []) (section_number (section_through Text ms)) + offset_of (shapes_of p ++ shape_at_end p s ∷ []) i) (before-same i last)
         ∙ (λ j. stay (section_number (section_of (shapes_of p) i)) (number_below (section_of (shapes_of p) i)) j + offset-same i last j)
 
-    pub size-same : (i : ℕ) → 1 ≤ i → i ≤ length p → size_on more i ≡ size_on p i
+    pub size-same : (i : ℕ) → 1 ≤ i → i ≤ length p → size_on (more p s) i ≡ size_on p i
     size-same i first last =
-        let shape = get_or_append_left (shapes_of p) (last_shape ∷ []) measured.Nothing (i - 1) (omega (arith, first, last, count-shapes)) in
+        let shape = get_or_append_left (shapes_of p) (shape_at_end p s ∷ []) measured.Nothing (i - 1) (omega (arith, first, last, count-shapes)) in
         let offset = offset-same i (omega (arith, last)) in
-        ap (λ ms. line_size_of ms i) shapes-more ∙ (λ j. size_at (offset j) (shape j))
+        ap (λ ms. line_size_of ms i) (shapes-more p s) ∙ (λ j. size_at (offset j) (shape j))
 
-    pub place-same : (i : ℕ) → 1 ≤ i → i ≤ length p → place_at base more i ≡ place_at base p i
+    pub place-same : (i : ℕ) → 1 ≤ i → i ≤ length p → place_at base (more p s) i ≡ place_at base p i
     place-same i first last =
         let section = section-same i (omega (arith, last)) in
         let address = address-same i (omega (arith, last)) in
@@ -243,17 +180,17 @@ module _ (p : Program) (s : Stmt) (bare : IsBare s) where
 
     -- Names
 
-    address_of_line-same : (o : Option ℕ) → ((line : ℕ) → o ≡ Some line → (1 ≤ line) × (line ≤ length p)) → address_of_line base more o ≡ address_of_line base p o
+    address_of_line-same : (o : Option ℕ) → ((line : ℕ) → o ≡ Some line → (1 ≤ line) × (line ≤ length p)) → address_of_line base (more p s) o ≡ address_of_line base p o
     address_of_line-same None within = refl
     address_of_line-same (Some line) within =
         let address = address-same line (let there = within line refl in omega (arith, there.1)) in λ j. Ok (pos (address j))
 
-    local-same : (i number : ℕ) (direction : Direction) → i ≤ length p → address_of_line base more (local_line more i number direction) ≡ address_of_line base p (local_line p i number direction)
+    local-same : (i number : ℕ) (direction : Direction) → i ≤ length p → address_of_line base (more p s) (local_line (more p s) i number direction) ≡ address_of_line base p (local_line p i number direction)
     local-same i number direction within =
-        ap (address_of_line base more) (local_line-same i number direction within)
+        ap (address_of_line base (more p s)) (local_line-same i number direction within)
         ∙ address_of_line-same (local_line p i number direction) (λ line e. local_line-within p i number direction line within e)
 
-    names_on-same : (i : ℕ) (symbol symbol' : List ℕ → Entry) (paired paired' : ℕ → Entry) → i ≤ length p → symbol ≡ symbol' → ((label : LabelReference) → and_then (label_line more i label) paired ≡ and_then (label_line p i label) paired') → names_on base more i symbol paired ≡ names_on base p i symbol' paired'
+    names_on-same : (i : ℕ) (symbol symbol' : List ℕ → Entry) (paired paired' : ℕ → Entry) → i ≤ length p → symbol ≡ symbol' → ((label : LabelReference) → and_then (label_line (more p s) i label) paired ≡ and_then (label_line p i label) paired') → names_on base (more p s) i symbol paired ≡ names_on base p i symbol' paired'
     names_on-same i symbol symbol' paired paired' within e f =
         let here = address-same i (omega (arith, within)) in λ j. record {
           symbol = e j;
@@ -262,7 +199,7 @@ module _ (p : Program) (s : Stmt) (bare : IsBare s) where
           paired_high = λ label. f label j;
         }
 
-    by_definition-same : (m : ℕ) (place : DefinitionPlace) (value : Entry) → IsWithin 1 (1 + length p) place → by_definition (address_at base more) m place value ≡ by_definition (address_at base p) m place value
+    by_definition-same : (m : ℕ) (place : DefinitionPlace) (value : Entry) → IsWithin 1 (1 + length p) place → by_definition (address_at base (more p s)) m place value ≡ by_definition (address_at base p) m place value
     by_definition-same m Nowhere value within = refl
     by_definition-same m (ByLabel line index) value within =
         let address = address-same line (omega (arith, within.1)) in λ j. Ok (pos (address j))
@@ -277,93 +214,93 @@ module _ (p : Program) (s : Stmt) (bare : IsBare s) where
         let other : nat_le line (length p) ≡ true = le-leb line (length p) (omega (arith, within.1)) in
         ap (λ b. if b then or_faulty_equ value else Err LaterEqu) (one ∙ sym other)
 
-    symbol-by : (m : ℕ) → equ_value base more m ≡ equ_value base p m → symbol_through base more m ≡ symbol_through base p m
+    symbol-by : (m : ℕ) → equ_value base (more p s) m ≡ equ_value base p m → symbol_through base (more p s) m ≡ symbol_through base p m
     symbol-by m equs = fun_ext (λ name.
-        (λ j. by_definition (address_at base more) m (definitions-same j name) (equs j name))
+        (λ j. by_definition (address_at base (more p s)) m (definitions-same j name) (equs j name))
         ∙ by_definition-same m (definition_of p name) (equ_value base p m name) (definition-within p name))
 
-    pub equ_value-same : (m : ℕ) → m ≤ length p → equ_value base more m ≡ equ_value base p m
+    pub equ_value-same : (m : ℕ) → m ≤ length p → equ_value base (more p s) m ≡ equ_value base p m
     equ_value-same zero within = refl
     equ_value-same (suc m) within =
         let earlier = equ_value-same m (omega (arith, within)) in
         let symbols = symbol-by m earlier in
-        let names = names_on-same (suc m) (symbol_through base more m) (symbol_through base p m) no_pairs no_pairs within symbols (λ label j. and_then (label_line-same (suc m) label within j) no_pairs) in
-        let here = body-earlier (suc m) (omega arith) within in
+        let names = names_on-same (suc m) (symbol_through base (more p s) m) (symbol_through base p m) no_pairs no_pairs within symbols (λ label j. and_then (label_line-same (suc m) label within j) no_pairs) in
+        let here = body-earlier p s (suc m) (omega arith) within in
         λ j name. if is_equ_on (suc m) (definitions-same j name) then defined_value (names j) (here j) else earlier j name
 
-    pub equ_value-last : equ_value base more (length more) ≡ equ_value base p (length p)
+    pub equ_value-last : equ_value base (more p s) (length (more p s)) ≡ equ_value base p (length p)
     equ_value-last =
-        ap (equ_value base more) count-more ∙ equ_values-same base more (length p) none-last ∙ equ_value-same (length p) (omega arith)
+        ap (equ_value base (more p s)) (count-more p s) ∙ equ_values-same base (more p s) (length p) none-last ∙ equ_value-same (length p) (omega arith)
 
-    pub symbol-last : symbol_through base more (length more) ≡ symbol_through base p (length p)
+    pub symbol-last : symbol_through base (more p s) (length (more p s)) ≡ symbol_through base p (length p)
     symbol-last = fun_ext (λ name.
-        (λ j. by_definition (address_at base more) (count-more j) (definitions-same j name) (equ_value-last j name))
+        (λ j. by_definition (address_at base (more p s)) (count-more p s j) (definitions-same j name) (equ_value-last j name))
         ∙ by_definition-same (suc (length p)) (definition_of p name) (equ_value base p (length p) name) (definition-within p name)
         ∙ by_definition-all (definition_of p name) (equ_value base p (length p) name) (definition-within p name))
 
-    symbol-usable : (i : ℕ) (b : Body) → i ≤ length p → symbol_through base more (usable_equs more i b) ≡ symbol_through base p (usable_equs p i b)
+    symbol-usable : (i : ℕ) (b : Body) → i ≤ length p → symbol_through base (more p s) (usable_equs (more p s) i b) ≡ symbol_through base p (usable_equs p i b)
     symbol-usable i (body.Equ d) last = symbol-by (i - 1) (equ_value-same (i - 1) (omega (arith, last)))
     symbol-usable i b last = symbol-last
 
-    pub reference-same : (i : ℕ) → 1 ≤ i → i ≤ length p → reference_of base more i ≡ reference_of base p i
+    pub reference-same : (i : ℕ) → 1 ≤ i → i ≤ length p → reference_of base (more p s) i ≡ reference_of base p i
     reference-same i first last =
-        ap (λ b. symbol_through base more (usable_equs more i b)) (body-earlier i first last) ∙ symbol-usable i (body_at p i) last
+        ap (λ b. symbol_through base (more p s) (usable_equs (more p s) i b)) (body-earlier p s i first last) ∙ symbol-usable i (body_at p i) last
 
-    references-same : (i : ℕ) → 1 ≤ i → i ≤ length p → references_at base more i ≡ references_at base p i
+    references-same : (i : ℕ) → 1 ≤ i → i ≤ length p → references_at base (more p s) i ≡ references_at base p i
     references-same i first last =
-        names_on-same i (reference_of base more i) (reference_of base p i) no_pairs no_pairs last (reference-same i first last) (λ label j. and_then (label_line-same i label last j) no_pairs)
+        names_on-same i (reference_of base (more p s) i) (reference_of base p i) no_pairs no_pairs last (reference-same i first last) (λ label j. and_then (label_line-same i label last j) no_pairs)
 
     -- High halves
 
-    pub high-same : (i : ℕ) → 1 ≤ i → i ≤ length p → high_at base more i ≡ high_at base p i
+    pub high-same : (i : ℕ) → 1 ≤ i → i ≤ length p → high_at base (more p s) i ≡ high_at base p i
     high-same i first last =
         let names = references-same i first last in
         let address = address-same i (omega (arith, last)) in
-        let here = body-earlier i first last in
+        let here = body-earlier p s i first last in
         λ j. high_by (names j) (address j) (pcrel_high_of (here j))
 
-    pub high-last : high_at base more (suc (length p)) ≡ Err NoPartner
+    pub high-last : high_at base (more p s) (suc (length p)) ≡ Err NoPartner
     high-last =
-        ap (high_by (references_at base more (suc (length p))) (address_at base more (suc (length p)))) (ap pcrel_high_of body-last ∙ bare.plain.high)
+        ap (high_by (references_at base (more p s) (suc (length p))) (address_at base (more p s) (suc (length p)))) (ap pcrel_high_of (body-last p s) ∙ bare.plain.high)
 
-    has_bytes-same : (section i : ℕ) → 1 ≤ i → i ≤ length p → has_bytes_in more section i ≡ has_bytes_in p section i
+    has_bytes-same : (section i : ℕ) → 1 ≤ i → i ≤ length p → has_bytes_in (more p s) section i ≡ has_bytes_in p section i
     has_bytes-same section i first last =
         let there = section-same i (omega (arith, last)) in
         let size = size-same i first last in
         λ j. section_number (there j) == section && not (size j == 0)
 
     -- the last line adds no high half
-    next_high-same : (section i count : ℕ) → i + count ≡ length p → high_at_line base more (first_line (has_bytes_in more section) i (suc count)) ≡ high_at_line base p (first_line (has_bytes_in p section) i count)
-    next_high-same section i zero e = at (has_bytes_in more section (suc i))
+    next_high-same : (section i count : ℕ) → i + count ≡ length p → high_at_line base (more p s) (first_line (has_bytes_in (more p s) section) i (suc count)) ≡ high_at_line base p (first_line (has_bytes_in p section) i count)
+    next_high-same section i zero e = at (has_bytes_in (more p s) section (suc i))
       where
         end : suc i ≡ suc (length p)
         end = omega (arith, e)
 
-        at : (b : Bool) → high_at_line base more (if b then Some (suc i) else None) ≡ Err NoPartner
-        at true = ap (high_at base more) end ∙ high-last
+        at : (b : Bool) → high_at_line base (more p s) (if b then Some (suc i) else None) ≡ Err NoPartner
+        at true = ap (high_at base (more p s)) end ∙ high-last
         at false = refl
     next_high-same section i (suc count) e =
-        ap (λ b. high_at_line base more (if b then Some (suc i) else first_line (has_bytes_in more section) (suc i) (suc count))) (has_bytes-same section (suc i) (omega arith) (omega (arith, e)))
+        ap (λ b. high_at_line base (more p s) (if b then Some (suc i) else first_line (has_bytes_in (more p s) section) (suc i) (suc count))) (has_bytes-same section (suc i) (omega arith) (omega (arith, e)))
         ∙ at (has_bytes_in p section (suc i)) (next_high-same section (suc i) count (omega (arith, e)))
       where
-        at : (b : Bool) → high_at_line base more (first_line (has_bytes_in more section) (suc i) (suc count)) ≡ high_at_line base p (first_line (has_bytes_in p section) (suc i) count) → high_at_line base more (if b then Some (suc i) else first_line (has_bytes_in more section) (suc i) (suc count)) ≡ high_at_line base p (if b then Some (suc i) else first_line (has_bytes_in p section) (suc i) count)
+        at : (b : Bool) → high_at_line base (more p s) (first_line (has_bytes_in (more p s) section) (suc i) (suc count)) ≡ high_at_line base p (first_line (has_bytes_in p section) (suc i) count) → high_at_line base (more p s) (if b then Some (suc i) else first_line (has_bytes_in (more p s) section) (suc i) (suc count)) ≡ high_at_line base p (if b then Some (suc i) else first_line (has_bytes_in p section) (suc i) count)
         at true later = high-same (suc i) (omega arith) (omega (arith, e))
         at false later = later
 
-    pub paired_high-same : (i : ℕ) → 1 ≤ i → i ≤ length p → paired_high_of base more i ≡ paired_high_of base p i
+    pub paired_high-same : (i : ℕ) → 1 ≤ i → i ≤ length p → paired_high_of base (more p s) i ≡ paired_high_of base p i
     paired_high-same i first last =
-        let count : length more - (i - 1) ≡ suc (length p - (i - 1)) = omega (arith, count-more, first, last) in
+        let count : length (more p s) - (i - 1) ≡ suc (length p - (i - 1)) = omega (arith, count-more p s, first, last) in
         let section = section-same i (omega (arith, last)) in
-        (λ j. high_at_line base more (first_line (has_bytes_in more (section_number (section j))) (i - 1) (count j)))
+        (λ j. high_at_line base (more p s) (first_line (has_bytes_in (more p s) (section_number (section j))) (i - 1) (count j)))
         ∙ next_high-same (section_number (section_at p i)) (i - 1) (length p - (i - 1)) (omega (arith, first, last))
 
-    pub paired_high-last : paired_high_of base more (suc (length p)) ≡ Err NoPartner
+    pub paired_high-last : paired_high_of base (more p s) (suc (length p)) ≡ Err NoPartner
     paired_high-last =
-        let count : length more - (suc (length p) - 1) ≡ 1 = omega (arith, count-more) in
+        let count : length (more p s) - (suc (length p) - 1) ≡ 1 = omega (arith, count-more p s) in
         let back : suc (length p) - 1 ≡ length p = omega arith in
-        let section = section_number (section_at more (suc (length p))) in
-        (λ j. high_at_line base more (first_line (has_bytes_in more section) (suc (length p) - 1) (count j)))
-        ∙ ap (λ i. high_at_line base more (first_line (has_bytes_in more section) i 1)) back
+        let section = section_number (section_at (more p s) (suc (length p))) in
+        (λ j. high_at_line base (more p s) (first_line (has_bytes_in (more p s) section) (suc (length p) - 1) (count j)))
+        ∙ ap (λ i. high_at_line base (more p s) (first_line (has_bytes_in (more p s) section) i 1)) back
         ∙ next_high-same section (length p) 0 (omega arith)
 
     label-within : (i : ℕ) (label : LabelReference) (line : ℕ) → i ≤ length p → label_line p i label ≡ Ok line → (1 ≤ line) × (line ≤ length p)
@@ -381,22 +318,22 @@ module _ (p : Program) (s : Stmt) (bare : IsBare s) where
         at (Some l) is h = local_line-within p i number direction line within (is ∙ (let one : Ok l ≡ Ok line = h in let same : l ≡ line = cc in ap Some same))
     label-within i reference.Here line within e = absurd (let no : Err Undefined ≡ Ok line = e in cc)
 
-    pair-same : (i : ℕ) (label : LabelReference) → i ≤ length p → and_then (label_line more i label) (paired_high_of base more) ≡ and_then (label_line p i label) (paired_high_of base p)
+    pair-same : (i : ℕ) (label : LabelReference) → i ≤ length p → and_then (label_line (more p s) i label) (paired_high_of base (more p s)) ≡ and_then (label_line p i label) (paired_high_of base p)
     pair-same i label within =
-        ap (λ l. and_then l (paired_high_of base more)) (label_line-same i label within)
+        ap (λ l. and_then l (paired_high_of base (more p s))) (label_line-same i label within)
         ∙ at (label_line p i label) (λ line e. label-within i label line within e)
       where
-        at : (l : _) → ((line : ℕ) → l ≡ Ok line → (1 ≤ line) × (line ≤ length p)) → and_then l (paired_high_of base more) ≡ and_then l (paired_high_of base p)
+        at : (l : _) → ((line : ℕ) → l ≡ Ok line → (1 ≤ line) × (line ≤ length p)) → and_then l (paired_high_of base (more p s)) ≡ and_then l (paired_high_of base p)
         at (Ok line) w = let there = w line refl in paired_high-same line there.0 there.1
         at (Err fault) w = refl
 
-    pub names-same : (i : ℕ) → 1 ≤ i → i ≤ length p → names_at base more i ≡ names_at base p i
+    pub names-same : (i : ℕ) → 1 ≤ i → i ≤ length p → names_at base (more p s) i ≡ names_at base p i
     names-same i first last =
-        names_on-same i (reference_of base more i) (reference_of base p i) (paired_high_of base more) (paired_high_of base p) last (reference-same i first last) (λ label. pair-same i label last)
+        names_on-same i (reference_of base (more p s) i) (reference_of base p i) (paired_high_of base (more p s)) (paired_high_of base p) last (reference-same i first last) (λ label. pair-same i label last)
 
     -- Values and codes
 
-    values_of-same : (i : ℕ) (b : Body) → 1 ≤ i → i ≤ length p → values_of_body base more i b ≡ values_of_body base p i b
+    values_of-same : (i : ℕ) (b : Body) → 1 ≤ i → i ≤ length p → values_of_body base (more p s) i b ≡ values_of_body base p i b
     values_of-same i (body.Align d) first last =
         let section = section-same i (omega (arith, last)) in
         let size = size-same i first last in
@@ -409,15 +346,15 @@ module _ (p : Program) (s : Stmt) (bare : IsBare s) where
         let address = address-same i (omega (arith, last)) in
         λ j. Operands (operand_values_of (names j) (address j) b)
 
-    pub values-same : (i : ℕ) → 1 ≤ i → i ≤ length p → values_at base more i ≡ values_at base p i
+    pub values-same : (i : ℕ) → 1 ≤ i → i ≤ length p → values_at base (more p s) i ≡ values_at base p i
     values-same i first last =
-        let shape = shape-same i first last in
-        let values = ap (values_of_body base more i) (body-earlier i first last) ∙ values_of-same i (body_at p i) first last in
+        let shape = shape-same p s i first last in
+        let values = ap (values_of_body base (more p s) i) (body-earlier p s i first last) ∙ values_of-same i (body_at p i) first last in
         λ j. values_by_shape (shape j) (values j)
 
-    pub code-same : (i : ℕ) → 1 ≤ i → i ≤ length p → code_at base more i ≡ code_at base p i
+    pub code-same : (i : ℕ) → 1 ≤ i → i ≤ length p → code_at base (more p s) i ≡ code_at base p i
     code-same i first last =
-        let shape = shape-same i first last in
-        let here = body-earlier i first last in
+        let shape = shape-same p s i first last in
+        let here = body-earlier p s i first last in
         let values = values-same i first last in
         λ j. code_by_values (shape j) (here j) (values j)

@@ -1,5 +1,5 @@
 -- What is kept of a text where a line is put at its end that no other line has to do with, and what such an edit may take.
-use Rattle.std.proofs.Common.{◌≡◌, ℕ, zero, suc, ◌+◌, ◌-◌, ◌<◌, ◌≤◌, Bool, true, false, not, ◌==◌, nat_lt, List, [], ◌∷◌, ◌++◌, length, insert, map, take, get_or, Option, Some, None, Result, Ok, Err, if◌then◌else◌, arith, ap, sym, subst, ◌∙◌, refl}
+use Rattle.std.proofs.Common.{◌≡◌, ℕ, zero, suc, ◌+◌, ◌-◌, ◌≤◌, Bool, true, false, ◌==◌, nat_lt, List, [], ◌∷◌, ◌++◌, length, insert, take, get_or, Some, None, Result, Ok, Err, if◌then◌else◌, arith, ap, sym, subst, ◌∙◌, refl}
 use Rattle.std.specs.Result.{OnErr}
 use Rattle.std.proofs.lemmas.Bool.{lt-ltb, le-ltb, eq-eqb, not_from_true}
 use Rattle.std.proofs.lemmas.List.{map-append, length-append, append-nil, take_all}
@@ -18,17 +18,18 @@ use Rattle.rv_store.specs.Changes.{program_after, is_new_or, differs_in_code, di
 use Rattle.rv_store.specs.Codes.{values_at, code_at}
 use Rattle.rv_store.specs.Edits.{line_before_edit}
 use Rattle.rv_store.specs.Items.{IsItem, AreFirstItems, AreItems, IsItemAdded}
-use Rattle.rv_store.specs.Layout.{shape_at, shapes_of, place_at}
+use Rattle.rv_store.specs.Layout.{shape_at, place_at}
 use Rattle.rv_store.specs.Pairs.{high_at, paired_high_of}
-use Rattle.rv_store.specs.Program.{Program, program_of, statement_at, body_at, for_lines, lines_that}
+use Rattle.rv_store.specs.Program.{Program, program_of, body_at, for_lines, lines_that}
 use Rattle.rv_store.specs.References.{has_local}
 use Rattle.rv_store.specs.Rows.{in_row}
 use Rattle.rv_store.specs.Surveys.{IsSurvey}
 use Rattle.rv_store.specs.Text.{Insert, lines_after}
-use Rattle.rv_store.specs.Work.{survey_operands, value_operands, work}
+use Rattle.rv_store.specs.Work.{survey_operands, value_operands}
 use Rattle.rv_store.proofs.AlikeTexts.{some_line}
-use Rattle.rv_store.proofs.AppendLaws.{for_lines-same, lines_that-same, more, count-more, definitions-same, constants-last, shape-same, shapes-more, place-same, has_local-same, has_local-last, equ_value-last, high-same, high-last, paired_high-same, paired_high-last, values-same, code-same, statement-last}
+use Rattle.rv_store.proofs.AppendLaws.{lines_that-same, definitions-same, constants-last, place-same, has_local-same, has_local-last, equ_value-last, high-same, high-last, paired_high-same, paired_high-last, values-same, code-same}
 use Rattle.rv_store.proofs.Items.{one_item_more, all_items}
+use Rattle.rv_store.proofs.LongerPrograms.{for_lines-same, more, count-more, shape-same, shapes-more, statement-last}
 use Rattle.rv_store.proofs.Programs.{length-for_lines, length-program}
 use Rattle.rv_store.proofs.Sameness.{same_code-Decides}
 use Rattle.rv_store.proofs.ShapeRows.{limited-push}
@@ -118,7 +119,7 @@ module _ (base : ℕ) (lines : List (List ℕ)) (line : List ℕ) (end : Ending)
   abbrev pub after : List (List ℕ)
   after = lines ++ line ∷ []
 
-  pub after-more : program_of after ≡ more p (statement_of line) is.bare
+  pub after-more : program_of after ≡ more p (statement_of line)
   after-more = map-append statement_of lines (line ∷ [])
 
   stay : StaySections base p (shape_at_end p (statement_of line))
@@ -131,10 +132,10 @@ module _ (base : ℕ) (lines : List (List ℕ)) (line : List ℕ) (end : Ending)
   count = length-program lines
 
   -- the rows
-  survey-more : (names : List (List ℕ)) (old new : Survey) → IsSurvey base p names old → AreExtended line end old new → IsSurvey base (more p (statement_of line) is.bare) names new
+  survey-more : (names : List (List ℕ)) (old new : Survey) → IsSurvey base p names old → AreExtended line end old new → IsSurvey base (more p (statement_of line)) names new
   survey-more names old new are extended =
       let s = statement_of line in
-      let n = count-more p s is.bare in
+      let n = count-more p s in
       record {
         definitions = record {
           each = (λ j. in_row names (extended.names.definitions j).items Nowhere) ∙ are.definitions.each ∙ sym (definitions-same p s is.bare);
@@ -144,21 +145,21 @@ module _ (base : ℕ) (lines : List (List ℕ)) (line : List ℕ) (end : Ending)
           each = (λ j. in_row names (extended.names.constants j).items None) ∙ are.constants.each ∙ sym (constants-last p s is.bare);
           within = rw extended.names.constants are.constants.within;
         };
-        shapes = extended.shapes ∙ (λ j. are.shapes j ++ is.shape j ∷ []) ∙ sym (shapes-more p s is.bare);
+        shapes = extended.shapes ∙ (λ j. are.shapes j ++ is.shape j ∷ []) ∙ sym (shapes-more p s);
         limited = subst AreLimited (sym extended.shapes) (limited-push old.shapes.items end.shape are.limited is.limited);
         total = extended.total ∙ is.total ∙ (λ j. layout_of (sym are.shapes j ++ end.shape ∷ [])) ∙ ap layout_of (sym extended.shapes);
         places =
             extended.places
             ∙ (λ j. are.places j ++ is.place j ∷ [])
-            ∙ ap (λ row. row ++ place_at base (more p s is.bare) (suc (length p)) ∷ []) (sym (for_lines-same (place_at base (more p s is.bare)) (place_at base p) (length p) (place-same p s is.bare base stay)))
-            ∙ ap (for_lines (place_at base (more p s is.bare))) (sym n);
+            ∙ ap (λ row. row ++ place_at base (more p s) (suc (length p)) ∷ []) (sym (for_lines-same (place_at base (more p s)) (place_at base p) (length p) (place-same p s is.bare base stay)))
+            ∙ ap (for_lines (place_at base (more p s))) (sym n);
         locals = λ number.
             (λ j. get_or (extended.names.locals j) number [])
             ∙ are.locals number
-            ∙ sym (lines_that-same (has_local (more p s is.bare) number) (has_local p number) (length p) (has_local-same p s is.bare number))
+            ∙ sym (lines_that-same (has_local (more p s) number) (has_local p number) (length p) (has_local-same p s is.bare number))
             ∙ sym (append-nil _)
-            ∙ (λ j. lines_that (has_local (more p s is.bare) number) (length p) ++ (if sym (has_local-last p s is.bare number) j then suc (length p) ∷ [] else []))
-            ∙ ap (lines_that (has_local (more p s is.bare) number)) (sym n);
+            ∙ (λ j. lines_that (has_local (more p s) number) (length p) ++ (if sym (has_local-last p s is.bare number) j then suc (length p) ∷ [] else []))
+            ∙ ap (lines_that (has_local (more p s) number)) (sym n);
         equ_values = record {
           each = (λ j. in_row names (extended.names.equ_values j).items (Err LaterEqu)) ∙ are.equ_values.each ∙ sym (equ_value-last p s is.bare base stay);
           within = rw extended.names.equ_values are.equ_values.within;
@@ -166,13 +167,13 @@ module _ (base : ℕ) (lines : List (List ℕ)) (line : List ℕ) (end : Ending)
         highs =
             extended.highs
             ∙ (λ j. are.highs j ++ sym (high-last p s is.bare base stay) j ∷ [])
-            ∙ ap (λ row. row ++ high_at base (more p s is.bare) (suc (length p)) ∷ []) (sym (for_lines-same (high_at base (more p s is.bare)) (high_at base p) (length p) (high-same p s is.bare base stay)))
-            ∙ ap (for_lines (high_at base (more p s is.bare))) (sym n);
+            ∙ ap (λ row. row ++ high_at base (more p s) (suc (length p)) ∷ []) (sym (for_lines-same (high_at base (more p s)) (high_at base p) (length p) (high-same p s is.bare base stay)))
+            ∙ ap (for_lines (high_at base (more p s))) (sym n);
         paired_highs =
             extended.paired_highs
             ∙ (λ j. are.paired_highs j ++ sym (paired_high-last p s is.bare base stay) j ∷ [])
-            ∙ ap (λ row. row ++ paired_high_of base (more p s is.bare) (suc (length p)) ∷ []) (sym (for_lines-same (paired_high_of base (more p s is.bare)) (paired_high_of base p) (length p) (paired_high-same p s is.bare base stay)))
-            ∙ ap (for_lines (paired_high_of base (more p s is.bare))) (sym n);
+            ∙ ap (λ row. row ++ paired_high_of base (more p s) (suc (length p)) ∷ []) (sym (for_lines-same (paired_high_of base (more p s)) (paired_high_of base p) (length p) (paired_high-same p s is.bare base stay)))
+            ∙ ap (for_lines (paired_high_of base (more p s))) (sym n);
       }
 
   pub survey-extended : (names : List (List ℕ)) (old new : Survey) → IsSurvey base p names old → AreExtended line end old new → IsSurvey base (program_of after) names new
@@ -182,12 +183,12 @@ module _ (base : ℕ) (lines : List (List ℕ)) (line : List ℕ) (end : Ending)
   first-items : (items : List Item) → AreItems base lines items → AreFirstItems base after (length lines) items
   first-items items are =
       let s = statement_of line in
-      let q : Program = more p s is.bare in
+      let q : Program = more p s in
       record {
         lines = are.lines ∙ sym (take-append_seam lines (line ∷ []));
         shapes =
             are.shapes
-            ∙ sym (for_lines-same (shape_at q) (shape_at p) (length lines) (λ i first last. shape-same p s is.bare i first (omega (arith, last, count))))
+            ∙ sym (for_lines-same (shape_at q) (shape_at p) (length lines) (λ i first last. shape-same p s i first (omega (arith, last, count))))
             ∙ ap (λ r. for_lines (shape_at r) (length lines)) (sym after-more);
         values =
             are.values
@@ -214,7 +215,7 @@ module _ (base : ℕ) (lines : List (List ℕ)) (line : List ℕ) (end : Ending)
         let place : k - 1 ≡ length lines = omega (arith, at_end) in
         ap (λ i. insert lines i line) place ∙ insert_end lines line
 
-    program-end : program_after lines (Insert k line) ≡ more p (statement_of line) is.bare
+    program-end : program_after lines (Insert k line) ≡ more p (statement_of line)
     program-end = ap program_of lines-end ∙ after-more
 
     count-end : length (lines_after lines (Insert k line)) ≡ suc (length lines)
@@ -249,19 +250,22 @@ module _ (base : ℕ) (lines : List (List ℕ)) (line : List ℕ) (end : Ending)
     body-end =
         let end_number : k ≡ suc (length p) = omega (arith, at_end, count) in
         ap (λ q. body_at q k) program-end
-        ∙ ap (body_at (more p (statement_of line) is.bare)) end_number
-        ∙ ap (λ s. s.body) (statement-last p (statement_of line) is.bare)
+        ∙ ap (body_at (more p (statement_of line))) end_number
+        ∙ ap (λ s. s.body) (statement-last p (statement_of line))
 
-    pub values-enough : value_operands (statement_of line).body ≤ most_values base lines (Insert k line)
+    pub values-enough : survey_operands (statement_of line).body + value_operands (statement_of line).body ≤ most_values base lines (Insert k line)
     values-enough =
         let n = length (lines_after lines (Insert k line)) in
         let invalidated : is_invalidated base lines (Insert k line) k ≡ true =
         ap (is_new_or (λ j. differs_in_uses base p (program_after lines (Insert k line)) k j (body_at (program_after lines (Insert k line)) k))) is_new in
         let here = work-invalidated value_operands base lines (Insert k line) k (omega (arith, at_end)) invalidated in
         let up = work-up value_operands base lines (Insert k line) k n (omega (arith, count-end, at_end)) in
+        let surveyed = work-invalidated survey_operands base lines (Insert k line) k (omega (arith, at_end)) invalidated in
+        let surveyed_up = work-up survey_operands base lines (Insert k line) k n (omega (arith, count-end, at_end)) in
         let all = work-within base base lines lines (lines_after lines (Insert k line)) (Insert k line) refl refl refl in
         let operands = ap value_operands body-end in
-        omega (arith, here, up, all, operands)
+        let size = ap survey_operands body-end in
+        omega (arith, here, up, surveyed, surveyed_up, all, operands, size)
 
     pub codes-enough : 1 ≤ most_codes base lines (Insert k line)
     codes-enough =

@@ -1,7 +1,8 @@
--- What is not invalidated is not reencoded, and what is not reencoded is not changed.
-use Rattle.std.proofs.Common.{◌≡◌, ℕ, ◌≤◌, not, false, List, length, None, ap, ◌∙◌}
-use Rattle.std.proofs.lemmas.Bool.{not-false, not_from_true, or_parts, or_from}
-use Rattle.rv_store.specs.Changes.{program_after, is_new_or, differs_in_code, differs_in_values, is_invalidated, is_reencoded, is_changed}
+-- What is not invalidated is not reencoded, and what is not reencoded is not changed. What is due is invalidated, and what is not
+-- due is not reencoded.
+use Rattle.std.proofs.Common.{◌≡◌, ℕ, ◌≤◌, Bool, not, true, false, List, length, None, if◌then◌else◌, ap, sym, ◌∙◌}
+use Rattle.std.proofs.lemmas.Bool.{not-false, not_from_true, or_parts, or_from, true≢false, true_from_ne_false}
+use Rattle.rv_store.specs.Changes.{program_after, is_new_or, differs_in_code, differs_in_values, is_invalidated, is_reencoded, is_compared, is_due, is_changed}
 use Rattle.rv_store.specs.Codes.{values_at, code_at, code_by_values}
 use Rattle.rv_store.specs.Edits.{line_before_edit}
 use Rattle.rv_store.specs.Kept.{IsKept}
@@ -32,3 +33,22 @@ not_changed base lines edit k allowed first last h =
     let body : body_at after k ≡ body_at before j = ap (λ s. s.body) (statement-stood lines edit k j first last (stood lines edit k j allowed first last is)) in
     let code : code_at base after k ≡ code_at base before j = λ i. code_by_values (shape i) (body i) (values i) in
     ap (is_new_or (differs_in_code base before after k)) is ∙ not_from_true _ ((same_code-Decides _ _).1 code)
+
+-- what is reencoded is invalidated
+pub reencoded-invalidated : (base : ℕ) (lines : List (List ℕ)) (edit : Edit) (k : ℕ) → refusal_of lines edit ≡ None → 1 ≤ k → k ≤ length (lines_after lines edit) → is_reencoded base lines edit k ≡ true → is_invalidated base lines edit k ≡ true
+reencoded-invalidated base lines edit k allowed first last h =
+    true_from_ne_false (is_invalidated base lines edit k) (λ none. true≢false (sym h ∙ not_reencoded base lines edit k allowed first last none))
+
+pub due-invalidated : (base : ℕ) (lines : List (List ℕ)) (edit : Edit) (k : ℕ) → refusal_of lines edit ≡ None → 1 ≤ k → k ≤ length (lines_after lines edit) → is_due base lines edit k ≡ true → is_invalidated base lines edit k ≡ true
+due-invalidated base lines edit k allowed first last h = at (is_compared (body_at (program_after lines edit) k)) h
+  where
+    at : (compared : Bool) → (if compared then is_reencoded base lines edit k else is_invalidated base lines edit k) ≡ true → is_invalidated base lines edit k ≡ true
+    at true due = reencoded-invalidated base lines edit k allowed first last due
+    at false due = due
+
+pub not_due : (base : ℕ) (lines : List (List ℕ)) (edit : Edit) (k : ℕ) → refusal_of lines edit ≡ None → 1 ≤ k → k ≤ length (lines_after lines edit) → is_due base lines edit k ≡ false → is_reencoded base lines edit k ≡ false
+not_due base lines edit k allowed first last h = at (is_compared (body_at (program_after lines edit) k)) h
+  where
+    at : (compared : Bool) → (if compared then is_reencoded base lines edit k else is_invalidated base lines edit k) ≡ false → is_reencoded base lines edit k ≡ false
+    at true same = same
+    at false same = not_reencoded base lines edit k allowed first last same

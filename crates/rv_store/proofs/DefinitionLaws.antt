@@ -3,6 +3,7 @@ use Rattle.std.proofs.Common.{◌≡◌, ℕ, ◌+◌, ◌<◌, ◌≤◌, Bool,
 use Rattle.rv_stmt.specs.declared.label.Label.{Label}
 use Rattle.rv_stmt.specs.declared.statement.Body.{Body}
 use Rattle.rv_stmt.specs.declared.statement.Body.TheVariants.{Equ as EquBody}
+use Rattle.rv_stmt.specs.declared.statement.Stmt.{Stmt}
 use Rattle.rv_list.specs.declared.view.DefinitionPlace.{DefinitionPlace}
 use Rattle.rv_list.specs.declared.view.DefinitionPlace.TheVariants.{Nowhere, Label as ByLabel, Equ}
 use Rattle.rv_store.specs.Definitions.{defines_symbol, place_among_labels, place_in_body, or_place, place_in_statement, first_place, definition_of, is_equ_on}
@@ -40,12 +41,17 @@ within-body line (EquBody d) name = at (bytes_eq d.symbol name)
     at false = tt
 within-body line _ name = tt
 
+-- on the line of the statement
+pub statement-within : (line : ℕ) (s : Stmt) (name : List ℕ) → IsWithin line (line + 1) (place_in_statement line s name)
+statement-within line s name =
+    within-or line (line + 1) (place_among_labels line 0 s.labels name) (place_in_body line s.body name) (within-labels line 0 s.labels name) (within-body line s.body name)
+
 within-lines : (line : ℕ) (program : Program) (name : List ℕ) → IsWithin line (line + length program) (first_place line program name)
 within-lines line [] name = tt
 within-lines line (s ∷ ss) name =
     within-or line (line + length (s ∷ ss)) (place_in_statement line s name) (first_place (line + 1) ss name)
     (within-wider line (line + 1) line (line + length (s ∷ ss)) (place_in_statement line s name) (omega arith) (omega arith)
-    (within-or line (line + 1) (place_among_labels line 0 s.labels name) (place_in_body line s.body name) (within-labels line 0 s.labels name) (within-body line s.body name)))
+    (statement-within line s name))
     (within-wider (line + 1) (line + 1 + length ss) line (line + length (s ∷ ss)) (first_place (line + 1) ss name) (omega arith) (omega arith) (within-lines (line + 1) ss name))
 
 -- a definition stands on a line of the text

@@ -1,5 +1,5 @@
 -- The row of definitions, line by line.
-use Rattle.std.proofs.Common.{◌≡◌, ℕ, suc, ◌+◌, ◌-◌, ◌<◌, ◌≤◌, nat_le, ◌==◌, Bool, true, false, not, ◌||◌, List, [], ◌∷◌, ◌++◌, length, get_or, set, take, drop, replicate, bytes_eq, Option, Some, None, if◌then◌else◌, true≢false, arith, ap, sym, ◌∙◌, refl}
+use Rattle.std.proofs.Common.{◌≡◌, ℕ, suc, ◌+◌, ◌-◌, ◌<◌, ◌≤◌, nat_le, ◌==◌, Bool, true, false, not, ◌||◌, List, [], ◌∷◌, length, get_or, set, take, drop, bytes_eq, Option, Some, None, if◌then◌else◌, true≢false, arith, ap, sym, ◌∙◌, refl}
 use Rattle.std.specs.List.{list_any}
 use Rattle.std.proofs.Math.Path.{fun_ext}
 use Rattle.std.proofs.lemmas.Bool.{and_parts, or_parts, leb-true}
@@ -22,16 +22,16 @@ use Rattle.rv_store.specs.Rows.{number_of, in_row}
 use Rattle.rv_store.specs.Text.{is_line}
 use Rattle.rv_store.specs.Uses.{is_equ}
 use Rattle.rv_store.proofs.Lists.{no-items}
-use Rattle.rv_store.proofs.NameRows.{row-set, row-at, row-filled}
+use Rattle.rv_store.proofs.NameRows.{row-set, row-at}
 
 -- Definitions joined
 
-or_place-nowhere : (place : DefinitionPlace) → or_place place Nowhere ≡ place
+pub or_place-nowhere : (place : DefinitionPlace) → or_place place Nowhere ≡ place
 or_place-nowhere Nowhere = refl
 or_place-nowhere (ByLabel line index) = refl
 or_place-nowhere (Equ line) = refl
 
-or_place-assoc : (a b c : DefinitionPlace) → or_place (or_place a b) c ≡ or_place a (or_place b c)
+pub or_place-assoc : (a b c : DefinitionPlace) → or_place (or_place a b) c ≡ or_place a (or_place b c)
 or_place-assoc Nowhere b c = refl
 or_place-assoc (ByLabel line index) b c = refl
 or_place-assoc (Equ line) b c = refl
@@ -101,12 +101,6 @@ no_lines_left f line [] none = then_also-nowhere f
 no_lines_left f line (t ∷ texts) none = absurd (omega (arith, none))
 
 -- Rows
-
--- a row that is made longer
-pub lengthened : (names : List (List ℕ)) (row : List DefinitionPlace) (n : ℕ) → length row ≤ n → in_row names (take n row ++ replicate (n - length row) Nowhere) Nowhere ≡ in_row names row Nowhere
-lengthened names row n within =
-    ap (λ l. in_row names (l ++ replicate (n - length row) Nowhere) Nowhere) (take_all n row within)
-    ∙ row-filled names row Nowhere (n - length row)
 
 only-other : (symbol : List ℕ) (place : DefinitionPlace) (m : List ℕ) → (m ≡ symbol → ⊥) → only symbol place m ≡ Nowhere
 only-other symbol place m differs = at (bytes_eq symbol m) refl

@@ -1,5 +1,5 @@
 -- A line at the end of some lines: where it lies.
-use Rattle.std.proofs.Common.{◌≡◌, ℕ, suc, ◌+◌, ◌-◌, ◌^◌, ◌<◌, ◌≤◌, Bool, true, false, not, ◌&&◌, ◌==◌, List, [], ◌∷◌, ◌++◌, length, take, slice_index, Option, Some, None, true≢false, arith, ap, sym, subst, ◌∙◌, refl}
+use Rattle.std.proofs.Common.{◌≡◌, ℕ, suc, ◌+◌, ◌^◌, ◌<◌, ◌≤◌, true, not, ◌&&◌, List, [], ◌∷◌, ◌++◌, length, take, slice_index, arith, ap, sym, subst, ◌∙◌}
 use Rattle.std.proofs.lemmas.Bool.{and_parts, not-true}
 use Rattle.std.proofs.lemmas.List.{length-append}
 use Rattle.std.proofs.Math.Seq.{get_or-append_seam, take-append_seam}
@@ -12,21 +12,17 @@ use Rattle.rv_layout.specs.Effects.{layout_of, offset_reached, base_by_layout}
 use Rattle.rv_layout.specs.PlaceLaws.{reached-end, reached-section, reached_together, base-layout}
 use Rattle.rv_layout.specs.Places.{sum_below, section_base_of, IsBase, IsLimited, AreLimited}
 use Rattle.rv_layout.specs.Sections.{sections, section_number}
-use Rattle.rv_layout.specs.Shapes.{shape_of}
-use Rattle.rv_list.specs.declared.view.LinePlace.{LinePlace}
 use Rattle.rv_store.specs.declared.brief.Brief.{Brief}
 use Rattle.rv_store.specs.declared.ending.Ending.{Ending}
 use Rattle.rv_store.specs.declared.ends.Ends.{Ends}
 use Rattle.rv_store.specs.Appended.{IsBare, shape_at_end, IsEnding}
 use Rattle.rv_store.specs.Briefs.{brief_of}
-use Rattle.rv_store.specs.Constants.{constant_through, constant_of}
 use Rattle.rv_store.specs.Ends.{ends_of, ends_reached, next_offset, next_place, place_by_shapes}
 use Rattle.rv_store.specs.Layout.{shape_at, shapes_of}
-use Rattle.rv_store.specs.Program.{Program, program_of}
+use Rattle.rv_store.specs.Program.{program_of}
 use Rattle.rv_store.specs.Rows.{AreShapes}
-use Rattle.rv_store.specs.Uses.{is_sized}
 use Rattle.rv_store.proofs.AlikeLines.{no_labels, plain}
-use Rattle.rv_store.proofs.AppendLaws.{shapes-more}
+use Rattle.rv_store.proofs.LongerPrograms.{shapes-more}
 use Rattle.rv_store.proofs.Programs.{length-for_lines, length-program}
 use Rattle.rv_store.proofs.ShapeRows.{limited-push}
 use Rattle.rv_store.proofs.EndLaws.{PlaceFits, take-AreLimited, bases-AreBases, next_place-is, next_place-fits}
@@ -81,34 +77,29 @@ module _ (ms : List Measured) (m : Measured) (few : length ms < 16384) (limited 
 
 -- What a line is, in brief
 
-pub bare-in_brief : (s : Stmt) (b : Brief) → b ≡ brief_of s → (not b.labels && not b.equ && not b.pcrel_high && not b.sized) ≡ true → IsBare s × (is_sized s.body ≡ false)
+pub bare-in_brief : (s : Stmt) (b : Brief) → b ≡ brief_of s → (not b.labels && not b.equ && not b.pcrel_high) ≡ true → IsBare s
 bare-in_brief s b is h =
-    let first = and_parts (not b.labels && not b.equ && not b.pcrel_high) (not b.sized) h in
-    let second = and_parts (not b.labels && not b.equ) (not b.pcrel_high) first.0 in
-    let third = and_parts (not b.labels) (not b.equ) second.0 in (
-      record {
-        labels = no_labels s b is (not-true b.labels third.0);
-        plain = plain s b is (not-true b.equ third.1) (not-true b.pcrel_high second.1);
-      },
-      sym (ap (λ (x : Brief). x.sized) is) ∙ not-true b.sized first.1,
-    )
+    let first = and_parts (not b.labels && not b.equ) (not b.pcrel_high) h in
+    let second = and_parts (not b.labels) (not b.equ) first.0 in
+    record {
+      labels = no_labels s b is (not-true b.labels second.0);
+      plain = plain s b is (not-true b.equ second.1) (not-true b.pcrel_high first.1);
+    }
 
 -- What the line adds
 
 pub ending-is : (base : ℕ) (lines : List (List ℕ)) (s : Stmt) (shapes : List Measured) (before : Effect) (end : Ending) → AreShapes (program_of lines) shapes → AreLimited shapes → length lines < 16384 → IsBare s
-    → ((p : Program) (k : ℕ) → end.shape ≡ shape_of (constant_of p k) s.body) → IsLimited end.shape → before ≡ layout_of shapes → end.total ≡ layout_of (shapes ++ end.shape ∷ [])
+    → end.shape ≡ shape_at_end (program_of lines) s → IsLimited end.shape → before ≡ layout_of shapes → end.total ≡ layout_of (shapes ++ end.shape ∷ [])
     → ((t : ℕ) → t < sections → base_by_layout base end.total t ≡ base_by_layout base before t) → end.place ≡ place_by_shapes base (shapes ++ end.shape ∷ []) (suc (length shapes)) → IsEnding base (program_of lines) s end
 ending-is base lines s shapes before end are limited few bare shape limited_end is all stay place =
     let p = program_of lines in
     let count : length shapes ≡ length lines = ap length are ∙ length-for_lines (shape_at p) (length p) ∙ length-program lines in
-    let back : length p + 1 - 1 ≡ length p = omega arith in
-    let shape' : end.shape ≡ shape_at_end p s = shape p (length p + 1) ∙ ap (λ k. shape_of (constant_through p k) s.body) back in
     let limited_all : AreLimited (shapes ++ end.shape ∷ []) = limited-push shapes end.shape limited limited_end in
     let few_all : length (shapes ++ end.shape ∷ []) ≤ 16384 = few-all shapes end.shape (omega (arith, count, few)) limited_all in
-    let rows : shapes ++ end.shape ∷ [] ≡ shapes_of (p ++ s ∷ []) = (λ i. are i ++ shape' i ∷ []) ∙ sym (shapes-more p s bare) in
+    let rows : shapes ++ end.shape ∷ [] ≡ shapes_of (p ++ s ∷ []) = (λ i. are i ++ shape i ∷ []) ∙ sym (shapes-more p s) in
     record {
       bare = bare;
-      shape = shape';
+      shape = shape;
       limited = limited_end;
       total = all ∙ ap (λ ms. layout_of (ms ++ end.shape ∷ [])) are;
       place = place ∙ (λ i. place_by_shapes base (rows i) (suc (length shapes))) ∙ ap (place_by_shapes base (shapes_of (p ++ s ∷ []))) (ap suc (count ∙ sym (length-program lines)));

@@ -1,5 +1,5 @@
 -- A line of a text and the line that it was before an edit: whether a symbol differs on them, by the rows of the texts.
-use Rattle.std.proofs.Common.{◌≡◌, ℕ, ◌≤◌, Some, None, Bool, true, false, not, ◌||◌, List, length, true≢false, [], ◌∷◌, ◌&&◌, ap, sym, ◌∙◌, refl}
+use Rattle.std.proofs.Common.{◌≡◌, ℕ, ◌≤◌, Some, None, Bool, true, false, not, ◌||◌, List, length, true≢false, ◌&&◌, ap, sym, ◌∙◌, refl}
 use Rattle.std.proofs.lemmas.Bool.Decides.{same_from_decides}
 use Rattle.std.proofs.lemmas.Bool.{or_parts}
 use Rattle.std.specs.Bool.{Decides}
@@ -20,7 +20,7 @@ use Rattle.rv_store.specs.References.{usable_equs, symbol_through, reference_of}
 use Rattle.rv_store.specs.Sameness.{same_constant, same_entry}
 use Rattle.rv_store.specs.Text.{Edit, lines_after}
 use Rattle.rv_store.specs.TextRows.{program_in}
-use Rattle.rv_store.specs.Uses.{names_used, uses_symbols, uses_address, uses_local_label, uses_paired_high, is_equ}
+use Rattle.rv_store.specs.Uses.{names_used, uses_address, uses_local_label, uses_paired_high, is_equ}
 use Rattle.rv_store.proofs.EarlierLines.{Stood, stood, statement-stood}
 use Rattle.rv_store.proofs.Programs.{length-program}
 use Rattle.rv_store.proofs.Sameness.{same_entry-Decides}
@@ -35,7 +35,7 @@ usable-open program i b none = refl
 abbrev pub symbol_at_end : TextRows → (name : List ℕ) → Entry
 symbol_at_end text name = symbol_through text.base (program_in text) (length text.lines.now) name
 
-reference-open : (text : TextRows) (line : ℕ) (name : List ℕ) → is_equ (body_at (program_in text) line) ≡ false → symbol_at_end text name ≡ reference_of text.base (program_in text) line name
+pub reference-open : (text : TextRows) (line : ℕ) (name : List ℕ) → is_equ (body_at (program_in text) line) ≡ false → symbol_at_end text name ≡ reference_of text.base (program_in text) line name
 reference-open text line name none =
     ap (λ k. symbol_through text.base (program_in text) k name)
     (sym (length-program text.lines.now) ∙ sym (usable-open (program_in text) line (body_at (program_in text) line) none))
@@ -62,17 +62,13 @@ module _ (pair : LinePair) (name : List ℕ) (is : IsOpenPair pair) (value value
   pub differs-by_constant : same ≡ true → not same_constants ≡ differs_in_name_on pair name
   differs-by_constant h = ap (λ b. not b || not same_constants) (sym h) ∙ ap (λ s. not s || not same_constants) values
 
--- A line that uses no symbols, its own address on one place alone, and nothing that is not compared
+-- A line that uses no symbol that differs, its own address on one place alone, and nothing that is not compared
 
-no_names : (test : List ℕ → Bool) (names : List (List ℕ)) → list_any (λ name. true) names ≡ false → list_any test names ≡ false
-no_names test [] none = refl
-no_names test (name ∷ names) none = absurd (true≢false none)
-
-pub same-by_brief : (base : ℕ) (before after : Program) (k j : ℕ) (b : Body) → uses_symbols b ≡ false → (uses_address b && differs_in_place base before after k j) ≡ false → (uses_local_label b || uses_paired_high b || is_equ b) ≡ false → differs_in_uses base before after k j b ≡ false
-same-by_brief base before after k j b symbols place uncompared =
+pub same-by_brief : (base : ℕ) (before after : Program) (k j : ℕ) (b : Body) → list_any (differs_in_name base before after k j) (names_used b) ≡ false → (uses_address b && differs_in_place base before after k j) ≡ false → (uses_local_label b || uses_paired_high b || is_equ b) ≡ false → differs_in_uses base before after k j b ≡ false
+same-by_brief base before after k j b names place uncompared =
     let all = or_parts (uses_local_label b || uses_paired_high b) (is_equ b) uncompared in
     let both = or_parts (uses_local_label b) (uses_paired_high b) all.0 in
-    λ i. no_names (differs_in_name base before after k j) (names_used b) symbols i || place i || both.0 i || both.1 i || all.1 i
+    λ i. names i || place i || both.0 i || both.1 i || all.1 i
 
 -- The lines of an edit
 

@@ -1,20 +1,21 @@
 -- The row of local labels: how it grows by a line, and that it tells the line of a local label.
-use Rattle.std.proofs.Common.{◌≡◌, ℕ, zero, suc, ◌+◌, ◌-◌, nat_le, ◌<◌, ◌≤◌, ◌==◌, Bool, true, false, not, ◌||◌, List, [], ◌∷◌, ◌++◌, length, length-append, take, drop, get_or, slice_get, Option, Some, None, if◌then◌else◌, ◌⊎◌, inl, inr, arith, ap, sym, ◌∙◌, refl, subst}
+use Rattle.std.proofs.Common.{◌≡◌, ℕ, zero, suc, ◌+◌, ◌-◌, nat_le, ◌<◌, ◌≤◌, Bool, true, false, ◌||◌, List, [], ◌∷◌, ◌++◌, length, length-append, take, drop, get_or, slice_get, Option, Some, None, if◌then◌else◌, ◌⊎◌, inl, inr, arith, ap, sym, ◌∙◌, refl, subst}
 use Rattle.std.specs.List.Sorted.{IsNonDecreasing, IsPartitionPoint}
 use Rattle.std.specs.Option.{option_or}
-use Rattle.std.proofs.lemmas.Bool.{le-leb, lt-leb, cases_lt, eq-eqb, ne_eqb}
+use Rattle.std.proofs.lemmas.Bool.{le-leb, lt-leb, cases_lt, eq-eqb, ne_eqb, true≢false, or_parts, or_from}
 use Rattle.std.proofs.lemmas.List.{append-nil, get_or-map}
 use Rattle.std.proofs.lemmas.List.Sorted.{IsNonDecreasingBy-push}
 use Rattle.std.proofs.lemmas.Option.{slice_get-get_or, slice_get_within, get_or_from_slice_get}
 use Rattle.rv_expr.specs.declared.tree.Direction.{Direction}
 use Rattle.rv_expr.specs.declared.tree.Direction.TheVariants.{Back, Forward}
 use Rattle.rv_stmt.specs.declared.label.Label.{Label}
+use Rattle.rv_stmt.specs.declared.label.LabelName.{LabelName}
+use Rattle.rv_stmt.specs.declared.label.LabelName.TheVariants as label
 use Rattle.rv_stmt.specs.Statement.{statement_of}
-use Rattle.rv_store.specs.Locals.{last_up_to, first_above, local_line_in, AreRising, is_some_line, is_last, with_line, with_label, with_labels, AreWithLabels}
+use Rattle.rv_store.specs.Locals.{last_up_to, first_above, local_line_in, AreRising, is_some_line, is_last, with_line, with_label, is_local_label, has_local_labels, with_labels, AreWithLabels}
 use Rattle.rv_store.specs.Program.{Program, program_of, lines_that, last_line, first_line, no_statement, statement_at}
 use Rattle.rv_store.specs.References.{has_local, among_local, is_local, local_line}
 use Rattle.rv_store.specs.Rows.{AreLocals}
-use Rattle.rv_store.proofs.Lists.{no-items}
 
 -- The statements of a text
 
@@ -190,9 +191,19 @@ with_line-twice line xs = by (is_last line xs) refl
         let there : is_last line (xs ++ line ∷ []) ≡ true = ap (is_some_line line) (last-push xs line) ∙ eq-eqb line line refl in
         ap (with_line line) pushed ∙ ap (λ c. if c then xs ++ line ∷ [] else (xs ++ line ∷ []) ++ line ∷ []) there ∙ sym pushed
 
--- a line without labels
-pub no-labels : (line : ℕ) (ls : List Label) (rows : List (List ℕ)) → not (length ls == 0) ≡ false → AreWithLabels line ls rows rows
-no-labels line ls rows none = λ k. sym (ap (λ ls. with_labels line k ls (get_or rows k [])) (no-items ls none))
+-- a line without local labels
+no-local : (k : ℕ) (name : LabelName) → is_local_label name ≡ false → is_local k name ≡ false
+no-local k (label.Local number) other = absurd (true≢false other)
+no-local k (label.Symbol symbol) other = refl
+
+none-among : (k : ℕ) (ls : List Label) → has_local_labels ls ≡ false → among_local k ls ≡ false
+none-among k [] none = refl
+none-among k (l ∷ ls) none =
+    let parts = or_parts (is_local_label l.name) (has_local_labels ls) none in
+    or_from _ _ (no-local k l.name parts.0) (none-among k ls parts.1)
+
+pub no-local_labels : (line : ℕ) (ls : List Label) (rows : List (List ℕ)) → has_local_labels ls ≡ false → AreWithLabels line ls rows rows
+no-local_labels line ls rows none = λ k. sym (ap (λ b. if b then with_line line (get_or rows k []) else get_or rows k []) (none-among k ls none))
 
 -- one more label of a line
 pub with_labels-more : (line k : ℕ) (ls : List Label) (l : Label) (xs : List ℕ) → with_labels line k (ls ++ l ∷ []) xs ≡ with_label line k l (with_labels line k ls xs)

@@ -1,12 +1,12 @@
 -- Numbers of names, and rows by these numbers.
-use Rattle.std.proofs.Common.{◌≡◌, ℕ, zero, suc, ◌+◌, ◌<◌, ◌≤◌, Bool, true, false, not, cond, nat_lt, ltb, List, [], ◌∷◌, ◌++◌, ◌||◌, length, map, get_or, set, replicate, position, bytes_eq, Option, Some, None, option_map, if◌then◌else◌, arith, append_assoc, ap, sym, ◌∙◌, refl, ◌⊎◌, inl, inr}
+use Rattle.std.proofs.Common.{◌≡◌, ℕ, zero, suc, ◌+◌, ◌<◌, ◌≤◌, Bool, true, false, not, ◌-◌, cond, nat_lt, ltb, List, [], ◌∷◌, ◌++◌, ◌||◌, length, map, get_or, set, take, replicate, position, bytes_eq, Option, Some, None, option_map, if◌then◌else◌, arith, append_assoc, ap, sym, ◌∙◌, refl, ◌⊎◌, inl, inr}
 use Rattle.std.proofs.Math.Path.{fun_ext}
-use Rattle.std.proofs.lemmas.Bool.{cases_lt}
+use Rattle.std.proofs.lemmas.Bool.{cases_lt, false≢true}
 use Rattle.std.proofs.lemmas.Grind.{common_steps}
 use Rattle.std.proofs.lemmas.Bool.Decides.{nat_tests}
-use Rattle.std.proofs.lemmas.List.{append-nil, map-append, length-append, get_or_past, get_or-set_same, get_or-set_other}
+use Rattle.std.proofs.lemmas.List.{append-nil, map-append, length-append, get_or_past, get_or-set_same, get_or-set_other, take_all}
 use Rattle.std.proofs.lemmas.Slice.Eq.{bytes_eq-Decides}
-use Rattle.std.specs.List.{list_any, position_or_len}
+use Rattle.std.specs.List.{list_any, position_or_len, AllByRecursion, IsDistinct}
 use Rattle.rv_store.specs.Rows.{number_of, entry_at, in_row, Grows}
 
 -- Places of elements
@@ -106,6 +106,37 @@ number-same names m name n e g =
     (bytes_eq-Decides m (get_or names n [])).0 (position-passes (bytes_eq m) names n [] e)
     ∙ sym ((bytes_eq-Decides name (get_or names n [])).0 (position-passes (bytes_eq name) names n [] g))
 
+-- among names that differ
+
+unlike : (m name : List ℕ) → bytes_eq m name ≡ false → bytes_eq name m ≡ false
+unlike m name h = at (bytes_eq name m) refl
+  where
+    at : (b : Bool) → bytes_eq name m ≡ b → bytes_eq name m ≡ false
+    at false e = e
+    at true e = absurd (false≢true (sym h ∙ (bytes_eq-Decides m name).1 (sym ((bytes_eq-Decides name m).0 e))))
+
+all-at : {A : Type 0} (P : A → Type 0) (xs : List A) (n : ℕ) (other : A) → AllByRecursion P xs → n < length xs → P (get_or xs n other)
+all-at P [] n other all within = absurd (let no : n < 0 = within in omega (arith, no))
+all-at P (x ∷ xs) zero other all within = all.0
+all-at P (x ∷ xs) (suc n) other all within = all-at P xs n other all.1 (omega (arith, within))
+
+position-distinct : {A : Type 0} (f : A → List ℕ) (xs : List A) (x : A) (n : ℕ) → IsDistinct (λ a b. bytes_eq (f a) (f b)) xs → n < length xs → x ≡ get_or xs n x → position (λ y. bytes_eq (f x) (f y)) xs ≡ Some n
+unfolding IsDistinct
+position-distinct f [] x n distinct within is = absurd (let no : n < 0 = within in omega (arith, no))
+position-distinct f (y ∷ ys) x zero distinct within is =
+    position-cons (λ z. bytes_eq (f x) (f z)) y ys
+    ∙ ap (λ b. if b then Some 0 else option_map suc (position (λ z. bytes_eq (f x) (f z)) ys)) ((bytes_eq-Decides (f x) (f y)).1 (ap f is))
+position-distinct f (y ∷ ys) x (suc n) distinct within is =
+    let below : n < length ys = omega (arith, within) in
+    let other : bytes_eq (f y) (f (get_or ys n x)) ≡ false = all-at (λ z. bytes_eq (f y) (f z) ≡ false) ys n x distinct.0 below in
+    position-cons (λ z. bytes_eq (f x) (f z)) y ys
+    ∙ ap (λ b. if b then Some 0 else option_map suc (position (λ z. bytes_eq (f x) (f z)) ys)) (unlike (f y) (f x) (ap (λ z. bytes_eq (f y) (f z)) is ∙ other))
+    ∙ ap (option_map suc) (position-distinct f ys x n distinct.1 below is)
+
+-- a name that stands at a place has the number of the place
+pub number-of_place : {A : Type 0} (f : A → List ℕ) (xs : List A) (x : A) (n : ℕ) → IsDistinct (λ a b. bytes_eq (f a) (f b)) xs → n < length xs → x ≡ get_or xs n x → number_of (map f xs) (f x) ≡ Some n
+number-of_place f xs x n distinct within is = position-map (bytes_eq (f x)) f xs ∙ position-distinct f xs x n distinct within is
+
 pub grows-refl : (names : List (List ℕ)) → Grows names names
 grows-refl names = ([], sym (append-nil names))
 
@@ -184,6 +215,12 @@ row-filled names row other k = fun_ext (λ name. at (number_of names name))
     at : (r : Option ℕ) → entry_at (row ++ replicate k other) other r ≡ entry_at row other r
     at None = refl
     at (Some n) = get_or-filled row other k n
+
+-- a row that is made longer
+pub lengthened : {A : Type 0} (names : List (List ℕ)) (row : List A) (other : A) (n : ℕ) → length row ≤ n → in_row names (take n row ++ replicate (n - length row) other) other ≡ in_row names row other
+lengthened names row other n within =
+    ap (λ l. in_row names (l ++ replicate (n - length row) other) other) (take_all n row within)
+    ∙ row-filled names row other (n - length row)
 
 -- a row of nothing but the other value
 pub row-empty : {A : Type 0} (names : List (List ℕ)) (other : A) (k : ℕ) → in_row names (replicate k other) other ≡ (λ name. other)

@@ -1,15 +1,21 @@
 -- Lines of a text, by their numbers.
-use Rattle.std.proofs.Common.{◌≡◌, Bool, true, false, not, ◌&&◌, ◌==◌, nat_le, ℕ, zero, suc, ◌-◌, ◌<◌, ◌≤◌, List, [], ◌∷◌, ◌++◌, length, get_or, drop, reverse, arith, ap, sym, ◌∙◌, drop-cons}
+use Rattle.std.proofs.Common.{◌≡◌, Bool, true, false, not, ◌&&◌, ◌==◌, nat_le, ℕ, zero, suc, ◌-◌, ◌<◌, ◌≤◌, List, [], ◌∷◌, ◌++◌, length, get_or, drop, reverse, Option, Some, None, true≢false, arith, ap, sym, ◌∙◌, drop-cons, refl}
 use Rattle.std.specs.List.{list_any}
+use Rattle.std.specs.Option.{is_some}
 use Rattle.std.proofs.lemmas.Bool.{leb-true}
 use Rattle.std.proofs.lemmas.List.{get_or-map, drop_all, reverse-append}
+use Rattle.rv_stmt.specs.declared.directive.Definition.{Definition}
+use Rattle.rv_stmt.specs.declared.statement.Body.{Body}
+use Rattle.rv_stmt.specs.declared.statement.Body.TheVariants.{Equ}
 use Rattle.rv_stmt.specs.Statement.{statement_of, operands_of}
 use Rattle.rv_list.specs.declared.view.LinePlace.{LinePlace}
 use Rattle.rv_layout.specs.declared.measured.Measured.{Measured}
+use Rattle.rv_store.specs.Jumps.{target_of}
 use Rattle.rv_store.specs.Layout.{shape_at, place_at}
 use Rattle.rv_store.specs.Program.{program_of, no_statement, statement_at, body_at, for_lines}
 use Rattle.rv_store.specs.Rows.{AreShapes, ArePlaces}
 use Rattle.rv_store.specs.Text.{is_line}
+use Rattle.rv_store.specs.Uses.{is_equ}
 use Rattle.rv_store.proofs.Programs.{at-for_lines, length-for_lines, length-program}
 
 few_bytes : (line : List ℕ) → is_line line ≡ true → length line ≤ 1000
@@ -73,3 +79,16 @@ one_from_end f n (suc j) x done first last are is =
     ∙ ap (λ y. y ∷ drop (suc j) (for_lines f n)) (is ∙ sym (at-for_lines f n j x (omega (arith, last))))
     ∙ sym (drop-cons (for_lines f n) j x within)
     ∙ sym (ap (λ k. drop k (for_lines f n)) before)
+
+-- a body that is no definition is no `.equ`
+pub no_definition : (b : Body) → ((d : Definition) → b ≡ Equ d → ⊥) → is_equ b ≡ false
+no_definition (Equ d) other = absurd (other d refl)
+no_definition b other = refl
+
+-- a body without a target
+pub no_target : (b : Body) → is_some (target_of b) ≡ false → None ≡ target_of b
+no_target b none = at (target_of b) none
+  where
+    at : (o : Option (List ℕ)) → is_some o ≡ false → None ≡ o
+    at None h = refl
+    at (Some name) h = absurd (true≢false h)

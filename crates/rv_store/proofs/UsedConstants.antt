@@ -21,7 +21,7 @@ none-differs differs (n ∷ ns) none = absurd (true≢false none)
 
 -- A line that is not sized
 
-no-size_operand : (os : List Operand) → list_any (λ o. is_size o.role) os ≡ false → size_operand os ≡ None
+pub no-size_operand : (os : List Operand) → list_any (λ o. is_size o.role) os ≡ false → size_operand os ≡ None
 no-size_operand [] none = refl
 no-size_operand (o ∷ os) none =
     let parts = or_parts (is_size o.role) (list_any (λ o. is_size o.role) os) none in

@@ -3,16 +3,22 @@ use Rattle.std.specs.Prelude.{◌==◌, not, ◌||◌, length}
 use Rattle.std.specs.Option.{is_some}
 use Rattle.rv_stmt.specs.declared.statement.Stmt.{Stmt}
 use Rattle.rv_store.specs.declared.brief.Brief.{Brief}
+use Rattle.rv_store.specs.NameSets.{set_of}
+use Rattle.rv_store.specs.Jumps.{target_of}
+use Rattle.rv_store.specs.Locals.{has_local_labels}
 use Rattle.rv_store.specs.Pairs.{pcrel_high_of}
-use Rattle.rv_store.specs.Uses.{is_sized, uses_symbols, uses_address, uses_local_label, uses_paired_high, is_equ}
+use Rattle.rv_store.specs.Uses.{names_used, is_sized, uses_symbols, uses_address, uses_local_label, uses_paired_high, is_equ}
 
 abbrev pub brief_of : Stmt → Brief
 brief_of s = record {
   labels = not (length s.labels == 0);
+  local_labels = has_local_labels s.labels;
   equ = is_equ s.body;
   pcrel_high = is_some (pcrel_high_of s.body);
   sized = is_sized s.body;
   symbols = uses_symbols s.body;
+  names = set_of (names_used s.body);
   address = uses_address s.body;
+  jump = is_some (target_of s.body);
   uncompared = uses_local_label s.body || uses_paired_high s.body || is_equ s.body;
 }

@@ -1,11 +1,13 @@
 -- What an edit changes, by the numbers of the lines in the text after it, and the most that may be computed anew for it.
-use Rattle.std.specs.Prelude.{ℕ, ◌*◌, ◌==◌, Bool, true, not, ◌&&◌, ◌||◌, List, length, Option, Some, None}
+use Rattle.std.specs.Prelude.{ℕ, ◌*◌, ◌==◌, Bool, true, not, ◌&&◌, ◌||◌, List, length, Option, Some, None, if◌then◌else◌}
 use Rattle.std.specs.List.{list_any, sum_by}
+use Rattle.std.specs.Option.{is_some}
 use Rattle.rv_stmt.specs.declared.statement.Body.{Body}
 use Rattle.rv_stmt.specs.Statement.{operands_of}
 use Rattle.rv_store.specs.Codes.{values_at, code_at}
 use Rattle.rv_store.specs.Constants.{constant_of}
 use Rattle.rv_store.specs.Edits.{line_before_edit}
+use Rattle.rv_store.specs.Jumps.{target_of}
 use Rattle.rv_store.specs.Layout.{shape_at, section_at, address_at}
 use Rattle.rv_store.specs.Program.{Program, program_of, body_at, lines_that}
 use Rattle.rv_store.specs.References.{reference_of}
@@ -84,6 +86,18 @@ is_reencoded base lines edit k =
 -- the lines that are new or have other values or another shape
 abbrev pub reencoded_lines : (base : ℕ) → (lines : List (List ℕ)) → Edit → List ℕ
 reencoded_lines base lines edit = lines_that (is_reencoded base lines edit) (length (lines_after lines edit))
+
+-- Due lines: what is kept of them may be other than it was, so it is made anew
+
+-- the values of such a line are compared before they are computed: an `.equ` has that of its symbol, and a jump the distance of
+-- its target
+abbrev pub is_compared : Body → Bool
+is_compared body = is_equ body || is_some (target_of body)
+
+-- a line that is compared is due only where its values differ
+abbrev pub is_due : (base : ℕ) → (lines : List (List ℕ)) → Edit → (k : ℕ) → Bool
+is_due base lines edit k =
+    if is_compared (body_at (program_after lines edit) k) then is_reencoded base lines edit k else is_invalidated base lines edit k
 
 -- Bounds
 

@@ -1,5 +1,5 @@
 -- Where the names of a text are defined. (docs/LANGUAGE.md, Symbols)
-use Rattle.std.specs.Prelude.{ℕ, ◌+◌, ◌==◌, Bool, false, List, [], ◌∷◌, bytes_eq, if◌then◌else◌}
+use Rattle.std.specs.Prelude.{ℕ, ◌+◌, ◌==◌, Bool, false, List, [], ◌∷◌, bytes_eq, Option, Some, None, if◌then◌else◌}
 use Rattle.rv_stmt.specs.declared.label.Label.{Label}
 use Rattle.rv_stmt.specs.declared.label.LabelName.{LabelName}
 use Rattle.rv_stmt.specs.declared.label.LabelName.TheVariants as label
@@ -47,3 +47,8 @@ definition_of program name = first_place 1 program name
 abbrev pub is_equ_on : (line : ℕ) → DefinitionPlace → Bool
 is_equ_on line (Equ d) = d == line
 is_equ_on line place = false
+
+-- the line of the `.equ` that it is
+abbrev pub equ_line : DefinitionPlace → Option ℕ
+equ_line (Equ line) = Some line
+equ_line place = None

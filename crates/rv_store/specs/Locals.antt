@@ -1,10 +1,13 @@
 -- How the row of local labels is asked for one. (docs/LANGUAGE.md, Local labels)
-use Rattle.std.specs.Prelude.{◌≡◌, ℕ, ◌-◌, ◌==◌, nat_le, Bool, false, List, [], ◌∷◌, ◌++◌, length, get_or, slice_get, Option, Some, None, if◌then◌else◌}
+use Rattle.std.specs.Prelude.{◌≡◌, ℕ, ◌-◌, ◌==◌, nat_le, Bool, true, false, List, [], ◌∷◌, ◌++◌, length, get_or, slice_get, Option, Some, None, if◌then◌else◌}
+use Rattle.std.specs.List.{list_any}
 use Rattle.std.specs.List.Sorted.{IsNonDecreasing}
 use Rattle.std.specs.Option.{option_or}
 use Rattle.rv_expr.specs.declared.tree.Direction.{Direction}
 use Rattle.rv_expr.specs.declared.tree.Direction.TheVariants.{Back, Forward}
 use Rattle.rv_stmt.specs.declared.label.Label.{Label}
+use Rattle.rv_stmt.specs.declared.label.LabelName.{LabelName}
+use Rattle.rv_stmt.specs.declared.label.LabelName.TheVariants as label
 use Rattle.rv_store.specs.References.{is_local, among_local}
 
 -- the last of some lines that is this one or an earlier one
@@ -48,6 +51,14 @@ with_line line lines = if is_last line lines then lines else lines ++ line ∷ [
 -- the list of the number k, with a line that has this label
 abbrev pub with_label : (line k : ℕ) → Label → List ℕ → List ℕ
 with_label line k l lines = if is_local k l.name then with_line line lines else lines
+
+-- one of some labels is a local one
+abbrev pub is_local_label : LabelName → Bool
+is_local_label (label.Local number) = true
+is_local_label (label.Symbol symbol) = false
+
+abbrev pub has_local_labels : List Label → Bool
+has_local_labels labels = list_any (λ l. is_local_label l.name) labels
 
 -- the list of the number k, with a line that has these labels
 abbrev pub with_labels : (line k : ℕ) → List Label → List ℕ → List ℕ

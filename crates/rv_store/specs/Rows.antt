@@ -19,6 +19,10 @@ use Rattle.rv_store.specs.References.{has_local, equ_value}
 abbrev pub number_of : (names : List (List ℕ)) → (name : List ℕ) → Option ℕ
 number_of names name = position (bytes_eq name) names
 
+-- the number is that of a name
+abbrev pub IsNumber : (names : List (List ℕ)) → Option ℕ → Type 0
+IsNumber names number = (name : List ℕ) × (number_of names name ≡ number)
+
 abbrev pub entry_at : {A : Type 0} → List A → (other : A) → Option ℕ → A
 entry_at row other None = other
 entry_at row other (Some number) = get_or row number other

@@ -4,8 +4,11 @@ ghost use Rattle.std.specs.Prelude.{◌≡◌};
 ghost use Rattle.rv_store.specs.Briefs.{brief_of};
 
 use crate::highs::pcrel_high;
+use crate::jumps::target;
+use crate::locals::has_local_labels;
+use crate::name_set::NameSet;
 use crate::uses::{
-    is_equ, is_sized, uses_address, uses_local_label, uses_paired_high, uses_symbols,
+    is_equ, is_sized, set_of_names, uses_address, uses_local_label, uses_paired_high, uses_symbols,
 };
 use rv_stmt::Stmt;
 
@@ -15,6 +18,8 @@ use rv_stmt::Stmt;
 pub struct Brief {
     /// It has labels.
     pub labels: bool,
+    /// One of the labels is a local one.
+    pub local_labels: bool,
     /// It is an `.equ`.
     pub equ: bool,
     /// It is an `auipc` with `%pcrel_hi`.
@@ -23,8 +28,12 @@ pub struct Brief {
     pub sized: bool,
     /// It uses symbols.
     pub symbols: bool,
+    /// The symbols that it uses, and maybe others.
+    pub names: NameSet,
     /// It uses its own address.
     pub address: bool,
+    /// It uses the address of one symbol, counted from its own, and nothing else.
+    pub jump: bool,
     /// It uses a local label or `%pcrel_lo`, or is an `.equ`: what such a line uses is not compared.
     pub uncompared: bool,
 }
@@ -37,11 +46,14 @@ impl Brief {
         let body = &stmt.body;
         Brief {
             labels: !stmt.labels.as_slice().is_empty(),
+            local_labels: has_local_labels(stmt.labels.as_slice()),
             equ: is_equ(body),
             pcrel_high: pcrel_high(body).is_some(),
             sized: is_sized(body),
             symbols: uses_symbols(body),
+            names: set_of_names(body),
             address: uses_address(body),
+            jump: target(body).is_some(),
             uncompared: uses_local_label(body) || uses_paired_high(body) || is_equ(body),
         }
     }

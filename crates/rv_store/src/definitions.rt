@@ -221,6 +221,27 @@ fn define_line(
     define_statement(alloc, line.stmt(), number, names, row)
 }
 
+/// Where each name of a text is defined that has one line more at its end, its line `number`; `row` says it of the lines before
+/// it. Each name that has a number has a place in the row. Names that the line defines get numbers if they have none, also
+/// where there is no memory for the rest.
+pub fn definitions_with(
+    alloc: Global,
+    row: &[DefinitionPlace],
+    line: &Line,
+    number: u32,
+    names: &mut NameTable,
+) -> Result<Vec<DefinitionPlace>, AllocError>
+    requires { length row.now ≤ length names.old }
+    ensures definitions { IfOk result (λ row'. in_row names.new row'.items Nowhere ≡ then_also (in_row names.old row.now Nowhere) (place_in_statement number (statement_of line.now))) }
+    ensures as_many { IfOk result (λ row'. length row'.items ≡ length names.new) }
+    ensures names { Grows names.old names.new }
+{
+    let mut row = Vec::from_slice(alloc, row)?;
+    define_line(alloc, line, number, names, &mut row)?;
+    row.resize(names.len(), DefinitionPlace::Nowhere)?;
+    Ok(row)
+}
+
 /// Where each name of a text is defined, by the names' numbers, in one loop over the lines. Names that the text defines get
 /// numbers if they have none, also where there is no memory for the rest.
 pub fn definitions(

@@ -2,32 +2,33 @@
 
 ghost use Rattle.std.specs.Prelude.{◌≡◌, ℕ, ◌≤◌, ◌<◌, ◌+◌, ◌-◌, ◌^◌, suc, false, [], ◌∷◌, ◌++◌, length, IfOk, IfErr, IfSome, OnOk, OnErr, IsTrue};
 ghost use Rattle.rv_layout.specs.Effects.{layout_of, offset_reached, base_by_layout};
-ghost use Rattle.rv_layout.specs.Places.{sum_below, AreLimited, IsBase};
+ghost use Rattle.rv_layout.specs.Places.{sum_below, IsLimited, AreLimited, IsBase};
 ghost use Rattle.rv_layout.specs.Sections.{sections};
+ghost use Rattle.rv_layout.specs.Shapes.{size_operands};
 ghost use Rattle.rv_stmt.specs.Statement.{statement_of};
 ghost use Rattle.rv_store.specs.declared.limits.TheConstants.{MAX_LINES};
-ghost use Rattle.rv_store.specs.Appended.{IsBare, IsEnding, AreExtended, BeginAs, AreSameRows};
-ghost use Rattle.rv_store.specs.Briefs.{brief_of};
+ghost use Rattle.rv_store.specs.Appended.{IsBare, shape_at_end, IsEnding, AreExtended, BeginAs, AreSameRows};
 ghost use Rattle.rv_store.specs.Ends.{place_by_shapes};
 ghost use Rattle.rv_store.specs.Items.{IsItemAdded};
 ghost use Rattle.rv_store.specs.Program.{program_of, body_at};
-ghost use Rattle.rv_store.specs.Rows.{AreShapes};
+ghost use Rattle.rv_store.specs.Rows.{AreConstants, AreShapes};
 ghost use Rattle.rv_store.specs.Surveys.{IsSurvey};
-ghost use Rattle.rv_store.specs.Uses.{is_sized};
 ghost use Rattle.rv_store.specs.Work.{value_operands};
 
-use crate::alike::unsized_shape;
 use crate::changed::Changed;
+use crate::constants::LineConstants;
 use crate::edit_error::EditError;
 use crate::ends::Ends;
 use crate::item::Item;
 use crate::line::Line;
+use crate::lines::Lines;
 use crate::names::NameTable;
 use crate::places::next_place;
 use crate::replacement::item_of_line;
+use crate::shapes::shape_of_line;
 use crate::survey::Survey;
 use rv_expr::ValueFault;
-use rv_layout::{Layout, Measured, bases, layouts_tell_places, shapes_are_limited};
+use rv_layout::{Layout, Measured, bases, layouts_tell_places};
 use rv_list::LinePlace;
 use rv_text::Count;
 use rv_tree::SumTree;
@@ -44,13 +45,36 @@ pub struct Ending {
     pub place: LinePlace,
 }
 
-// Whether a line defines nothing, and no operand is computed for its shape.
+/// The shape of a line at the end of a text. The counter's number of expressions computed rises by at most one.
+pub fn shape_at_end<'a, C: Count>(
+    survey: &'a Survey,
+    names: &'a NameTable,
+    line: &Line,
+    counter: &mut C,
+) -> Measured
+    requires constants { AreConstants (program_of survey.now.lines.items) (length (program_of survey.now.lines.items)) names.now survey.now.constants.items }
+    requires valued { C.valued_count counter.old < 2 ^ 64 - 1 }
+    ensures shape { result ≡ shape_at_end (program_of survey.now.lines.items) (statement_of line.now) }
+    ensures limited { IsLimited result }
+    ensures least { C.valued_count counter.old ≤ C.valued_count counter.new }
+    ensures most { C.valued_count counter.new ≤ C.valued_count counter.old + size_operands (statement_of line.now).body }
+    ensures one { C.valued_count counter.new ≤ C.valued_count counter.old + 1 }
+    ensures parsed { C.parsed_count counter.new ≡ C.parsed_count counter.old }
+    ensures encoded { C.encoded_count counter.new ≡ C.encoded_count counter.old }
+{
+    let constants = LineConstants {
+        names,
+        row: &survey.constants,
+    };
+    shape_of_line(line, &constants, counter)
+}
+
+// Whether a line defines nothing.
 fn is_bare(line: &Line) -> bool
-    ensures bare { IsTrue result → IsBare (statement_of line.now) }
-    ensures no_size { IsTrue result → is_sized (statement_of line.now).body ≡ false }
+    ensures { IsTrue result → IsBare (statement_of line.now) }
 {
     let brief = line.brief();
-    !brief.labels & !brief.equ & !brief.pcrel_high & !brief.sized
+    !brief.labels & !brief.equ & !brief.pcrel_high
 }
 
 // Whether all sections begin where they began before lines were added.
@@ -76,32 +100,22 @@ fn place_at_end(base: u32, survey: &Survey, total: &Layout, shape: &Measured) ->
     next_place(&bases(total, base), &Ends::reached(&survey.total), shape)
 }
 
-/// What a line adds at the end of a text, if no other line has to do with it: it defines nothing, no operand is computed for
-/// its shape, and no section moves by it.
-pub fn bare_ending<C: Count>(
-    base: u32,
-    survey: &Survey,
-    line: &Line,
-    counter: &mut C,
-) -> Option<Ending>
+/// What a line of this shape adds at the end of a text, if no other line has to do with it: it defines nothing, and no section
+/// moves by it.
+pub fn bare_ending(base: u32, survey: &Survey, line: &Line, shape: Measured) -> Option<Ending>
     requires base { IsBase base }
     requires shapes { AreShapes (program_of survey.now.lines.items) survey.now.shapes.items }
     requires limited { AreLimited survey.now.shapes.items }
     requires total { survey.now.total ≡ layout_of survey.now.shapes.items }
     requires few { length survey.now.lines.items < MAX_LINES }
-    requires valued { C.valued_count counter.old < 2 ^ 64 - 1 }
-    ensures ending { IfSome result (IsEnding base (program_of survey.now.lines.items) (statement_of line.now)) }
-    ensures parsed { C.parsed_count counter.new ≡ C.parsed_count counter.old }
-    ensures valued { C.valued_count counter.new ≡ C.valued_count counter.old }
-    ensures encoded { C.encoded_count counter.new ≡ C.encoded_count counter.old }
+    requires shape { shape ≡ shape_at_end (program_of survey.now.lines.items) (statement_of line.now) }
+    requires limited_shape { IsLimited shape }
+    ensures { IfSome result (IsEnding base (program_of survey.now.lines.items) (statement_of line.now)) }
 {
     if !is_bare(line) {
         return None;
     }
-    line.data_are_few();
-    shapes_are_limited();
     layouts_tell_places();
-    let shape = unsized_shape(line, counter);
     let total = survey.total.then(&shape);
     if !stay_sections(base, &survey.total, &total) {
         return None;
@@ -159,7 +173,7 @@ fn with_last_item<C: Count>(
     requires survey { IsSurvey base (program_of survey.now.lines.items) names.now survey.now }
     requires few { length survey.now.lines.items ≤ MAX_LINES }
     requires count { length items.now.items + 1 ≡ length survey.now.lines.items }
-    requires valued { C.valued_count counter.old ≤ 2 ^ 63 }
+    requires valued { C.valued_count counter.old ≤ 2 ^ 63 + 1 }
     requires encoded { C.encoded_count counter.old ≤ 2 ^ 63 }
     ensures items { IfOk result (λ t. IsItemAdded base survey.now.lines.items items.now.items t.items) }
     ensures memory { IfErr result (λ e. e ≡ EditError.Memory) }
@@ -170,7 +184,8 @@ fn with_last_item<C: Count>(
     ensures encoded_least { C.encoded_count counter.old ≤ C.encoded_count counter.new }
     ensures encoded_most { C.encoded_count counter.new ≤ C.encoded_count counter.old + 1 }
 {
-    let rows = survey.rows(base, names);
+    let lines = Lines::in_column(&survey.lines);
+    let rows = survey.rows(&lines, base, names);
     let last = survey.lines.len() as u32;
     let item = item_of_line(alloc, &rows, last, counter)?;
     Ok(items.inserted(last, item)?)
@@ -199,7 +214,7 @@ pub fn appended<C: Count>(
     requires ending { IsEnding base (program_of survey.old.lines.items) (statement_of line) end.now }
     requires few { length survey.old.lines.items < MAX_LINES }
     requires count { length items.now.items ≡ length survey.old.lines.items }
-    requires valued { C.valued_count counter.old ≤ 2 ^ 63 }
+    requires valued { C.valued_count counter.old ≤ 2 ^ 63 + 1 }
     requires encoded { C.encoded_count counter.old ≤ 2 ^ 63 }
     ensures ok { OnOk result (AreExtended line end.now survey.old survey.new) }
     ensures err { OnErr result (BeginAs (length survey.old.lines.items) survey.old survey.new) }

@@ -60,7 +60,7 @@ fn settle_equ<C: Count>(text: &TextRows<'_>, i: usize, row: &mut Vec<Entry>, cou
     ensures encoded { C.encoded_count counter.new ≡ C.encoded_count counter.old }
 {
     let line = i as u32 + 1;
-    let read = &text.lines[i];
+    let read = text.lines.line(line);
     let Some((definition, number)) = defining_equ_on(read, line, text.names, text.definitions)
     else {
         return;

@@ -15,6 +15,8 @@ ghost use Rattle.rv_store.specs.Work.{high_operands, work};
 use crate::before::Before;
 use crate::invalidation::is_invalidated;
 use crate::line_names::references_at;
+use crate::name_set::NameSet;
+use crate::room::room_for;
 use crate::symbol_rows::SymbolRows;
 use crate::text_lines::{place_on, statement_on};
 use crate::text_rows::TextRows;
@@ -97,7 +99,7 @@ fn has_pcrel_high(text: &TextRows<'_>, line: u32) -> bool
     requires last { line ≤ length text.now.lines.now }
     ensures { result ≡ is_some (pcrel_high_of (body_at (program_in text.now) line)) }
 {
-    text.lines[line as usize - 1].brief().pcrel_high
+    text.lines.line(line).brief().pcrel_high
 }
 
 // The high half on a line of the text after an edit: what it was, unless the edit invalidates the line.
@@ -123,7 +125,7 @@ fn high_after<C: Count>(
     if !has_pcrel_high(&after.text, line) {
         return Err(ValueFault::NoPartner);
     }
-    if !is_invalidated(before, after, line) {
+    if !is_invalidated(before, after, NameSet::all(), line) {
         if let Some(stood) = before.edit.line_before(line) {
             return before.highs[stood as usize - 1];
         }
@@ -156,7 +158,7 @@ pub fn highs<C: Count>(
     ensures parsed { C.parsed_count counter.new ≡ C.parsed_count counter.old }
     ensures encoded { C.encoded_count counter.new ≡ C.encoded_count counter.old }
 {
-    let mut row = Vec::with_capacity(alloc, after.text.lines.len())?;
+    let mut row = Vec::with_capacity(alloc, room_for(after.text.lines.len()))?;
     for i in 0..after.text.lines.len() {
         let line = i as u32 + 1;
         row.push(high_after(before, after, line, counter))?;

@@ -1,18 +1,19 @@
 //! Which lines an edit invalidates: their values may differ from those that they had.
 
-ghost use Rattle.std.specs.Prelude.{◌≡◌, ◌≤◌, length, IfOk};
+ghost use Rattle.std.specs.Prelude.{◌≡◌, ◌≤◌, length};
 ghost use Rattle.rv_store.specs.Before.{IsBefore, IsAfter, base_before, lines_before, edit_on};
 ghost use Rattle.rv_store.specs.Changes.{differs_in_place, differs_in_uses, is_invalidated};
-ghost use Rattle.rv_store.specs.LinePairs.{IsLinePair, IsOpenPair, differs_in_name_on, program_before_pair, program_after_pair};
-ghost use Rattle.rv_store.specs.Program.{body_at, lines_that};
+ghost use Rattle.rv_store.specs.Differing.{HasDiffering};
+ghost use Rattle.rv_store.specs.LinePairs.{IsLinePair, IsOpenPair, HasDifferingOn, differs_in_name_on, program_before_pair, program_after_pair};
+ghost use Rattle.rv_store.specs.Program.{body_at};
 ghost use Rattle.rv_store.specs.SymbolRows.{AreSymbolRows};
 
 use crate::before::Before;
 use crate::line_values::is_same_entry;
+use crate::name_set::NameSet;
 use crate::symbol_rows::SymbolRows;
 use crate::text_lines::{brief_on, place_on, statement_on};
 use crate::uses::{NameTest, any_name};
-use std::alloc::{AllocError, Global};
 
 // A line of a text after an edit, and the line that it was before it.
 #[derive(Drop)]
@@ -49,24 +50,33 @@ impl LinePair<'_> {
         after.address != before.address || after.section != before.section
     }
 
-    // Whether what the line uses gives something else than it gave, or it uses what is not compared.
-    fn differs_in_uses(&self) -> bool
-        requires { IsLinePair self.now }
+    // Whether what the line uses gives something else than it gave, or it uses what is not compared. `differing` has each
+    // symbol that differs on it: if the line uses none of them, it is not asked for its names one by one.
+    fn differs_in_uses(&self, differing: NameSet) -> bool
+        requires lines { IsLinePair self.now }
+        requires differing { HasDifferingOn self.now differing }
         ensures { result ≡ differs_in_uses self.now.before.now.text.base (program_before_pair self.now) (program_after_pair self.now) self.now.line self.now.stood (body_at (program_after_pair self.now) self.now.line) }
     {
         let brief = brief_on(&self.after.text, self.line);
         if brief.uncompared || brief.address && self.differs_in_place() {
             return true;
         }
-        brief.symbols && any_name(&statement_on(&self.after.text, self.line).body, self)
+        brief.names.meets(differing)
+            && any_name(&statement_on(&self.after.text, self.line).body, self)
     }
 }
 
-/// Whether an edit invalidates a line of the text after it.
-pub fn is_invalidated(before: &Before<'_, '_>, after: &SymbolRows<'_>, line: u32) -> bool
+/// Whether an edit invalidates a line of the text after it. `differing` has each symbol that differs on one of the lines.
+pub fn is_invalidated(
+    before: &Before<'_, '_>,
+    after: &SymbolRows<'_>,
+    differing: NameSet,
+    line: u32,
+) -> bool
     requires before { IsBefore before.now }
     requires rows { AreSymbolRows after.now }
     requires after { IsAfter before.now after.now.text }
+    requires differing { HasDiffering (base_before before.now) (lines_before before.now) (edit_on before.now) differing }
     requires first { 1 ≤ line }
     requires last { line ≤ length after.now.text.lines.now }
     ensures { result ≡ is_invalidated (base_before before.now) (lines_before before.now) (edit_on before.now) line }
@@ -80,26 +90,5 @@ pub fn is_invalidated(before: &Before<'_, '_>, after: &SymbolRows<'_>, line: u32
         stood,
         line,
     };
-    pair.differs_in_uses()
-}
-
-/// The lines of the text after an edit that the edit invalidates, rising.
-pub fn invalidated_lines(
-    alloc: Global,
-    before: &Before<'_, '_>,
-    after: &SymbolRows<'_>,
-) -> Result<Vec<u32>, AllocError>
-    requires before { IsBefore before.now }
-    requires rows { AreSymbolRows after.now }
-    requires after { IsAfter before.now after.now.text }
-    ensures { IfOk result (λ row. row.items ≡ lines_that (is_invalidated (base_before before.now) (lines_before before.now) (edit_on before.now)) (length after.now.text.lines.now)) }
-{
-    let mut row = Vec::new(alloc);
-    for i in 0..after.text.lines.len() {
-        let line = i as u32 + 1;
-        if is_invalidated(before, after, line) {
-            row.push(line)?;
-        }
-    }
-    Ok(row)
+    pair.differs_in_uses(differing)
 }

@@ -9,7 +9,7 @@ ghost use Rattle.rv_store.specs.References.{line_of_place, or_faulty_equ, by_def
 ghost use Rattle.rv_store.specs.TextRows.{address_in, program_in, AreTextRows, AreEquValuesIn, ArePairedHighsIn, address_in_text, references_through};
 
 use crate::locals::Locals;
-use crate::names::{NameTable, entry_of};
+use crate::names::{NameTable, entry_at, entry_of};
 use crate::text_rows::{TextRows, address_in};
 use rv_expr::{Direction, LabelReference, Names, ValueFault};
 use rv_fix::Entry;
@@ -35,8 +35,9 @@ impl Names for LineNames<'_> {
     ghost environment = { given_by };
 
     fn symbol(&self, _here: u32, name: &[u8]) -> Result<i64, ValueFault> {
-        let place = entry_of(self.names, self.definitions, DefinitionPlace::Nowhere, name);
-        let value = entry_of(self.names, self.equ_values, Err(ValueFault::LaterEqu), name);
+        let number = self.names.number(name);
+        let place = entry_at(self.definitions, DefinitionPlace::Nowhere, number);
+        let value = entry_at(self.equ_values, Err(ValueFault::LaterEqu), number);
         by_definition(self.places, self.usable_equs, place, value)
     }
 
@@ -150,7 +151,7 @@ fn usable_equs(text: &TextRows<'_>, line: u32) -> u32
     ensures lines { result ≡ usable_equs (program_in text.now) line (body_at (program_in text.now) line) }
     ensures within { result ≤ length text.now.lines.now }
 {
-    match text.lines[line as usize - 1].stmt().body {
+    match text.lines.line(line).stmt().body {
         Body::Equ(_) => line - 1,
         _ => text.lines.len() as u32,
     }

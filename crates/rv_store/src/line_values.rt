@@ -5,11 +5,16 @@ ghost use Rattle.rv_stmt.specs.declared.statement.Body.{Body};
 ghost use Rattle.rv_stmt.specs.Statement.{operands_of};
 ghost use Rattle.rv_store.specs.declared.limits.TheConstants.{MAX_LINES};
 ghost use Rattle.rv_store.specs.Codes.{is_text, values_of_body, values_at};
+ghost use Rattle.rv_store.specs.Program.{body_at};
+ghost use Rattle.rv_store.specs.Rows.{number_of};
+ghost use Rattle.rv_store.specs.SymbolRows.{AreSymbolRows};
+ghost use Rattle.rv_store.specs.TextRows.{program_in};
 ghost use Rattle.rv_store.specs.ValueRows.{AreValueRows, base_of, program_of_rows, body_in};
 ghost use Rattle.rv_store.specs.Work.{value_operands};
 
 use crate::line_names::names_at;
-use crate::names::entry_of;
+use crate::names::entry_at;
+use crate::symbol_rows::SymbolRows;
 use crate::text_lines::{place_on, statement_on};
 use crate::value_rows::{ValueRows, shape_on};
 use rv_expr::ValueFault;
@@ -81,29 +86,28 @@ fn is_text(section: Sect) -> bool
     section == Sect::Text
 }
 
-// The value of the symbol of an `.equ`, if this defines it.
-fn symbol_value(rows: &ValueRows<'_>, definition: &Definition, line: u32) -> LineValues
-    requires rows { AreValueRows rows.now }
+/// The value of the symbol of an `.equ`, if this defines it, by the symbol's number.
+pub(crate) fn symbol_value(
+    rows: &SymbolRows<'_>,
+    definition: &Definition,
+    number: Option<usize>,
+    line: u32,
+) -> LineValues
+    requires numbered { number_of rows.now.text.names.now definition.now.symbol ≡ number }
+    requires rows { AreSymbolRows rows.now }
     requires first { 1 ≤ line }
-    requires last { line ≤ length rows.now.symbols.text.lines.now }
-    requires equ { body_in rows.now line ≡ Body.Equ definition.now }
-    ensures { result ≡ values_of_body (base_of rows.now) (program_of_rows rows.now) line (Body.Equ definition.now) }
+    requires last { line ≤ length rows.now.text.lines.now }
+    requires equ { body_at (program_in rows.now.text) line ≡ Body.Equ definition.now }
+    ensures { result ≡ values_of_body rows.now.text.base (program_in rows.now.text) line (Body.Equ definition.now) }
 {
-    let text = &rows.symbols.text;
-    let name = definition.symbol.bytes();
-    let place = entry_of(text.names, text.definitions, DefinitionPlace::Nowhere, name);
+    let place = entry_at(rows.text.definitions, DefinitionPlace::Nowhere, number);
     let DefinitionPlace::Equ(equ) = place else {
         return LineValues::Nothing;
     };
     if equ != line {
         return LineValues::Nothing;
     }
-    let value = entry_of(
-        text.names,
-        rows.symbols.equ_values,
-        Err(ValueFault::LaterEqu),
-        name,
-    );
+    let value = entry_at(rows.equ_values, Err(ValueFault::LaterEqu), number);
     LineValues::Symbol(value)
 }
 
@@ -129,7 +133,10 @@ fn values_of_body<C: Count>(
     let place = place_on(&rows.symbols.text, line);
     match &stmt.body {
         Body::Align(_) => Ok(LineValues::Padding(is_text(place.section), place.size)),
-        Body::Equ(definition) => Ok(symbol_value(rows, definition, line)),
+        Body::Equ(definition) => {
+            let number = rows.symbols.text.names.number(definition.symbol.bytes());
+            Ok(symbol_value(&rows.symbols, definition, number, line))
+        }
         _ => {
             let names = names_at(
                 &rows.symbols.text,

@@ -3,7 +3,7 @@
 ghost use Rattle.std.specs.Prelude.{◌≡◌, ◌≤◌, ◌<◌, ◌^◌, ℕ, [], nat_le, length, get_or, IfOk};
 ghost use Rattle.std.specs.List.Sorted.{IsNonDecreasing};
 ghost use Rattle.rv_stmt.specs.Statement.{statement_of};
-ghost use Rattle.rv_store.specs.Locals.{line_among, local_line_in, with_line, with_label, AreWithLabels};
+ghost use Rattle.rv_store.specs.Locals.{line_among, local_line_in, with_line, with_label, has_local_labels, AreWithLabels};
 ghost use Rattle.rv_store.specs.Program.{program_of};
 ghost use Rattle.rv_store.specs.Rows.{AreLocals};
 
@@ -88,7 +88,7 @@ fn add_labels(
     Ok(())
 }
 
-// The labels of a line. One without labels is gone past without a look at its statement.
+// The labels of a line. One without local labels is gone past without a look at its statement.
 fn add_labels_of(
     alloc: Global,
     rows: &mut Vec<Sequence<u32>>,
@@ -97,10 +97,23 @@ fn add_labels_of(
 ) -> Result<(), AllocError>
     ensures { IfOk result (λ _. AreWithLabels number (statement_of line.now).labels rows.old.items rows.new.items) }
 {
-    if !line.brief().labels {
+    if !line.brief().local_labels {
         return Ok(());
     }
     add_labels(alloc, rows, line.stmt().labels.as_slice(), number)
+}
+
+/// Whether one of some labels is a local one.
+pub fn has_local_labels(mut labels: &[Label]) -> bool
+    ensures { result ≡ has_local_labels labels.entry.now }
+{
+    while let [label, rest @ ..] = labels {
+        if let LabelName::Local(_) = label.name {
+            return true;
+        }
+        labels = rest;
+    }
+    false
 }
 
 // The line among those of a local label.

@@ -46,6 +46,14 @@ impl NameTable {
         self.names.get_index_of(name)
     }
 
+    /// The name that has this number.
+    pub fn name(&self, number: usize) -> &[u8]
+        requires { number < length self.now }
+        ensures { number_of self.now result.now ≡ Some number }
+    {
+        self.names.as_slice()[number].as_slice()
+    }
+
     /// The number of a name, which gets the next one if it has none. Names that have numbers keep them, also where there is
     /// no memory for one more.
     pub fn intern(&mut self, alloc: Global, name: &[u8]) -> Result<usize, AllocError>

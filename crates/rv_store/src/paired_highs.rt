@@ -8,6 +8,7 @@ ghost use Rattle.rv_store.specs.Pairs.{paired_high_of};
 ghost use Rattle.rv_store.specs.Rows.{AreHighs};
 ghost use Rattle.rv_store.specs.TextRows.{AreTextRows, ArePairedHighsIn, program_in};
 
+use crate::room::room_for;
 use crate::text_lines::place_on;
 use crate::text_rows::TextRows;
 use rv_expr::ValueFault;
@@ -59,7 +60,7 @@ pub fn paired_highs(
     requires few { length text.now.lines.now ≤ MAX_LINES }
     ensures { IfOk result (λ row. ArePairedHighsIn text.now row.items) }
 {
-    let mut row = Vec::with_capacity(alloc, text.lines.len())?;
+    let mut row = Vec::with_capacity(alloc, room_for(text.lines.len()))?;
     let mut next = [Err(ValueFault::NoPartner); SECTIONS];
     for i in (0..text.lines.len()).rev() {
         let line = i as u32 + 1;

@@ -9,6 +9,7 @@ ghost use Rattle.rv_store.specs.Ends.{next_offset, next_place};
 ghost use Rattle.rv_store.specs.Program.{for_lines};
 
 use crate::ends::Ends;
+use crate::room::room_for;
 use rv_layout::{Layout, Measured, SECTIONS, bases, section_number};
 use rv_list::LinePlace;
 use std::alloc::{AllocError, Global};
@@ -73,7 +74,7 @@ pub fn places(
 {
     let bases = bases(total, base);
     let mut ends = Ends::start();
-    let mut row = Vec::with_capacity(alloc, shapes.len())?;
+    let mut row = Vec::with_capacity(alloc, room_for(shapes.len()))?;
     for shape in shapes {
         row.push(next_place(&bases, &ends, shape))?;
         ends.advance(shape);

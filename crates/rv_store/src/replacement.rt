@@ -11,6 +11,7 @@ ghost use Rattle.rv_store.specs.Work.{value_operands};
 use crate::changed::Changed;
 use crate::edit_error::EditError;
 use crate::item::Item;
+use crate::lines::Lines;
 use crate::names::NameTable;
 use crate::survey::Survey;
 use crate::text_lines::operands_are_few_on;
@@ -31,7 +32,7 @@ pub fn item_of_line<C: Count>(
     requires few { length rows.now.symbols.text.lines.now ≤ MAX_LINES }
     requires first { 1 ≤ line }
     requires last { line ≤ length rows.now.symbols.text.lines.now }
-    requires valued { C.valued_count counter.old ≤ 2 ^ 63 }
+    requires valued { C.valued_count counter.old ≤ 2 ^ 63 + 1 }
     requires encoded { C.encoded_count counter.old ≤ 2 ^ 63 }
     ensures item { IfOk result (λ item. IsItem (base_of rows.now) rows.now.symbols.text.lines.now line item) }
     ensures memory { IfErr result (λ e. e ≡ EditError.Memory) }
@@ -46,7 +47,7 @@ pub fn item_of_line<C: Count>(
     let values = rows.values(alloc, line, counter)?;
     let code = rows.code(alloc, line, &values, counter)?;
     Ok(Item {
-        line: rows.symbols.text.lines[line as usize - 1].share()?,
+        line: rows.symbols.text.lines.line(line).share()?,
         shape: shape_on(rows, line),
         values: Rc::new(alloc, values)?,
         code: Rc::new(alloc, code)?,
@@ -87,7 +88,8 @@ pub fn item_replaced<C: Count>(
     ensures encoded_least { C.encoded_count counter.old ≤ C.encoded_count counter.new }
     ensures encoded_most { C.encoded_count counter.new ≤ C.encoded_count counter.old + 1 }
 {
-    let rows = survey.rows(base, names);
+    let lines = Lines::in_column(&survey.lines);
+    let rows = survey.rows(&lines, base, names);
     let item = item_of_line(alloc, &rows, k, counter)?;
     let mut numbers = Vec::new(alloc);
     numbers.push(k)?;

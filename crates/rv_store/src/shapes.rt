@@ -19,6 +19,7 @@ use crate::before::Before;
 use crate::constants::{LineConstants, settle_constant};
 use crate::line::Line;
 use crate::names::NameTable;
+use crate::room::room_for;
 use crate::symbol_rows::SymbolRows;
 use crate::uses::{NameTest, any_name};
 use rv_layout::{Consts, Measured, measure, shapes_are_limited, size_operands_are_few};
@@ -52,10 +53,11 @@ impl NameTest for ConstantPair<'_, '_> {
     }
 }
 
-// The shape of a line where names have these constants.
-fn shape_of_line<C: Count>(line: &Line, given: &LineConstants<'_>, counter: &mut C) -> Measured
+/// The shape of a line where names have these constants. The counter's number of expressions computed rises by at most one.
+pub fn shape_of_line<C: Count>(line: &Line, given: &LineConstants<'_>, counter: &mut C) -> Measured
     requires { C.valued_count counter.old < 2 ^ 64 - 1 }
     ensures shape { result ≡ shape_of (in_row given.now.names.now given.now.row.now None) (statement_of line.now).body }
+    ensures limited { IsLimited result }
     ensures least { C.valued_count counter.old ≤ C.valued_count counter.new }
     ensures most { C.valued_count counter.new ≤ C.valued_count counter.old + size_operands (statement_of line.now).body }
     ensures one { C.valued_count counter.new ≤ C.valued_count counter.old + 1 }
@@ -63,6 +65,7 @@ fn shape_of_line<C: Count>(line: &Line, given: &LineConstants<'_>, counter: &mut
     ensures encoded { C.encoded_count counter.new ≡ C.encoded_count counter.old }
 {
     line.data_are_few();
+    shapes_are_limited();
     size_operands_are_few();
     measure(line.stmt(), given, counter)
 }
@@ -144,7 +147,7 @@ pub fn shapes<C: Count>(
     ensures encoded { C.encoded_count counter.new ≡ C.encoded_count counter.old }
 {
     let mut constants = vec![in alloc; None; definitions.len()]?;
-    let mut shapes = Vec::with_capacity(alloc, lines.len())?;
+    let mut shapes = Vec::with_capacity(alloc, room_for(lines.len()))?;
     for i in 0..lines.len() {
         let given = LineConstants {
             names,

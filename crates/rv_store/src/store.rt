@@ -4,7 +4,10 @@ ghost use Rattle.std.specs.Prelude.{◌≡◌, ◌+◌, ◌*◌, ◌-◌, ◌^�
 ghost use Rattle.std.specs.Option.{option_map};
 ghost use Rattle.rv_stmt.specs.Statement.{statement_of};
 ghost use Rattle.rv_store.specs.Alike.{IsAlike};
-ghost use Rattle.rv_store.specs.Appended.{IsEnding};
+ghost use Rattle.rv_layout.specs.Places.{IsLimited};
+ghost use Rattle.rv_layout.specs.Shapes.{size_operands};
+ghost use Rattle.rv_store.specs.Appended.{shape_at_end, IsEnding};
+ghost use Rattle.rv_store.specs.Assembled.{AreCountedAfter};
 ghost use Rattle.rv_store.specs.Changes.{changed_lines, most_values, most_codes};
 ghost use Rattle.rv_store.specs.Codes.{code_at};
 ghost use Rattle.rv_store.specs.Counted.{counts_of, lines_read, Counted};
@@ -18,27 +21,30 @@ ghost use Rattle.rv_store.specs.Text.{is_base, is_line, at_line, Insert, Delete,
 mod shown;
 
 use crate::alike::is_alike;
+use crate::assembly::assembled;
 use crate::base::base_ok;
 use crate::changed::Changed;
+use crate::column::{edit_lines, take_back};
 use crate::edit::{LineEdit, ReadEdit};
 use crate::edit_error::EditError;
-use crate::ending::{Ending, appended, bare_ending};
+use crate::ending::{Ending, appended, bare_ending, shape_at_end};
+use crate::extension::extended;
 use crate::item::Item;
 use crate::limits::MAX_LINES;
 use crate::line::Line;
 use crate::names::NameTable;
-use crate::renewal::renewed_items;
 use crate::replacement::item_replaced;
 use crate::survey::Survey;
 use crate::symbols::SymValue;
 use crate::text_rows::address_in;
 use rv_fix::Coded;
-use rv_layout::{layouts_tell_places, place};
+use rv_layout::{Measured, layouts_tell_places, place};
 use rv_list::{DefinitionPlace, View};
 use rv_text::Count;
 use rv_tree::SumTree;
-use std::alloc::{AllocError, Global};
+use std::alloc::Global;
 use std::marker::Model;
+use std::mem;
 
 /// A text, line by line, with the code of each line.
 #[derive(Drop)]
@@ -60,18 +66,6 @@ impl Model for Store {
     ghost view = { λ s. record { base = s.base; lines = map (λ i. i.line) s.items.items } };
 
     ghost invariant = { λ s. IsStored s.base (map (λ i. i.line) s.items.items) s.names s.survey s.items.items };
-}
-
-// The lines once more, in a list with room for one more.
-fn shared_lines(alloc: Global, lines: &[Line]) -> Result<Vec<Line>, AllocError>
-    requires { length lines.now ≤ MAX_LINES }
-    ensures { IfOk result (λ shared. shared.items ≡ lines.now) }
-{
-    let mut shared = Vec::with_capacity(alloc, lines.len() + 1)?;
-    for line in lines {
-        shared.push(line.share()?)?;
-    }
-    Ok(shared)
 }
 
 impl Store {
@@ -227,25 +221,9 @@ impl Store {
         }
     }
 
-    // What a line adds as line `k`, if that is the end of the text, and no other line has to do with it. Nothing is counted.
-    fn ending<C: Count>(&self, k: u32, line: &Line, counter: &mut C) -> Option<Ending>
-        requires allowed { refusal_of self.now.lines (Insert k line.now) ≡ None }
-        requires valued { C.valued_count counter.old < 2 ^ 64 - 1 }
-        ensures end { IfSome result (λ end. k ≡ length self.now.lines + 1) }
-        ensures ending { IfSome result (IsEnding self.now.base (program_of self.now.lines) (statement_of line.now)) }
-        ensures parsed { C.parsed_count counter.new ≡ C.parsed_count counter.old }
-        ensures valued { C.valued_count counter.new ≡ C.valued_count counter.old }
-        ensures encoded { C.encoded_count counter.new ≡ C.encoded_count counter.old }
-    {
-        if k <= self.items.len() {
-            return None;
-        }
-        bare_ending(self.base, &self.survey, line, counter)
-    }
-
     // Puts a line at the end of the text, with which no other line has to do: only this line is made. Where there is no memory
     // for that, the text stays.
-    fn append<C: Count>(
+    fn push<C: Count>(
         &mut self,
         k: u32,
         line: Line,
@@ -255,7 +233,7 @@ impl Store {
         requires allowed { refusal_of self.old.lines (Insert k line) ≡ None }
         requires end { k ≡ length self.old.lines + 1 }
         requires ending { IsEnding self.old.base (program_of self.old.lines) (statement_of line) end.now }
-        requires valued { C.valued_count counter.old ≤ 2 ^ 63 }
+        requires valued { C.valued_count counter.old ≤ 2 ^ 63 + 1 }
         requires encoded { C.encoded_count counter.old ≤ 2 ^ 63 }
         ensures ok { OnOk result (self.new ≡ text_after self.old (Insert k line)) }
         ensures err { OnErr result (self.new ≡ self.old) }
@@ -264,7 +242,7 @@ impl Store {
         ensures parsed { C.parsed_count counter.new ≡ C.parsed_count counter.old }
         ensures valued { (C.valued_count counter.old ≤ C.valued_count counter.new) × (C.valued_count counter.new ≤ C.valued_count counter.old + 1000) }
         ensures encoded { (C.encoded_count counter.old ≤ C.encoded_count counter.new) × (C.encoded_count counter.new ≤ C.encoded_count counter.old + 1) }
-        ensures values { C.valued_count counter.new ≤ C.valued_count counter.old + most_values self.old.base self.old.lines (Insert k line) }
+        ensures values { C.valued_count counter.new + size_operands (statement_of line).body ≤ C.valued_count counter.old + most_values self.old.base self.old.lines (Insert k line) }
         ensures codes { C.encoded_count counter.new ≤ C.encoded_count counter.old + most_codes self.old.base self.old.lines (Insert k line) }
     {
         let count = self.len();
@@ -290,46 +268,116 @@ impl Store {
         }
     }
 
-    // The lines after an edit that is not refused, and their items: what was kept of each line, and nothing of the line that
-    // the edit puts in.
-    fn edited(&self, edit: ReadEdit) -> Result<(Vec<Line>, SumTree<Item>), EditError>
-        requires allowed { refusal_of self.now.lines (edit_of_read edit) ≡ None }
-        ensures lines { IfOk result (λ r. r.0.items ≡ lines_after self.now.lines (edit_of_read edit)) }
-        ensures items { IfOk result (λ r. map (λ i. i.line) r.1.items ≡ lines_after self.now.lines (edit_of_read edit)) }
-        ensures former { IfOk result (λ r. AreFormer self.now.base self.now.lines (edit_of_read edit) 0 r.1.items) }
+    // Puts a line of this shape at the end of the text. Where there is no memory for that, the text stays.
+    fn extend<C: Count>(
+        &mut self,
+        k: u32,
+        line: Line,
+        shape: Measured,
+        counter: &mut C,
+    ) -> Result<Changed, EditError>
+        requires allowed { refusal_of self.old.lines (Insert k line) ≡ None }
+        requires end { k ≡ length self.old.lines + 1 }
+        requires shape { shape ≡ shape_at_end (program_of self.old.lines) (statement_of line) }
+        requires limited { IsLimited shape }
+        requires valued { C.valued_count counter.old ≤ 2 ^ 63 + 1 }
+        requires encoded { C.encoded_count counter.old ≤ 2 ^ 63 }
+        ensures ok { OnOk result (self.new ≡ text_after self.old (Insert k line)) }
+        ensures err { OnErr result (self.new ≡ self.old) }
+        ensures changed { IfOk result (λ c. c.lines ≡ changed_lines self.old.base self.old.lines (Insert k line)) }
         ensures memory { IfErr result (λ e. e ≡ EditError.Memory) }
+        ensures parsed { C.parsed_count counter.new ≡ C.parsed_count counter.old }
+        ensures valued { (C.valued_count counter.old ≤ C.valued_count counter.new) × (C.valued_count counter.new ≤ C.valued_count counter.old + 1003 * (length self.old.lines + 1)) }
+        ensures encoded { (C.encoded_count counter.old ≤ C.encoded_count counter.new) × (C.encoded_count counter.new ≤ C.encoded_count counter.old + length self.old.lines + 1) }
+        ensures values { C.valued_count counter.new + size_operands (statement_of line).body ≤ C.valued_count counter.old + most_values self.old.base self.old.lines (Insert k line) }
+        ensures codes { C.encoded_count counter.new ≤ C.encoded_count counter.old + most_codes self.old.base self.old.lines (Insert k line) }
     {
-        let mut lines = shared_lines(self.alloc, &self.survey.lines)?;
-        match edit {
-            ReadEdit::Insert(k, entered) => {
-                lines.insert(k as usize - 1, entered.share()?)?;
-                let item = Item::entered(self.alloc, entered)?;
-                Ok((lines, self.items.inserted(k, item)?))
+        let count = self.len();
+        let total = self.survey.total;
+        match extended(
+            self.alloc,
+            self.base,
+            &mut self.names,
+            &mut self.survey,
+            &self.items,
+            line,
+            shape,
+            counter,
+        ) {
+            Ok((mut survey, items, changed)) => {
+                mem::swap(&mut survey.lines, &mut self.survey.lines);
+                self.survey = survey;
+                self.items = items;
+                Ok(changed)
             }
-            ReadEdit::Delete(k) => {
-                let _ = lines.remove(k as usize - 1);
-                Ok((lines, self.items.deleted(k)?))
-            }
-            ReadEdit::Replace(k, entered) => {
-                lines[k as usize - 1] = entered.share()?;
-                let item = Item::entered(self.alloc, entered)?;
-                Ok((lines, self.items.replaced(k, item)?))
+            Err(e) => {
+                self.survey.shorten(count, total);
+                Err(e)
             }
         }
     }
 
-    // Makes the lines after an edit the text; the items are theirs as they were before it. Where there is no memory for that,
-    // the text stays.
+    // Puts a line at the end of the text. Where there is no memory for that, the text stays.
+    fn append<C: Count>(
+        &mut self,
+        k: u32,
+        line: &Line,
+        counter: &mut C,
+    ) -> Result<Changed, EditError>
+        requires allowed { refusal_of self.old.lines (Insert k line.now) ≡ None }
+        requires end { k ≡ length self.old.lines + 1 }
+        requires valued { C.valued_count counter.old ≤ 2 ^ 63 }
+        requires encoded { C.encoded_count counter.old ≤ 2 ^ 63 }
+        ensures ok { OnOk result (self.new ≡ text_after self.old (Insert k line.now)) }
+        ensures err { OnErr result (self.new ≡ self.old) }
+        ensures changed { IfOk result (λ c. c.lines ≡ changed_lines self.old.base self.old.lines (Insert k line.now)) }
+        ensures memory { IfErr result (λ e. e ≡ EditError.Memory) }
+        ensures parsed { C.parsed_count counter.new ≡ C.parsed_count counter.old }
+        ensures valued { (C.valued_count counter.old ≤ C.valued_count counter.new) × (C.valued_count counter.new ≤ C.valued_count counter.old + 1004 * (length self.old.lines + 1)) }
+        ensures encoded { (C.encoded_count counter.old ≤ C.encoded_count counter.new) × (C.encoded_count counter.new ≤ C.encoded_count counter.old + length self.old.lines + 1) }
+        ensures values { C.valued_count counter.new ≤ C.valued_count counter.old + most_values self.old.base self.old.lines (Insert k line.now) }
+        ensures codes { C.encoded_count counter.new ≤ C.encoded_count counter.old + most_codes self.old.base self.old.lines (Insert k line.now) }
+    {
+        let shape = shape_at_end(&self.survey, &self.names, line, counter);
+        if let Some(end) = bare_ending(self.base, &self.survey, line, shape) {
+            return self.push(k, line.share()?, &end, counter);
+        }
+        self.extend(k, line.share()?, shape, counter)
+    }
+
+    // The items of the text after an edit that is not refused: what was kept of each line, and nothing of the line that the
+    // edit puts in.
+    fn edited(&self, edit: &ReadEdit) -> Result<SumTree<Item>, EditError>
+        requires allowed { refusal_of self.now.lines (edit_of_read edit.now) ≡ None }
+        ensures items { IfOk result (λ items. map (λ i. i.line) items.items ≡ lines_after self.now.lines (edit_of_read edit.now)) }
+        ensures former { IfOk result (λ items. AreFormer self.now.base self.now.lines (edit_of_read edit.now) 0 items.items) }
+        ensures memory { IfErr result (λ e. e ≡ EditError.Memory) }
+    {
+        match edit {
+            ReadEdit::Insert(k, line) => {
+                let item = Item::entered(self.alloc, line.share()?)?;
+                Ok(self.items.inserted(*k, item)?)
+            }
+            ReadEdit::Delete(k) => Ok(self.items.deleted(*k)?),
+            ReadEdit::Replace(k, line) => {
+                let item = Item::entered(self.alloc, line.share()?)?;
+                Ok(self.items.replaced(*k, item)?)
+            }
+        }
+    }
+
+    // Makes an edit whose line was read. `items` are those of the text after it, as they were before it. Where there is no
+    // memory for the rest, the text stays.
     fn assemble<C: Count>(
         &mut self,
         edit: &LineEdit<'_>,
-        lines: Vec<Line>,
+        read: ReadEdit,
         items: SumTree<Item>,
         counter: &mut C,
     ) -> Result<Changed, EditError>
         requires allowed { refusal_of self.old.lines (edit_of edit.now) ≡ None }
-        requires lines { lines.items ≡ lines_after self.old.lines (edit_of edit.now) }
-        requires items { map (λ i. i.line) items.items ≡ lines.items }
+        requires read { edit_of_read read ≡ edit_of edit.now }
+        requires items { map (λ i. i.line) items.items ≡ lines_after self.old.lines (edit_of edit.now) }
         requires former { AreFormer self.old.base self.old.lines (edit_of edit.now) 0 items.items }
         requires valued { C.valued_count counter.old ≤ 2 ^ 63 }
         requires encoded { C.encoded_count counter.old ≤ 2 ^ 63 }
@@ -337,36 +385,31 @@ impl Store {
         ensures err { OnErr result (self.new ≡ self.old) }
         ensures changed { IfOk result (λ c. c.lines ≡ changed_lines self.old.base self.old.lines (edit_of edit.now)) }
         ensures memory { IfErr result (λ e. e ≡ EditError.Memory) }
-        ensures parsed { C.parsed_count counter.new ≡ C.parsed_count counter.old }
-        ensures valued { (C.valued_count counter.old ≤ C.valued_count counter.new) × (C.valued_count counter.new ≤ C.valued_count counter.old + 1004 * length lines.items) }
-        ensures encoded { (C.encoded_count counter.old ≤ C.encoded_count counter.new) × (C.encoded_count counter.new ≤ C.encoded_count counter.old + length lines.items) }
-        ensures values { C.valued_count counter.new ≤ C.valued_count counter.old + most_values self.old.base self.old.lines (edit_of edit.now) }
-        ensures codes { C.encoded_count counter.new ≤ C.encoded_count counter.old + most_codes self.old.base self.old.lines (edit_of edit.now) }
+        ensures counted { AreCountedAfter self.old.base self.old.lines (edit_of edit.now) (counts_of C.parsed_count C.valued_count C.encoded_count counter.old) (counts_of C.parsed_count C.valued_count C.encoded_count counter.new) }
     {
-        let survey = Survey::after(
+        let undo = edit_lines(&mut self.survey.lines, read)?;
+        match assembled(
             self.alloc,
             self.base,
-            &self.survey,
-            edit,
-            lines,
             &mut self.names,
-            counter,
-        )?;
-        let mut changed = Vec::new(self.alloc);
-        let items = renewed_items(
-            self.alloc,
-            self.base,
-            &self.names,
             &self.survey,
+            &self.items,
             edit,
-            &survey,
             items,
-            &mut changed,
             counter,
-        )?;
-        self.survey = survey;
-        self.items = items;
-        Ok(Changed::of(changed))
+        ) {
+            Ok((mut survey, items, changed)) => {
+                mem::swap(&mut survey.lines, &mut self.survey.lines);
+                self.survey = survey;
+                self.items = items;
+                drop(undo);
+                Ok(changed)
+            }
+            Err(e) => {
+                take_back(&mut self.survey.lines, undo);
+                Err(e)
+            }
+        }
     }
 
     // Makes an edit that is not refused, whose line was read. Where there is no memory for that, the text stays.
@@ -396,12 +439,12 @@ impl Store {
             }
         }
         if let ReadEdit::Insert(k, line) = &read {
-            if let Some(end) = self.ending(*k, line, counter) {
-                return self.append(*k, line.share()?, &end, counter);
+            if *k > self.items.len() {
+                return self.append(*k, line, counter);
             }
         }
-        let (lines, items) = self.edited(read)?;
-        self.assemble(edit, lines, items, counter)
+        let items = self.edited(&read)?;
+        self.assemble(edit, read, items, counter)
     }
 
     // Makes an edit, or says why not.

@@ -7,12 +7,12 @@ ghost use Rattle.rv_layout.specs.Sections.{sections};
 ghost use Rattle.rv_store.specs.Before.{IsBefore, base_before, lines_before, edit_on};
 ghost use Rattle.rv_store.specs.Edits.{edit_of};
 ghost use Rattle.rv_store.specs.Program.{program_of};
-ghost use Rattle.rv_store.specs.Rows.{Grows};
+ghost use Rattle.rv_store.specs.Rows.{Grows, AreDefinitions, AreConstants, AreShapes, AreLocals};
 ghost use Rattle.rv_store.specs.Surveys.{IsSurvey};
 ghost use Rattle.rv_store.specs.SymbolRows.{AreSymbolRows};
 ghost use Rattle.rv_store.specs.Text.{refusal_of, lines_after};
 ghost use Rattle.rv_store.specs.ValueRows.{AreValueRows, base_of};
-ghost use Rattle.rv_store.specs.Work.{survey_operands, work};
+ghost use Rattle.rv_store.specs.Work.{equ_operands, high_operands, survey_operands, operands_through, work};
 
 use crate::before::Before;
 use crate::definitions::definitions;
@@ -21,11 +21,12 @@ use crate::equ_values::equ_values;
 use crate::highs::highs;
 use crate::limits::MAX_LINES;
 use crate::line::Line;
+use crate::lines::Lines;
 use crate::locals::Locals;
 use crate::names::NameTable;
 use crate::paired_highs::paired_highs;
 use crate::places::{places, total_layout};
-use crate::shapes::shapes;
+use crate::shapes::{ShapeRows, shapes};
 use crate::symbol_rows::SymbolRows;
 use crate::text_rows::TextRows;
 use crate::value_rows::ValueRows;
@@ -81,47 +82,83 @@ impl Survey {
         }
     }
 
-    /// That of the lines of a text after an edit, the first of which is at `base`; `old` is that of the lines before it. Names
+    /// That of a text after an edit, the first line of which is at `base`, by the rows of the text before it, which has the
+    /// lines `old`. `self` holds these rows, and the lines after the edit already. The answer does not get the lines. Names
     /// that the lines define get numbers, also where there is no memory for the rest.
     ///
     /// The counter's number of expressions computed rises by at most four for each line, and by at most what the edit
     /// invalidates: the size operands, the high halves, and the `.equ`s twice.
     pub fn after<C: Count>(
+        &self,
         alloc: Global,
         base: u32,
-        old: &Survey,
+        old: &Lines<'_>,
         edit: &LineEdit<'_>,
-        lines: Vec<Line>,
         names: &mut NameTable,
         counter: &mut C,
     ) -> Result<Survey, AllocError>
         requires base { IsBase base }
-        requires old { IsSurvey base (program_of old.now.lines.items) names.old old.now }
-        requires old_few { length old.now.lines.items ≤ MAX_LINES }
-        requires allowed { refusal_of old.now.lines.items (edit_of edit.now) ≡ None }
-        requires edited { lines.items ≡ lines_after old.now.lines.items (edit_of edit.now) }
-        requires few { length lines.items ≤ MAX_LINES }
+        requires old { IsSurvey base (program_of old.now) names.old self.now }
+        requires old_few { length old.now ≤ MAX_LINES }
+        requires allowed { refusal_of old.now (edit_of edit.now) ≡ None }
+        requires edited { self.now.lines.items ≡ lines_after old.now (edit_of edit.now) }
+        requires few { length self.now.lines.items ≤ MAX_LINES }
         requires valued { C.valued_count counter.old ≤ 2 ^ 63 }
-        ensures survey { IfOk result (λ s. IsSurvey base (program_of lines.items) names.new s) }
-        ensures lines { IfOk result (λ s. s.lines.items ≡ lines.items) }
+        ensures survey { IfOk result (λ s. IsSurvey base (program_of self.now.lines.items) names.new s) }
         ensures names { Grows names.old names.new }
         ensures least { C.valued_count counter.old ≤ C.valued_count counter.new }
-        ensures most { C.valued_count counter.new ≤ C.valued_count counter.old + 4 * length lines.items }
-        ensures work { C.valued_count counter.new ≤ C.valued_count counter.old + work survey_operands base old.now.lines.items (edit_of edit.now) (length lines.items) }
+        ensures most { C.valued_count counter.new ≤ C.valued_count counter.old + 4 * length self.now.lines.items }
+        ensures work { C.valued_count counter.new ≤ C.valued_count counter.old + work survey_operands base old.now (edit_of edit.now) (length self.now.lines.items) }
         ensures parsed { C.parsed_count counter.new ≡ C.parsed_count counter.old }
         ensures encoded { C.encoded_count counter.new ≡ C.encoded_count counter.old }
     {
-        let column: &[Line] = &lines;
-        let definitions = definitions(alloc, column, names)?;
-        let before = old.before(base, names, edit);
-        let sized = shapes(alloc, &before, column, names, &definitions, counter)?;
+        let lines = &self.lines;
+        let definitions = definitions(alloc, lines, names)?;
+        let before = self.before(old, base, names, edit);
+        let sized = shapes(alloc, &before, lines, names, &definitions, counter)?;
+        let locals = Locals::of(alloc, lines)?;
+        Survey::by_rows(alloc, &before, lines, definitions, sized, locals, counter)
+    }
+
+    /// That of the lines of a text after an edit, by the rows that are made from the first line on. It does not get the lines.
+    ///
+    /// The counter's number of expressions computed rises by at most two for each line: the `.equ`s, and the high halves that
+    /// the edit invalidates.
+    pub fn by_rows<C: Count>(
+        alloc: Global,
+        before: &Before<'_, '_>,
+        lines: &[Line],
+        definitions: Vec<DefinitionPlace>,
+        sized: ShapeRows,
+        locals: Locals,
+        counter: &mut C,
+    ) -> Result<Survey, AllocError>
+        requires base { IsBase (base_before before.now) }
+        requires before { IsBefore before.now }
+        requires edited { lines.now ≡ lines_after (lines_before before.now) (edit_on before.now) }
+        requires few { length lines.now ≤ MAX_LINES }
+        requires definitions { AreDefinitions (program_of lines.now) before.now.symbols.text.names.now definitions.items }
+        requires constants { AreConstants (program_of lines.now) (length lines.now) before.now.symbols.text.names.now sized.constants.items }
+        requires shapes { AreShapes (program_of lines.now) sized.shapes.items }
+        requires limited { AreLimited sized.shapes.items }
+        requires locals { AreLocals (program_of lines.now) (length lines.now) locals }
+        requires valued { C.valued_count counter.old ≤ 2 ^ 63 + 2 ^ 32 }
+        ensures survey { IfOk result (λ s. IsSurvey (base_before before.now) (program_of lines.now) before.now.symbols.text.names.now s) }
+        ensures least { C.valued_count counter.old ≤ C.valued_count counter.new }
+        ensures most { C.valued_count counter.new ≤ C.valued_count counter.old + 2 * length lines.now }
+        ensures work { C.valued_count counter.new ≤ C.valued_count counter.old + operands_through equ_operands (program_of lines.now) (length lines.now)
+            + work high_operands (base_before before.now) (lines_before before.now) (edit_on before.now) (length lines.now) }
+        ensures parsed { C.parsed_count counter.new ≡ C.parsed_count counter.old }
+        ensures encoded { C.encoded_count counter.new ≡ C.encoded_count counter.old }
+    {
+        let base = before.symbols.text.base;
         let total = total_layout(&sized.shapes);
         let places = places(alloc, base, &sized.shapes, &total)?;
-        let locals = Locals::of(alloc, column)?;
+        let lines = Lines::in_column(lines);
         let text = TextRows {
             base,
-            lines: column,
-            names,
+            lines: &lines,
+            names: before.symbols.text.names,
             definitions: &definitions,
             places: &places,
             locals: &locals,
@@ -132,10 +169,10 @@ impl Survey {
             constants: &sized.constants,
             equ_values: &equ_values,
         };
-        let highs = highs(alloc, &before, &after, counter)?;
+        let highs = highs(alloc, before, &after, counter)?;
         let paired_highs = paired_highs(alloc, &text, &highs)?;
         Ok(Survey {
-            lines,
+            lines: Vec::new(alloc),
             definitions,
             constants: sized.constants,
             shapes: sized.shapes,
@@ -148,18 +185,23 @@ impl Survey {
         })
     }
 
-    // The text with what its symbols are.
-    fn symbols<'a>(&'a self, base: u32, names: &'a NameTable) -> SymbolRows<'a>
-        requires { IsSurvey base (program_of self.now.lines.items) names.now self.now }
+    // The text of these lines with what its symbols are.
+    fn symbols<'a>(
+        &'a self,
+        lines: &'a Lines<'a>,
+        base: u32,
+        names: &'a NameTable,
+    ) -> SymbolRows<'a>
+        requires { IsSurvey base (program_of lines.now) names.now self.now }
         ensures rows { AreSymbolRows result }
         ensures base { result.text.base ≡ base }
         ensures names { result.text.names.now ≡ names.now }
-        ensures lines { result.text.lines.now ≡ self.now.lines.items }
+        ensures lines { result.text.lines.now ≡ lines.now }
     {
         SymbolRows {
             text: TextRows {
                 base,
-                lines: &self.lines,
+                lines,
                 names,
                 definitions: &self.definitions,
                 places: &self.places,
@@ -170,25 +212,27 @@ impl Survey {
         }
     }
 
-    /// The text with what is kept of it, before an edit that is not refused.
+    /// The text of these lines with what is kept of it, before an edit that is not refused.
     pub fn before<'a, 'e>(
         &'a self,
+        lines: &'a Lines<'a>,
         base: u32,
         names: &'a NameTable,
         edit: &LineEdit<'e>,
     ) -> Before<'a, 'e>
-        requires survey { IsSurvey base (program_of self.now.lines.items) names.now self.now }
-        requires few { length self.now.lines.items ≤ MAX_LINES }
-        requires allowed { refusal_of self.now.lines.items (edit_of edit.now) ≡ None }
+        requires survey { IsSurvey base (program_of lines.now) names.now self.now }
+        requires few { length lines.now ≤ MAX_LINES }
+        requires allowed { refusal_of lines.now (edit_of edit.now) ≡ None }
         ensures before { IsBefore result }
         ensures base { base_before result ≡ base }
         ensures names { result.symbols.text.names.now ≡ names.now }
-        ensures lines { lines_before result ≡ self.now.lines.items }
+        ensures lines { lines_before result ≡ lines.now }
+        ensures shapes { result.shapes.now ≡ self.now.shapes.items }
         ensures edit { edit_on result ≡ edit_of edit.now }
     {
         Before {
             edit: *edit,
-            symbols: self.symbols(base, names),
+            symbols: self.symbols(lines, base, names),
             shapes: &self.shapes,
             highs: &self.highs,
         }
@@ -210,16 +254,21 @@ impl Survey {
         }
     }
 
-    /// The rows from which the values of the lines are computed.
-    pub fn rows<'a>(&'a self, base: u32, names: &'a NameTable) -> ValueRows<'a>
-        requires { IsSurvey base (program_of self.now.lines.items) names.now self.now }
+    /// The rows from which the values of these lines are computed.
+    pub fn rows<'a>(
+        &'a self,
+        lines: &'a Lines<'a>,
+        base: u32,
+        names: &'a NameTable,
+    ) -> ValueRows<'a>
+        requires { IsSurvey base (program_of lines.now) names.now self.now }
         ensures rows { AreValueRows result }
         ensures base { base_of result ≡ base }
         ensures names { result.symbols.text.names.now ≡ names.now }
-        ensures lines { result.symbols.text.lines.now ≡ self.now.lines.items }
+        ensures lines { result.symbols.text.lines.now ≡ lines.now }
     {
         ValueRows {
-            symbols: self.symbols(base, names),
+            symbols: self.symbols(lines, base, names),
             shapes: &self.shapes,
             paired_highs: &self.paired_highs,
         }

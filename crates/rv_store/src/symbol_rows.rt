@@ -3,7 +3,7 @@
 ghost use Rattle.std.specs.Prelude.{◌≡◌, ◌≤◌, ℕ, List, length};
 ghost use Rattle.rv_store.specs.declared.limits.TheConstants.{MAX_LINES};
 ghost use Rattle.rv_store.specs.Constants.{constant_of};
-ghost use Rattle.rv_store.specs.Definitions.{definition_of};
+ghost use Rattle.rv_store.specs.Definitions.{definition_of, equ_line};
 ghost use Rattle.rv_store.specs.References.{symbol_through};
 ghost use Rattle.rv_store.specs.Rows.{number_of};
 ghost use Rattle.rv_store.specs.SymbolRows.{AreSymbolRows};
@@ -33,6 +33,17 @@ impl SymbolRows<'_> {
         ensures { (name : List ℕ) → number_of self.now.text.names.now name ≡ number → result ≡ definition_of (program_in self.now.text) name }
     {
         entry_at(self.text.definitions, DefinitionPlace::Nowhere, number)
+    }
+
+    /// The line of the `.equ` that defines the symbol of this number, or of one that has none, if there is such a line.
+    pub fn equ_of(&self, number: Option<usize>) -> Option<u32>
+        requires { AreTextRows self.now.text }
+        ensures { (name : List ℕ) → number_of self.now.text.names.now name ≡ number → result ≡ equ_line (definition_of (program_in self.now.text) name) }
+    {
+        match self.definition_of(number) {
+            DefinitionPlace::Nowhere | DefinitionPlace::Label(_, _) => None,
+            DefinitionPlace::Equ(line) => Some(line),
+        }
     }
 
     /// What the symbol of this number, or one that has none, gives on the lines that are no `.equ`.

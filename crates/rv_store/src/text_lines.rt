@@ -1,17 +1,21 @@
 //! The lines of a text, by their numbers from 1 on.
 
-ghost use Rattle.std.specs.Prelude.{◌≡◌, ◌≤◌, length};
+ghost use Rattle.std.specs.Prelude.{◌≡◌, ◌≤◌, false, None, length, IfSome};
+ghost use Rattle.std.specs.Option.{option_map};
 ghost use Rattle.rv_store.specs.Briefs.{brief_of};
+ghost use Rattle.rv_store.specs.Jumps.{target_of};
 ghost use Rattle.rv_store.specs.Layout.{place_at};
+ghost use Rattle.rv_stmt.specs.declared.statement.Body.TheVariants.{Equ as EquBody};
 ghost use Rattle.rv_stmt.specs.Statement.{operands_of};
 ghost use Rattle.rv_store.specs.Program.{statement_at, body_at};
 ghost use Rattle.rv_store.specs.TextRows.{AreTextRows, program_in};
+ghost use Rattle.rv_store.specs.Uses.{is_equ};
 
 use crate::brief::Brief;
-use crate::line::Line;
+use crate::jumps::target;
 use crate::text_rows::TextRows;
 use rv_list::LinePlace;
-use rv_stmt::{Stmt, operands_are_few};
+use rv_stmt::{Body, Definition, Stmt, operands_are_few};
 
 /// The statement of a line.
 #[tactic(auto, using(crate::proofs::TextLines::statement_of_line))]
@@ -20,7 +24,7 @@ pub fn statement_on<'a>(text: &TextRows<'a>, line: u32) -> &'a Stmt
     requires last { line ≤ length text.now.lines.now }
     ensures { result.now ≡ statement_at (program_in text.now) line }
 {
-    text.lines[line as usize - 1].stmt()
+    text.lines.line(line).stmt()
 }
 
 /// What a line defines and uses, in brief.
@@ -30,7 +34,37 @@ pub fn brief_on(text: &TextRows<'_>, line: u32) -> Brief
     requires last { line ≤ length text.now.lines.now }
     ensures { result ≡ brief_of (statement_at (program_in text.now) line) }
 {
-    text.lines[line as usize - 1].brief()
+    text.lines.line(line).brief()
+}
+
+/// The definition on a line that is an `.equ`. Other lines are gone past without a look at their statements.
+#[tactic(auto, using(crate::proofs::TextLines::no_definition))]
+pub fn equ_on<'a>(text: &TextRows<'a>, line: u32) -> Option<&'a Definition>
+    requires first { 1 ≤ line }
+    requires last { line ≤ length text.now.lines.now }
+    ensures definition { IfSome result (λ d. body_at (program_in text.now) line ≡ EquBody d.now) }
+    ensures none { result ≡ None → is_equ (body_at (program_in text.now) line) ≡ false }
+{
+    if !brief_on(text, line).equ {
+        return None;
+    }
+    match &statement_on(text, line).body {
+        Body::Equ(definition) => Some(definition),
+        _ => None,
+    }
+}
+
+/// The symbol that a line goes to, if that is its only operand. Other lines are gone past without a look at their statements.
+#[tactic(auto, using(crate::proofs::TextLines::no_target))]
+pub fn target_on<'a>(text: &TextRows<'a>, line: u32) -> Option<&'a [u8]>
+    requires first { 1 ≤ line }
+    requires last { line ≤ length text.now.lines.now }
+    ensures { option_map (λ n. n.now) result ≡ target_of (body_at (program_in text.now) line) }
+{
+    if !brief_on(text, line).jump {
+        return None;
+    }
+    target(&statement_on(text, line).body)
 }
 
 /// A line has at most 1,000 operands.
@@ -40,7 +74,7 @@ pub fn operands_are_few_on(text: &TextRows<'_>, line: u32)
     requires last { line ≤ length text.now.lines.now }
     ensures { length (operands_of (body_at (program_in text.now) line)) ≤ 1000 }
 {
-    let _ = text.lines[line as usize - 1].text();
+    let _ = text.lines.line(line).text();
     operands_are_few();
 }
 

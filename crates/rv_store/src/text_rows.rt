@@ -3,7 +3,7 @@
 ghost use Rattle.std.specs.Prelude.{◌≡◌, ◌≤◌, length};
 ghost use Rattle.rv_store.specs.TextRows.{address_in, AreTextRows, address_in_text};
 
-use crate::line::Line;
+use crate::lines::Lines;
 use crate::locals::Locals;
 use crate::names::NameTable;
 use rv_list::{DefinitionPlace, LinePlace};
@@ -14,7 +14,7 @@ pub struct TextRows<'a> {
     /// Where `.text` begins, so that contracts say whence the addresses are counted.
     pub base: u32,
     /// The lines, from the first to the last.
-    pub lines: &'a [Line],
+    pub lines: &'a Lines<'a>,
     /// The names that have numbers.
     pub names: &'a NameTable,
     /// Where names are defined, by their numbers.

@@ -2,9 +2,11 @@
 
 ghost use Rattle.std.specs.Prelude.{◌≡◌, true};
 ghost use Rattle.std.specs.List.{list_any, flat_map};
+ghost use Rattle.rv_store.specs.NameSets.{with_names, set_of};
 ghost use Rattle.rv_store.specs.Uses.{names_in, has_here, has_local_label, tree_of_label, expression_of, is_pcrel_high, is_pcrel_low, is_relative, operand_uses_address, names_used, uses_address, uses_local_label, uses_paired_high, is_equ, is_sized, uses_symbols};
 ghost use Rattle.rv_layout.specs.Shapes.{is_size};
 
+use crate::name_set::NameSet;
 use rv_expr::{Expr, LabelReference, Node};
 use rv_stmt::{Body, Operand, OperandValue, Role};
 
@@ -72,6 +74,45 @@ pub fn any_name<T: NameTest>(body: &Body, names: &T) -> bool
     ensures { result ≡ list_any (T.test names.now) (names_used body.now) }
 {
     any_in_operands(body.operands(), names)
+}
+
+// A set of names with the symbols in an expression added.
+fn with_names_in(expression: &Expr, names: NameSet) -> NameSet
+    ensures { result ≡ with_names names (names_in expression.now) }
+{
+    match &expression.node {
+        Node::Number(_) | Node::Local(_, _) | Node::Here => names,
+        Node::Symbol(name) => names.with(name.bytes()),
+        Node::Unary(_, operand) => with_names_in(operand, names),
+        Node::Binary(_, left, right) => with_names_in(right, with_names_in(left, names)),
+    }
+}
+
+// A set of names with the symbols in an operand added.
+fn with_names_in_value(value: &OperandValue, names: NameSet) -> NameSet
+    ensures { result ≡ with_names names (names_in (expression_of value.now)) }
+{
+    match value {
+        OperandValue::Plain(expression)
+        | OperandValue::High(expression)
+        | OperandValue::Low(expression)
+        | OperandValue::PcrelHigh(expression) => with_names_in(expression, names),
+        OperandValue::PcrelLow(LabelReference::Symbol(name)) => names.with(name.bytes()),
+        OperandValue::PcrelLow(_) => names,
+    }
+}
+
+/// The set of the symbols that a line uses.
+pub fn set_of_names(body: &Body) -> NameSet
+    ensures { result ≡ set_of (names_used body.now) }
+{
+    let mut operands = body.operands();
+    let mut names = NameSet::empty();
+    while let [operand, rest @ ..] = operands {
+        names = with_names_in_value(&operand.value, names);
+        operands = rest;
+    }
+    names
 }
 
 // Every name passes.

@@ -1,6 +1,6 @@
 //! Lists of values that a statement, a report or a table holds.
 
-ghost use Rattle.std.specs.Prelude.{◌≡◌, [], ◌∷◌, ◌++◌, IfOk};
+ghost use Rattle.std.specs.Prelude.{◌≡◌, [], ◌∷◌, ◌++◌, OnOk, OnErr};
 
 use std::alloc::{AllocError, Global};
 use std::marker::Model;
@@ -30,8 +30,13 @@ impl<T: Drop> Sequence<T> {
     }
 
     /// Appends a value.
+    ///
+    /// # Errors
+    ///
+    /// `AllocError` if there is no memory for it. The list is then as before, and the value is dropped.
     pub fn push(&mut self, item: T) -> Result<(), AllocError>
-        ensures { IfOk result (λ _. self.new ≡ self.old ++ item ∷ []) }
+        ensures pushed { OnOk result (self.new ≡ self.old ++ item ∷ []) }
+        ensures refused { OnErr result (self.new ≡ self.old) }
     {
         self.items.push(item)?;
         Ok(())

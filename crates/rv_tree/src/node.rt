@@ -96,6 +96,17 @@ impl<T: Summed> Subtree<T> {
         }
     }
 
+    // The sum of some items before the tree and of all of its own.
+    pub(crate) fn sum_behind(&self, before: &T::Sum) -> T::Sum
+        ensures value { result ≡ T.Sum.op before.now (total T.Sum.empty T.Sum.op T.sum_of self.now.items) }
+        ensures sums { AllSums T.Sum.IsValue T.sum_of self.now.items }
+    {
+        match &self.node {
+            Node::Leaf(item) => before.join(&item.sum().join(&T::Sum::unit())),
+            Node::Fork { sum, .. } => before.join(sum),
+        }
+    }
+
     pub(crate) fn fork(left: Rc<Subtree<T>>, right: Rc<Subtree<T>>) -> Subtree<T>
         requires balanced { IsBalanced left.value.height right.value.height }
         requires few { length left.value.items + length right.value.items ≤ MAX_ITEMS }
@@ -106,7 +117,7 @@ impl<T: Summed> Subtree<T> {
         let second: &Subtree<T> = &right;
         let len = first.len() + second.len();
         let height = first.height().max(second.height()) + 1;
-        let sum = first.sum().join(&second.sum());
+        let sum = second.sum_behind(&first.sum());
         Subtree {
             node: Node::Fork {
                 left,

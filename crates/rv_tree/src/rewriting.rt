@@ -1,8 +1,9 @@
 //! A pass over all items. A part whose items are all kept is shared, not made anew.
 
-ghost use Rattle.std.specs.Prelude.{◌≡◌, ◌+◌, ◌≤◌, max, length, [], ◌∷◌, ◌++◌, List, IfOk, OnErr, false};
+ghost use Rattle.std.specs.Prelude.{◌≡◌, ◌+◌, ◌≤◌, max, length, [], ◌∷◌, ◌++◌, List, IfOk, OnErr, IsTrue, false};
 ghost use Rattle.rv_tree.specs.Passes.{Runs, Stops};
 ghost use Rattle.rv_tree.specs.Shape.{IsBalanced};
+ghost use Rattle.rv_tree.specs.Sums.{total, AllSums};
 
 use crate::limits::MAX_ITEMS;
 use crate::node::{Node, Subtree};
@@ -20,6 +21,20 @@ pub(crate) struct Rewritten<T: Summed> {
 }
 
 impl<T: Summed> Subtree<T> {
+    // Whether a pass passes over all items, behind new items of this sum. It is asked where there are several.
+    fn is_passed_over<P: Pass<T>>(&self, before: &T::Sum, pass: &P) -> bool
+        ensures keeps { IsTrue result → P.keeps pass.now before.now (total T.Sum.empty T.Sum.op T.sum_of self.now.items) }
+        ensures sums { AllSums T.Sum.IsValue T.sum_of self.now.items }
+    {
+        match &self.node {
+            Node::Leaf(item) => {
+                item.sum().known();
+                false
+            }
+            Node::Fork { sum, .. } => pass.skips(before, sum),
+        }
+    }
+
     // `before` is the sum of the new items before the tree.
     pub(crate) fn rewritten<P: Pass<T>>(
         alloc: Global,
@@ -36,8 +51,7 @@ impl<T: Summed> Subtree<T> {
     {
         before.known();
         let here: &Subtree<T> = tree;
-        let own = here.sum();
-        if pass.skips(before, &own) {
+        if here.is_passed_over(before, pass) {
             return Ok(Rewritten {
                 tree: Rc::clone(tree)?,
                 changed: false,
@@ -48,8 +62,7 @@ impl<T: Summed> Subtree<T> {
             Node::Fork { left, right, .. } => {
                 let first = Subtree::rewritten(alloc, left, before, pass)?;
                 let made: &Subtree<T> = &first.tree;
-                let first_sum = made.sum();
-                let middle = before.join(&first_sum);
+                let middle = made.sum_behind(before);
                 let second = Subtree::rewritten(alloc, right, &middle, pass)?;
                 Ok(Subtree::rejoined(alloc, tree, first, second)?)
             }

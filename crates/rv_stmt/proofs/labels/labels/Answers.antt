@@ -8,7 +8,7 @@ loop-labels-preserved c =
     let line = c.args.line.now in
     let place = c.loop-labels.place in
     let found = sym c.in_ok-label.ensures ∙ c.in-Some.is in
-    let pushed = c.in_ok-push.ensures in
+    let pushed = c.in_ok-push.ensures.pushed in
     record {
       within = two_more line place _ found c.loop-labels.invariant.within;
       labels =

@@ -1,8 +1,7 @@
 use Rattle.std.proofs.Common.{◌≡◌, ◌≤◌, ◌-◌, length, take, replicate, ◌++◌, vec_len, arith, ap, ◌∙◌}
 use Rattle.rv_list.specs.declared.view.DefinitionPlace.TheVariants.{Nowhere}
 use Rattle.rv_store.specs.Rows.{in_row}
-use Rattle.rv_store.proofs.DefinitionRows.{lengthened}
-use Rattle.rv_store.proofs.NameRows.{grows-length, row-grown}
+use Rattle.rv_store.proofs.NameRows.{grows-length, row-grown, lengthened}
 use Rattle.rv_store.proofs.definitions.number_with_place.Goals as goal
 
 pub returns-in_ok-resize-clause-row : goal.returns-in_ok-resize-clause-row
@@ -16,7 +15,7 @@ returns-in_ok-resize-clause-row c =
       each = ap (λ r. in_row names r Nowhere) c.in_ok-resize.ensures.items
           ∙ ap (λ k. in_row names (take c.len-then-number-len.result row ++ replicate (c.len-then-number-len.result - k) Nowhere) Nowhere) count
           ∙ ap (λ n. in_row names (take n row ++ replicate (n - length row) Nowhere) Nowhere) c.len-then-number-len.ensures
-          ∙ lengthened names row (length names) within
+          ∙ lengthened names row Nowhere (length names) within
           ∙ row-grown c.args.names.now names row Nowhere c.in_ok-number.ensures.grows c.requires;
       within = omega (arith, c.in_ok-resize.ensures.len, c.resize.new.self.ok.0, c.len-then-number-len.ensures);
     }

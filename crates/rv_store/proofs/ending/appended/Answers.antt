@@ -1,5 +1,4 @@
-use Rattle.std.proofs.Common.{◌≡◌, length, ap, sym, subst, ◌∙◌, refl}
-use Rattle.rv_stmt.specs.Statement.{statement_of}
+use Rattle.std.proofs.Common.{sym, subst, refl}
 use Rattle.rv_store.specs.Program.{program_of}
 use Rattle.rv_store.specs.Surveys.{IsSurvey}
 use Rattle.rv_store.proofs.AppendTexts.{in_any_error, begins-alone, begins-extended, count-shapes, count-places, count-highs, count-paired_highs, survey-extended}

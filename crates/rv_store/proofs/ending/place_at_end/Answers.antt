@@ -1,5 +1,5 @@
 use Rattle.std.proofs.Common.{◌∙◌}
-use Rattle.rv_store.proofs.Endings.{offsets-fit, together-all, place-fits, place-is}
+use Rattle.rv_store.proofs.Endings.{offsets-fit, place-fits, place-is}
 use Rattle.rv_store.proofs.ending.place_at_end.Goals as goal
 
 pub reached-requires : goal.reached-requires

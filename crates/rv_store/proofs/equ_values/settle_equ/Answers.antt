@@ -19,8 +19,9 @@ pub returns-in_default-clause-after : goal.returns-in_default-clause-after
 returns-in_default-clause-after g c =
     let text = c.args.text.now in
     let program : Program = program_in text in
-    let here : body_at program (suc c.args.i) ≡ (statement_of (get_or text.lines.now c.args.i c.index-text-i.result)).body =
-    body-read text.lines.now c.args.i c.index-text-i.result c.requires.within c.index-text-i.is ∙ ap (λ t. (statement_of t).body) c.index-text-i.is in
+    let read = c.line-read.result.now in
+    let here : body_at program (suc c.args.i) ≡ (statement_of read).body =
+    body-read text.lines.now c.args.i read c.requires.within (c.line-read.ensures ∙ ap (λ n. get_or text.lines.now n read) (less-one c.args.i)) in
     equ_values-kept text.base program c.args.i text.names.now c.args.row.now.items
     (λ d is. equ-by_row program text.names.now text.definitions.now c.requires.rows.defined c.args.i d.symbol false
     (c.in_default.ensures.none refl d (sym here ∙ is)))
@@ -30,8 +31,9 @@ pub returns-clause-after : goal.returns-clause-after
 returns-clause-after g c =
     let text = c.args.text.now in
     let program : Program = program_in text in
-    let here : body_at program (suc c.args.i) ≡ (statement_of (get_or text.lines.now c.args.i c.index-text-i.result)).body =
-    body-read text.lines.now c.args.i c.index-text-i.result c.requires.within c.index-text-i.is ∙ ap (λ t. (statement_of t).body) c.index-text-i.is in
+    let read = c.line-read.result.now in
+    let here : body_at program (suc c.args.i) ≡ (statement_of read).body =
+    body-read text.lines.now c.args.i read c.requires.within (c.line-read.ensures ∙ ap (λ n. get_or text.lines.now n read) (less-one c.args.i)) in
     let d = c.in-Some.definition.now in
     let next : c.args.i + 1 ≡ suc c.args.i = omega arith in
     equ_values-set text.base program c.args.i text.names.now c.args.row.now.items d c.in-Some.number c.value_on.result

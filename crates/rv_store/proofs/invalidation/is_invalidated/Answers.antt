@@ -1,11 +1,12 @@
 use Rattle.std.proofs.Common.{◌≡◌, Some, sym, ◌∙◌}
 use Rattle.rv_store.specs.Before.{edit_on}
 use Rattle.rv_store.specs.Edits.{line_before_edit}
+use Rattle.rv_store.proofs.DifferingNames.{differing-on}
 use Rattle.rv_store.proofs.LinePairLaws.{stood-before, body-before, invalidated-by_uses}
 use Rattle.rv_store.proofs.invalidation.is_invalidated.Goals as goal
 
-pub differs_in_uses-requires : goal.differs_in_uses-requires
-differs_in_uses-requires c =
+pub differs_in_uses-requires-clause-lines : goal.differs_in_uses-requires-clause-lines
+differs_in_uses-requires-clause-lines c =
     let before = c.args.before.now in
     let after = c.args.after.now.text in
     let line = c.args.line in
@@ -25,6 +26,13 @@ differs_in_uses-requires c =
       last = c.requires.last;
       body = body-before before after line stood c.requires.before c.requires.after c.requires.first c.requires.last stands;
     }
+
+pub differs_in_uses-requires-clause-differing : goal.differs_in_uses-requires-clause-differing
+differs_in_uses-requires-clause-differing c =
+    let before = c.args.before.now in
+    let stood = c.in-Some.stood in
+    let stands : line_before_edit (edit_on before) c.args.line ≡ Some stood = sym c.line_before.ensures ∙ c.in-Some.is in
+    differing-on before c.args.after.now.text c.args.line stood c.requires.before c.requires.after c.requires.first c.requires.last stands c.args.differing c.requires.differing
 
 pub returns : goal.returns
 returns c =

@@ -10,10 +10,10 @@ pub loop-i-init : goal.loop-i-init
 loop-i-init c =
     let text = c.args.text.now in
     let program = program_in text in
-    let many : length text.lines.now ≡ length program = sym (length-program text.lines.now) in
+    let many : c.len-i.result ≡ length program = c.len-i.ensures ∙ sym (length-program text.lines.now) in
     record {
-      next = next_highs_at_end text.base program (length text.lines.now) many;
-      row = ap reverse c.in_ok-row.ensures.items ∙ sym (none_from_end (paired_high_of text.base program) (length program) (length text.lines.now) (omega (arith, many)));
+      next = next_highs_at_end text.base program c.len-i.result many;
+      row = ap reverse c.in_ok-row.ensures.items ∙ sym (none_from_end (paired_high_of text.base program) (length program) c.len-i.result (omega (arith, many)));
     }
 
 pub loop-i-preserved : goal.loop-i-preserved

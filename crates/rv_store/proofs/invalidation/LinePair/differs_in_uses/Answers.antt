@@ -1,27 +1,62 @@
-use Rattle.std.proofs.Common.{◌≡◌, ◌&&◌, ◌||◌, false, ap, sym, ◌∙◌}
+use Rattle.std.proofs.Common.{◌≡◌, Bool, ◌&&◌, ◌||◌, true, false, ap, sym, ◌∙◌, refl}
+use Rattle.std.specs.List.{list_any}
+use Rattle.std.proofs.lemmas.Bool.{or_parts, or_left, or_right, true≢false}
 use Rattle.rv_store.specs.Changes.{differs_in_place}
-use Rattle.rv_store.specs.LinePairs.{program_before_pair, program_after_pair}
+use Rattle.rv_store.specs.LinePairs.{differs_in_name_on, program_before_pair, program_after_pair}
+use Rattle.rv_store.specs.NameSets.{set_of, meets}
 use Rattle.rv_store.specs.Program.{body_at}
-use Rattle.rv_store.specs.Uses.{uses_address, uses_symbols, uses_local_label, uses_paired_high, is_equ}
+use Rattle.rv_store.specs.Uses.{names_used, uses_address, uses_local_label, uses_paired_high, is_equ}
 use Rattle.rv_store.proofs.LinePairLaws.{same-by_brief}
+use Rattle.rv_store.proofs.NameSets.{none-passes}
 use Rattle.rv_store.proofs.invalidation.LinePair.differs_in_uses.Goals as goal
-use Rattle.rv_store.proofs.invalidation.LinePair.differs_in_uses.Goals.{then-brief-2, else-brief-2}
+use Rattle.rv_store.proofs.invalidation.LinePair.differs_in_uses.Goals.{then-brief-via-then-brief, then-brief-via-else-brief+then-differs_in_place, then-brief-2, else-brief-2}
 
-pub returns-else-brief-3 : goal.returns-else-brief-3
-returns-else-brief-3 c =
+pub returns-else-meets : goal.returns-else-meets
+returns-else-meets c =
     let pair = c.args.self.now in
     let base = pair.before.now.text.base in
     let body = body_at (program_after_pair pair) pair.line in
     let moved = differs_in_place base (program_before_pair pair) (program_after_pair pair) pair.line pair.stood in
     let brief = c.brief_on-brief.result in
     let is = c.brief_on-brief.ensures in
-    let symbols : uses_symbols body ≡ false = sym (ap (λ b. b.symbols) is) ∙ c.if-brief-3.false in
     let uncompared : (uses_local_label body || uses_paired_high body || is_equ body) ≡ false = sym (ap (λ b. b.uncompared) is) ∙ c.if-brief.false in
+    let no_equ : is_equ body ≡ false = (or_parts (uses_local_label body || uses_paired_high body) (is_equ body) uncompared).1 in
+    let apart : meets (set_of (names_used body)) c.args.differing ≡ false = sym (ap (λ b. meets b.names c.args.differing) is) ∙ sym c.meets.ensures ∙ c.if-meets.false in
+    let names : list_any (differs_in_name_on pair) (names_used body) ≡ false =
+    none-passes (differs_in_name_on pair) c.args.differing (c.requires.differing no_equ) (names_used body) apart in
     let address : brief.address ≡ uses_address body = ap (λ b. b.address) is in
     let place : (brief.address && moved) ≡ false =
     elim c.if-brief-2.branch [
       | then-brief-2 w ↦ ap (λ b. b && moved) w.if-brief-2.true ∙ sym w.differs_in_place.ensures ∙ sym w.value-is ∙ c.if-differs_in_place.false
       | else-brief-2 w ↦ ap (λ b. b && moved) w.if-brief-2.false
     ] in
-    c.if-brief-3.false
-    ∙ sym (same-by_brief base (program_before_pair pair) (program_after_pair pair) pair.line pair.stood body symbols (ap (λ b. b && moved) (sym address) ∙ place) uncompared)
+    c.if-meets.false
+    ∙ sym (same-by_brief base (program_before_pair pair) (program_after_pair pair) pair.line pair.stood body names (ap (λ b. b && moved) (sym address) ∙ place) uncompared)
+
+-- one of some is true
+one_of : (x a b c : Bool) → (a || b || c) ≡ true → (x || a || b || c) ≡ true
+one_of true a b c h = refl
+one_of false a b c h = h
+
+pub returns-then-brief : goal.returns-then-brief
+returns-then-brief c =
+    let pair = c.args.self.now in
+    let base = pair.before.now.text.base in
+    let body = body_at (program_after_pair pair) pair.line in
+    let moved = differs_in_place base (program_before_pair pair) (program_after_pair pair) pair.line pair.stood in
+    let names = list_any (differs_in_name_on pair) (names_used body) in
+    let is = c.brief_on-brief.ensures in
+    elim c.then-brief.branch [
+      | then-brief-via-then-brief w ↦
+          let uncompared : (uses_local_label body || uses_paired_high body || is_equ body) ≡ true = sym (ap (λ b. b.uncompared) is) ∙ w.if-brief.true in
+          sym (one_of (names || uses_address body && moved) (uses_local_label body) (uses_paired_high body) (is_equ body) uncompared)
+      | then-brief-via-else-brief+then-differs_in_place w ↦
+          let place : (c.brief_on-brief.result.address && moved) ≡ true = elim w.if-brief-2.branch [
+            | then-brief-2 v ↦ ap (λ b. b && moved) v.if-brief-2.true ∙ sym v.differs_in_place.ensures ∙ sym v.value-is ∙ w.if-differs_in_place.true
+            | else-brief-2 v ↦ absurd (true≢false (sym w.if-differs_in_place.true ∙ v.value-is ∙ v.if-brief-2.false))
+          ] in
+          let used : (uses_address body && moved) ≡ true = ap (λ b. b && moved) (sym (ap (λ b. b.address) is)) ∙ place in
+          sym (or_left (names || uses_address body && moved || uses_local_label body || uses_paired_high body) (is_equ body)
+          (or_left (names || uses_address body && moved || uses_local_label body) (uses_paired_high body)
+          (or_left (names || uses_address body && moved) (uses_local_label body) (or_right names (uses_address body && moved) used))))
+    ]

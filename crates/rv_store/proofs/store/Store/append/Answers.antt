@@ -1,109 +1,38 @@
-use Rattle.std.proofs.Common.{◌≡◌, ◌≤◌, ◌<◌, ◌+◌, ◌-◌, List, [], ◌∷◌, ◌++◌, ℕ, None, length, map, insert, arith, ap, sym, subst, ◌∙◌, refl}
-use Rattle.std.specs.List.{AllPass}
+use Rattle.std.proofs.Common.{length, arith, ap, sym, subst, ◌∙◌}
 use Rattle.rv_stmt.specs.Statement.{statement_of}
-use Rattle.rv_store.specs.declared.item.Item.{Item}
-use Rattle.rv_store.specs.Appended.{IsEnding, BeginAs}
-use Rattle.rv_store.specs.Items.{AreItems, IsItemAdded}
+use Rattle.rv_layout.specs.Shapes.{size_operands}
+use Rattle.rv_store.specs.Appended.{shape_at_end}
+use Rattle.rv_store.specs.Changes.{most_values}
+use Rattle.rv_store.specs.Counted.{counts_of}
 use Rattle.rv_store.specs.Program.{program_of}
-use Rattle.rv_store.specs.Surveys.{IsSurvey}
-use Rattle.rv_store.specs.Text.{Insert, is_line, refusal_of, lines_after}
-use Rattle.rv_store.proofs.AppendTexts.{survey-extended, survey-same, items-added, lines-end, one_changed, values-enough, codes-enough}
-use Rattle.rv_store.proofs.EditRefusals.{lined_after, few_after}
+use Rattle.rv_store.specs.Rows.{AreConstants}
+use Rattle.rv_store.specs.Text.{Insert}
+use Rattle.rv_store.proofs.LongerTexts.{nothing-counted_at_end, body-at_end}
 use Rattle.rv_store.proofs.store.Store.append.Goals as goal
 
-pub appended-requires-clause-survey : goal.appended-requires-clause-survey
-appended-requires-clause-survey g c =
-    let now = subst (λ ls. IsSurvey c.self.inside.base (program_of ls) c.self.inside.names c.self.inside.survey) (sym c.self.invariant.listed) c.self.invariant.surveyed in
-    record {
-      definitions = now.definitions;
-      constants = now.constants;
-      shapes = now.shapes;
-      limited = now.limited;
-      total = now.total;
-      places = now.places;
-      locals = now.locals;
-      equ_values = now.equ_values;
-      highs = now.highs;
-      paired_highs = now.paired_highs;
-    }
+pub shape_at_end-shape-requires-clause-constants : goal.shape_at_end-shape-requires-clause-constants
+shape_at_end-shape-requires-clause-constants g c =
+    subst (λ ls. AreConstants (program_of ls) (length (program_of ls)) c.self.inside.names c.self.inside.survey.constants.items) (sym c.self.invariant.listed) c.self.invariant.surveyed.constants
 
-pub invariant_of-self : goal.invariant_of-self
-invariant_of-self g c =
+pub returns-in_err-share-clause-values : goal.returns-in_err-share-clause-values
+returns-in_err-share-clause-values g c =
     let old = c.args.self.now in
-    let base = c.self.inside.base in
-    let names = c.self.inside.names in
-    let survey = c.self.inside.survey in
-    let lines : List (List ℕ) = survey.lines.items in
-    let same : lines ≡ old.lines = c.self.invariant.listed ∙ ap (λ t. t.lines) c.self.view_is in
-    let allowed : refusal_of lines (Insert c.args.k c.args.line) ≡ None = ap (λ ls. refusal_of ls (Insert c.args.k c.args.line)) same ∙ c.requires.allowed in
-    let at_end : c.args.k ≡ length lines + 1 = omega (arith, c.requires.end, ap length same) in
-    let viewed = subst (λ t. IsEnding t.base (program_of t.lines) (statement_of c.args.line) c.args.end.now) (sym c.self.view_is) c.requires.ending in
-    let ending : IsEnding base (program_of lines) (statement_of c.args.line) c.args.end.now =
-    subst (λ ls. IsEnding base (program_of ls) (statement_of c.args.line) c.args.end.now) (sym c.self.invariant.listed) viewed in
-    let surveyed : IsSurvey base (program_of lines) names survey = subst (λ ls. IsSurvey base (program_of ls) names survey) (sym c.self.invariant.listed) c.self.invariant.surveyed in
-    let extended = c.in-Ok.ensures.ok in
-    let more = survey-extended base lines c.args.line c.args.end.now ending names survey c.appended.new.survey surveyed extended in
-    let assembled : AreItems base lines c.self.inside.items.items = subst (λ ls. AreItems base ls c.self.inside.items.items) (sym c.self.invariant.listed) c.self.invariant.assembled in
-    let items = items-added base lines c.args.line c.args.end.now ending c.self.inside.items.items c.in-Ok.items.items assembled c.in-Ok.ensures.items in
-    let lined : AllPass is_line lines = subst (AllPass is_line) (sym c.self.invariant.listed) c.self.invariant.lined in
-    let few : length lines ≤ 16384 = rw c.self.invariant.listed c.self.invariant.few in
-    let after = lines-end base lines c.args.line c.args.end.now ending c.args.k at_end in
-    record {
-      based = c.self.invariant.based;
-      lined = subst (AllPass is_line) (after ∙ sym items.lines) (lined_after lines (Insert c.args.k c.args.line) lined allowed);
-      few = rw (items.lines ∙ sym after) (few_after lines (Insert c.args.k c.args.line) few allowed);
-      listed = extended.lines ∙ sym items.lines;
-      surveyed = subst (λ ls. IsSurvey base (program_of ls) names c.appended.new.survey) (sym items.lines) more;
-      assembled = subst (λ ls. AreItems base ls c.in-Ok.items.items) (sym items.lines) items;
-    }
+    let line = c.args.line.now in
+    let none = (nothing-counted_at_end old.base old.lines line (counts_of g.C.Count.parsed_count g.C.Count.valued_count g.C.Count.encoded_count c.args.counter.now)).valued_most in
+    let most = ap (λ k. most_values old.base old.lines (Insert k line)) (sym c.requires.end) in
+    omega (arith, c.shape_at_end-shape.ensures.most, none, ap size_operands (body-at_end old.lines line), most)
 
-pub invariant_of-self-in-Err : goal.invariant_of-self-in-Err
-invariant_of-self-in-Err g c =
-    let base = c.self.inside.base in
-    let names = c.self.inside.names in
-    let survey = c.self.inside.survey in
-    let lines : List (List ℕ) = survey.lines.items in
-    let surveyed : IsSurvey base (program_of lines) names survey = subst (λ ls. IsSurvey base (program_of ls) names survey) (sym c.self.invariant.listed) c.self.invariant.surveyed in
-    let same : lines ≡ c.args.self.now.lines = c.self.invariant.listed ∙ ap (λ t. t.lines) c.self.view_is in
-    let count : length lines ≡ c.len-count.result = ap length same ∙ sym c.len-count.ensures.value in
-    let back = c.shorten.ensures.rows survey refl (subst (λ n. BeginAs n survey c.appended.new.survey) count c.in-Err.ensures.err) in
-    let now = survey-same base lines names survey surveyed c.shorten.new.self back in
-    record {
-      based = c.self.invariant.based;
-      lined = c.self.invariant.lined;
-      few = c.self.invariant.few;
-      listed = back.lines ∙ c.self.invariant.listed;
-      surveyed = subst (λ ls. IsSurvey base (program_of ls) names c.shorten.new.self) c.self.invariant.listed now;
-      assembled = c.self.invariant.assembled;
-    }
-
-pub returns-in-Ok-clause-changed : goal.returns-in-Ok-clause-changed
-returns-in-Ok-clause-changed g c =
+pub returns-in_err-share-2-clause-values : goal.returns-in_err-share-2-clause-values
+returns-in_err-share-2-clause-values g c =
     let old = c.args.self.now in
-    let same : c.self.inside.survey.lines.items ≡ old.lines = c.self.invariant.listed ∙ ap (λ t. t.lines) c.self.view_is in
-    let number : length c.self.inside.survey.lines.items + 1 ≡ c.args.k = omega (arith, c.requires.end, ap length same) in
-    c.in-Ok.ensures.changed ∙ ap (λ n. n ∷ []) number ∙ sym (one_changed old.base old.lines c.args.line c.args.end.now c.requires.ending c.args.k c.requires.end)
+    let line = c.args.line.now in
+    let none = (nothing-counted_at_end old.base old.lines line (counts_of g.C.Count.parsed_count g.C.Count.valued_count g.C.Count.encoded_count c.args.counter.now)).valued_most in
+    let most = ap (λ k. most_values old.base old.lines (Insert k line)) (sym c.requires.end) in
+    omega (arith, c.shape_at_end-shape.ensures.most, none, ap size_operands (body-at_end old.lines line), most)
 
-pub returns-in-Ok-clause-values : goal.returns-in-Ok-clause-values
-returns-in-Ok-clause-values g c =
-    let old = c.args.self.now in
-    let enough = values-enough old.base old.lines c.args.line c.args.end.now c.requires.ending c.args.k c.requires.end in
-    omega (arith, c.appended.ensures.valued_most, enough)
-
-pub returns-in-Ok-clause-codes : goal.returns-in-Ok-clause-codes
-returns-in-Ok-clause-codes g c =
-    let old = c.args.self.now in
-    let enough = codes-enough old.base old.lines c.args.line c.args.end.now c.requires.ending c.args.k c.requires.end in
-    omega (arith, c.appended.ensures.encoded_most, enough)
-
-pub returns-in-Err-clause-values : goal.returns-in-Err-clause-values
-returns-in-Err-clause-values g c =
-    let old = c.args.self.now in
-    let enough = values-enough old.base old.lines c.args.line c.args.end.now c.requires.ending c.args.k c.requires.end in
-    omega (arith, c.appended.ensures.valued_most, enough)
-
-pub returns-in-Err-clause-codes : goal.returns-in-Err-clause-codes
-returns-in-Err-clause-codes g c =
-    let old = c.args.self.now in
-    let enough = codes-enough old.base old.lines c.args.line c.args.end.now c.requires.ending c.args.k c.requires.end in
-    omega (arith, c.appended.ensures.encoded_most, enough)
+pub extend-requires-clause-shape : goal.extend-requires-clause-shape
+extend-requires-clause-shape g c =
+    let same = c.self.invariant.listed ∙ ap (λ t. t.lines) c.self.view_is in
+    c.shape_at_end-shape.ensures.shape
+    ∙ ap (λ ls. shape_at_end (program_of ls) (statement_of c.args.line.now)) same
+    ∙ ap (λ line. shape_at_end (program_of c.args.self.now.lines) (statement_of line)) (sym c.in_ok-share-2.ensures)

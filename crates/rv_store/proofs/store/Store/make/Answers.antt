@@ -5,4 +5,4 @@ use Rattle.rv_store.proofs.store.Store.make.Goals as goal
 pub assemble-requires-clause-former : goal.assemble-requires-clause-former
 assemble-requires-clause-former g c =
     let old = c.args.self.now in
-    subst (λ e. AreFormer old.base old.lines e 0 c.in_ok-lines.items.items) c.requires.read c.in_ok-lines.ensures.former
+    subst (λ e. AreFormer old.base old.lines e 0 c.in_ok-items.items.items) c.requires.read c.in_ok-items.ensures.former

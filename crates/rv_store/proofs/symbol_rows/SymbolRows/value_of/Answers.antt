@@ -13,6 +13,7 @@ returns c =
     let last = length text.lines.now in
     λ name numbered.
     c.by_definition.ensures
+    ∙ ap (λ n. by_definition (address_in text.places.now) n c.definition_of.result c.entry_at-value.result) c.len-last.ensures
     ∙ ap (λ place. by_definition (address_in text.places.now) last place c.entry_at-value.result) (c.definition_of.ensures name numbered)
     ∙ ap (by_definition (address_in text.places.now) last _) (c.entry_at-value.ensures ∙ ap (entry_at rows.equ_values.now (Err LaterEqu)) (sym numbered))
     ∙ symbol_by-rows text rows.equ_values.now last last name c.requires.rows.text c.requires.rows.equ_values (omega arith)

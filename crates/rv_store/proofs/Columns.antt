@@ -1,0 +1,24 @@
+-- Edits of a column of lines, and the edits that take them back.
+use Rattle.std.proofs.Common.{◌≡◌, ℕ, zero, suc, ◌<◌, ◌≤◌, List, [], ◌∷◌, length, get_or, None, arith, ap, refl}
+use Rattle.std.specs.Prelude.{insert, remove}
+use Rattle.rv_store.specs.Column.{HasPlace}
+use Rattle.rv_store.specs.Text.{Edit, Insert, Delete, Replace, refusal_of}
+use Rattle.rv_store.proofs.EarlierLines.{insert_within, delete_within, replace_within}
+
+-- what was put in is taken out
+pub removed-inserted : {A : Type 0} (xs : List A) (i : ℕ) (x : A) → i ≤ length xs → remove (insert xs i x) i ≡ xs
+removed-inserted xs zero x within = refl
+removed-inserted [] (suc i) x within = absurd (let no : suc i ≤ 0 = within in omega (arith, no))
+removed-inserted (y ∷ xs) (suc i) x within = ap (λ ys. y ∷ ys) (removed-inserted xs i x (let w : suc i ≤ suc (length xs) = within in omega (arith, w)))
+
+-- what was taken out is put in
+pub inserted-removed : {A : Type 0} (xs : List A) (i : ℕ) (x : A) → i < length xs → x ≡ get_or xs i x → insert (remove xs i) i x ≡ xs
+inserted-removed [] i x within is = absurd (let no : i < 0 = within in omega (arith, no))
+inserted-removed (y ∷ xs) zero x within is = ap (λ z. z ∷ xs) is
+inserted-removed (y ∷ xs) (suc i) x within is = ap (λ ys. y ∷ ys) (inserted-removed xs i x (let w : suc i < suc (length xs) = within in omega (arith, w)) is)
+
+-- an edit that is not refused has its place
+pub has_place : (lines : List (List ℕ)) (edit : Edit) → refusal_of lines edit ≡ None → HasPlace lines edit
+has_place lines (Insert place line) allowed = insert_within lines place line allowed
+has_place lines (Delete place) allowed = delete_within lines place allowed
+has_place lines (Replace place line) allowed = replace_within lines place line allowed

@@ -1,0 +1,23 @@
+use Rattle.std.proofs.Common.{◌+◌, arith, subst, sym, ◌∙◌}
+use Rattle.rv_store.proofs.DifferingNames.{HasDifferingBelow, below-added, below-nowhere, all-below}
+use Rattle.rv_store.proofs.differing.differing_names.Goals as goal
+use Rattle.rv_store.proofs.differing.differing_names.Goals.{then-may_differ, else-may_differ}
+
+pub loop-number-preserved : goal.loop-number-preserved
+loop-number-preserved c =
+    let before = c.args.before.now in
+    let names = c.args.after.now.text.names.now in
+    let n = c.loop-number.number in
+    let set = c.loop-number.differing in
+    let so_far = c.loop-number.invariant.so_far in
+    record {
+      within = omega (arith, c.loop-number-test.true);
+      so_far = elim c.if-may_differ.branch [
+        | then-may_differ w ↦ subst (HasDifferingBelow (n + 1) names before) (sym (w.differing-is ∙ w.with-differing.ensures)) (below-added before names n set so_far c.name-name.result.now c.name-name.ensures)
+        | else-may_differ w ↦ subst (HasDifferingBelow (n + 1) names before) (sym w.differing-is) (below-nowhere before names n set so_far (c.may_differ.ensures w.if-may_differ.false))
+      ];
+    }
+
+pub returns : goal.returns
+returns c =
+    all-below c.args.before.now c.args.after.now c.loop-number.number c.loop-number.differing c.requires.before c.requires.rows c.requires.after (omega (arith, c.loop-number-test.false)) c.loop-number.invariant.so_far

@@ -1,0 +1,121 @@
+//! What is kept of a text after an edit is made, by what was kept of it before.
+
+ghost use Rattle.std.specs.Prelude.{◌≡◌, ◌≤◌, ◌^◌, None, length, IfOk, IfErr};
+ghost use Rattle.rv_layout.specs.Places.{IsBase};
+ghost use Rattle.rv_store.specs.Assembled.{AreCountedAfter};
+ghost use Rattle.rv_store.specs.Changes.{changed_lines};
+ghost use Rattle.rv_store.specs.Counted.{counts_of};
+ghost use Rattle.rv_store.specs.Edits.{edit_of};
+ghost use Rattle.rv_store.specs.Former.{AreFormer};
+ghost use Rattle.rv_store.specs.Items.{AreItems};
+ghost use Rattle.rv_store.specs.Lines.{lines_of};
+ghost use Rattle.rv_store.specs.Program.{program_of};
+ghost use Rattle.rv_store.specs.Rows.{Grows};
+ghost use Rattle.rv_store.specs.Surveys.{IsSurvey};
+ghost use Rattle.rv_store.specs.Text.{refusal_of, lines_after};
+
+use crate::changed::Changed;
+use crate::edit::LineEdit;
+use crate::edit_error::EditError;
+use crate::item::Item;
+use crate::limits::MAX_LINES;
+use crate::lines::Lines;
+use crate::names::NameTable;
+use crate::renewal::renewed_items;
+use crate::survey::Survey;
+use rv_text::Count;
+use rv_tree::SumTree;
+use std::alloc::Global;
+
+// It is as for `assembled`, with the lines of the text before, `old`, and of the text after, `lines`.
+fn assembled_by_lines<C: Count>(
+    alloc: Global,
+    base: u32,
+    names: &mut NameTable,
+    survey: &Survey,
+    old: &Lines<'_>,
+    lines: &Lines<'_>,
+    edit: &LineEdit<'_>,
+    items: SumTree<Item>,
+    counter: &mut C,
+) -> Result<(Survey, SumTree<Item>, Changed), EditError>
+    requires base { IsBase base }
+    requires survey { IsSurvey base (program_of old.now) names.old survey.now }
+    requires old_few { length old.now ≤ MAX_LINES }
+    requires allowed { refusal_of old.now (edit_of edit.now) ≡ None }
+    requires lines { lines.now ≡ survey.now.lines.items }
+    requires edited { survey.now.lines.items ≡ lines_after old.now (edit_of edit.now) }
+    requires few { length survey.now.lines.items ≤ MAX_LINES }
+    requires count { length items.items ≡ length survey.now.lines.items }
+    requires former { AreFormer base old.now (edit_of edit.now) 0 items.items }
+    requires valued { C.valued_count counter.old ≤ 2 ^ 63 }
+    requires encoded { C.encoded_count counter.old ≤ 2 ^ 63 }
+    ensures names { Grows names.old names.new }
+    ensures survey { IfOk result (λ r. IsSurvey base (program_of survey.now.lines.items) names.new r.0) }
+    ensures items { IfOk result (λ r. AreItems base survey.now.lines.items r.1.items) }
+    ensures changed { IfOk result (λ r. r.2.lines ≡ changed_lines base old.now (edit_of edit.now)) }
+    ensures memory { IfErr result (λ e. e ≡ EditError.Memory) }
+    ensures counted { AreCountedAfter base old.now (edit_of edit.now) (counts_of C.parsed_count C.valued_count C.encoded_count counter.old) (counts_of C.parsed_count C.valued_count C.encoded_count counter.new) }
+{
+    let after = survey.after(alloc, base, old, edit, names, counter)?;
+    let mut changed = Vec::new(alloc);
+    let items = renewed_items(
+        alloc,
+        base,
+        names,
+        survey,
+        old,
+        edit,
+        &after,
+        lines,
+        items,
+        &mut changed,
+        counter,
+    )?;
+    Ok((after, items, Changed::of(changed)))
+}
+
+/// What is kept of a text after an edit, its items, and which lines are new or have another code. `survey` is what is kept of
+/// the text before, but that its lines are those after the edit, and `former` are the items of the text before. `items` has
+/// an item for each line after the edit, which keeps what was kept of the line. The lines are not in the answer. Names that the
+/// lines define get numbers, whatever the outcome.
+///
+/// The counter's number of expressions computed, and that of lines encoded, rise by at most what the edit may take, whatever
+/// the outcome.
+///
+/// # Errors
+///
+/// `Memory` if there was no memory for what is kept.
+pub fn assembled<C: Count>(
+    alloc: Global,
+    base: u32,
+    names: &mut NameTable,
+    survey: &Survey,
+    former: &SumTree<Item>,
+    edit: &LineEdit<'_>,
+    items: SumTree<Item>,
+    counter: &mut C,
+) -> Result<(Survey, SumTree<Item>, Changed), EditError>
+    requires base { IsBase base }
+    requires survey { IsSurvey base (program_of (lines_of former.now.items)) names.old survey.now }
+    requires old_few { length (lines_of former.now.items) ≤ MAX_LINES }
+    requires allowed { refusal_of (lines_of former.now.items) (edit_of edit.now) ≡ None }
+    requires edited { survey.now.lines.items ≡ lines_after (lines_of former.now.items) (edit_of edit.now) }
+    requires few { length survey.now.lines.items ≤ MAX_LINES }
+    requires count { length items.items ≡ length survey.now.lines.items }
+    requires former { AreFormer base (lines_of former.now.items) (edit_of edit.now) 0 items.items }
+    requires valued { C.valued_count counter.old ≤ 2 ^ 63 }
+    requires encoded { C.encoded_count counter.old ≤ 2 ^ 63 }
+    ensures names { Grows names.old names.new }
+    ensures survey { IfOk result (λ r. IsSurvey base (program_of survey.now.lines.items) names.new r.0) }
+    ensures items { IfOk result (λ r. AreItems base survey.now.lines.items r.1.items) }
+    ensures changed { IfOk result (λ r. r.2.lines ≡ changed_lines base (lines_of former.now.items) (edit_of edit.now)) }
+    ensures memory { IfErr result (λ e. e ≡ EditError.Memory) }
+    ensures counted { AreCountedAfter base (lines_of former.now.items) (edit_of edit.now) (counts_of C.parsed_count C.valued_count C.encoded_count counter.old) (counts_of C.parsed_count C.valued_count C.encoded_count counter.new) }
+{
+    let old = Lines::in_items(former);
+    let lines = Lines::in_column(&survey.lines);
+    assembled_by_lines(
+        alloc, base, names, survey, &old, &lines, edit, items, counter,
+    )
+}

@@ -1,0 +1,64 @@
+//! The symbols that an edit changes.
+
+ghost use Rattle.std.specs.Prelude.{◌≡◌, ℕ, List, false, IsTrue};
+ghost use Rattle.rv_store.specs.Before.{IsBefore, IsAfter, base_before, lines_before, edit_on};
+ghost use Rattle.rv_store.specs.Differing.{IsOneConstant, DiffersNowhere, HasDiffering};
+ghost use Rattle.rv_store.specs.Rows.{number_of, IsNumber};
+ghost use Rattle.rv_store.specs.SymbolRows.{AreSymbolRows};
+
+use crate::before::Before;
+use crate::line_values::is_same_entry;
+use crate::name_set::NameSet;
+use crate::names::entry_at;
+use crate::symbol_rows::SymbolRows;
+
+// Whether the symbol of this number is the same constant on each line as on the line that it was before the edit: no `.equ`
+// defines it, or one that stayed and still gives the same constant. Other symbols may be so, too.
+fn is_one_constant(before: &Before<'_, '_>, after: &SymbolRows<'_>, number: Option<usize>) -> bool
+    requires before { IsBefore before.now }
+    requires rows { AreSymbolRows after.now }
+    requires after { IsAfter before.now after.now.text }
+    requires numbered { IsNumber after.now.text.names.now number }
+    ensures { IsTrue result → (name : List ℕ) → number_of after.now.text.names.now name ≡ number → IsOneConstant (lines_before before.now) (edit_on before.now) name }
+{
+    match (after.equ_of(number), before.symbols.equ_of(number)) {
+        (None, None) => true,
+        (Some(line), Some(stood)) => {
+            before.edit.line_before(line) == Some(stood)
+                && entry_at(after.constants, None, number)
+                    == entry_at(before.symbols.constants, None, number)
+        }
+        _ => false,
+    }
+}
+
+// Whether the symbol of this number may give another value or another constant on a line than it gave before.
+fn may_differ(before: &Before<'_, '_>, after: &SymbolRows<'_>, number: Option<usize>) -> bool
+    requires before { IsBefore before.now }
+    requires rows { AreSymbolRows after.now }
+    requires after { IsAfter before.now after.now.text }
+    requires numbered { IsNumber after.now.text.names.now number }
+    ensures { result ≡ false → (name : List ℕ) → number_of after.now.text.names.now name ≡ number → DiffersNowhere (base_before before.now) (lines_before before.now) (edit_on before.now) name }
+{
+    !is_same_entry(after.value_of(number), before.symbols.value_of(number))
+        || !is_one_constant(before, after, number)
+}
+
+/// The symbols that give another value or another constant on a line of the text after an edit than they gave before, and
+/// maybe others. A symbol that has no number is defined in neither text.
+pub fn differing_names(before: &Before<'_, '_>, after: &SymbolRows<'_>) -> NameSet
+    requires before { IsBefore before.now }
+    requires rows { AreSymbolRows after.now }
+    requires after { IsAfter before.now after.now.text }
+    ensures { HasDiffering (base_before before.now) (lines_before before.now) (edit_on before.now) result }
+{
+    let names = after.text.names;
+    let mut differing = NameSet::empty();
+    for number in 0..names.len() {
+        let name = names.name(number);
+        if may_differ(before, after, Some(number)) {
+            differing = differing.with(name);
+        }
+    }
+    differing
+}

@@ -1,0 +1,145 @@
+//! Which lines are due after an edit: what is kept of them is made anew.
+
+ghost use Rattle.std.specs.Prelude.{◌≡◌, ◌≤◌, not, true, false, Some, length, IfOk};
+ghost use Rattle.rv_stmt.specs.declared.statement.Body.TheVariants.{Equ as EquBody};
+ghost use Rattle.rv_store.specs.Before.{IsBefore, IsAfter, base_before, lines_before, edit_on};
+ghost use Rattle.rv_store.specs.Changes.{is_invalidated, is_reencoded, is_due};
+ghost use Rattle.rv_store.specs.Codes.{values_of_body};
+ghost use Rattle.rv_store.specs.Differing.{HasDiffering};
+ghost use Rattle.rv_store.specs.Jumps.{target_of};
+ghost use Rattle.rv_store.specs.Program.{body_at, lines_that};
+ghost use Rattle.rv_store.specs.Sameness.{same_values};
+ghost use Rattle.rv_store.specs.SymbolRows.{AreSymbolRows};
+ghost use Rattle.rv_store.specs.TextRows.{program_in};
+ghost use Rattle.rv_store.specs.Uses.{is_equ};
+
+use crate::before::Before;
+use crate::differing::differing_names;
+use crate::invalidation::is_invalidated;
+use crate::jumps::differs_in_distance;
+use crate::line_values::symbol_value;
+use crate::name_set::NameSet;
+use crate::symbol_rows::SymbolRows;
+use crate::text_lines::{equ_on, target_on};
+use rv_stmt::Definition;
+use std::alloc::{AllocError, Global};
+
+// Whether the symbol of an `.equ` on `line` has another value than it had on the line `stood`, or only one of the two lines is
+// the definition of the symbol.
+fn differs_in_symbol(
+    before: &SymbolRows<'_>,
+    after: &SymbolRows<'_>,
+    definition: &Definition,
+    stood: u32,
+    line: u32,
+) -> bool
+    requires before { AreSymbolRows before.now }
+    requires after { AreSymbolRows after.now }
+    requires names { after.now.text.names.now ≡ before.now.text.names.now }
+    requires first_stood { 1 ≤ stood }
+    requires last_stood { stood ≤ length before.now.text.lines.now }
+    requires first { 1 ≤ line }
+    requires last { line ≤ length after.now.text.lines.now }
+    requires equ_before { body_at (program_in before.now.text) stood ≡ EquBody definition.now }
+    requires equ { body_at (program_in after.now.text) line ≡ EquBody definition.now }
+    ensures { result ≡ not (same_values (values_of_body after.now.text.base (program_in after.now.text) line (EquBody definition.now)) (values_of_body before.now.text.base (program_in before.now.text) stood (EquBody definition.now))) }
+{
+    let number = after.text.names.number(definition.symbol.bytes());
+    let value = symbol_value(after, definition, number, line);
+    !value.is_same(&symbol_value(before, definition, number, stood))
+}
+
+// Whether an `.equ` is due: it is new, or its symbol has another value than it had. All `.equ`s are invalidated.
+fn is_equ_due(
+    before: &Before<'_, '_>,
+    after: &SymbolRows<'_>,
+    definition: &Definition,
+    line: u32,
+) -> bool
+    requires before { IsBefore before.now }
+    requires rows { AreSymbolRows after.now }
+    requires after { IsAfter before.now after.now.text }
+    requires first { 1 ≤ line }
+    requires last { line ≤ length after.now.text.lines.now }
+    requires equ { body_at (program_in after.now.text) line ≡ EquBody definition.now }
+    ensures { result ≡ is_reencoded (base_before before.now) (lines_before before.now) (edit_on before.now) line }
+{
+    match before.edit.line_before(line) {
+        Some(stood) => differs_in_symbol(&before.symbols, after, definition, stood, line),
+        None => true,
+    }
+}
+
+// Whether a jump is due: it is new, or its target is another distance from it than it was.
+fn is_jump_due(before: &Before<'_, '_>, after: &SymbolRows<'_>, target: &[u8], line: u32) -> bool
+    requires before { IsBefore before.now }
+    requires rows { AreSymbolRows after.now }
+    requires after { IsAfter before.now after.now.text }
+    requires first { 1 ≤ line }
+    requires last { line ≤ length after.now.text.lines.now }
+    requires target { target_of (body_at (program_in after.now.text) line) ≡ Some target.now }
+    ensures { result ≡ is_reencoded (base_before before.now) (lines_before before.now) (edit_on before.now) line }
+{
+    match before.edit.line_before(line) {
+        Some(stood) => differs_in_distance(&before.symbols, after, target, stood, line),
+        None => true,
+    }
+}
+
+// Whether a line that an edit invalidates, and that is no `.equ`, is due.
+fn is_invalid_due(before: &Before<'_, '_>, after: &SymbolRows<'_>, line: u32) -> bool
+    requires before { IsBefore before.now }
+    requires rows { AreSymbolRows after.now }
+    requires after { IsAfter before.now after.now.text }
+    requires first { 1 ≤ line }
+    requires last { line ≤ length after.now.text.lines.now }
+    requires no_equ { is_equ (body_at (program_in after.now.text) line) ≡ false }
+    requires invalidated { is_invalidated (base_before before.now) (lines_before before.now) (edit_on before.now) line ≡ true }
+    ensures { result ≡ is_due (base_before before.now) (lines_before before.now) (edit_on before.now) line }
+{
+    match target_on(&after.text, line) {
+        Some(target) => is_jump_due(before, after, target, line),
+        None => true,
+    }
+}
+
+// Whether a line of the text after an edit is due. `differing` has each symbol that differs on one of the lines.
+fn is_due(before: &Before<'_, '_>, after: &SymbolRows<'_>, differing: NameSet, line: u32) -> bool
+    requires before { IsBefore before.now }
+    requires rows { AreSymbolRows after.now }
+    requires after { IsAfter before.now after.now.text }
+    requires differing { HasDiffering (base_before before.now) (lines_before before.now) (edit_on before.now) differing }
+    requires first { 1 ≤ line }
+    requires last { line ≤ length after.now.text.lines.now }
+    ensures { result ≡ is_due (base_before before.now) (lines_before before.now) (edit_on before.now) line }
+{
+    if let Some(definition) = equ_on(&after.text, line) {
+        return is_equ_due(before, after, definition, line);
+    }
+    if !is_invalidated(before, after, differing, line) {
+        return false;
+    }
+    is_invalid_due(before, after, line)
+}
+
+/// The lines of the text after an edit that are due, rising.
+pub fn due_lines(
+    alloc: Global,
+    before: &Before<'_, '_>,
+    after: &SymbolRows<'_>,
+) -> Result<Vec<u32>, AllocError>
+    requires before { IsBefore before.now }
+    requires rows { AreSymbolRows after.now }
+    requires after { IsAfter before.now after.now.text }
+    ensures { IfOk result (λ row. row.items ≡ lines_that (is_due (base_before before.now) (lines_before before.now) (edit_on before.now)) (length after.now.text.lines.now)) }
+{
+    let differing = differing_names(before, after);
+    let mut row = Vec::new(alloc);
+    for i in 0..after.text.lines.len() {
+        let line = i as u32 + 1;
+        if is_due(before, after, differing, line) {
+            row.push(line)?;
+        }
+    }
+    Ok(row)
+}
