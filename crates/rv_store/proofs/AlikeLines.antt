@@ -39,10 +39,13 @@ empty : {A : Type 0} (xs : List A) → not (length xs == 0) ≡ false → xs ≡
 empty [] h = refl
 empty (x ∷ xs) h = absurd (true≢false (sym (ap not (past_zero (length xs))) ∙ h))
 
-pub plain : (s : Stmt) (b : Brief) → b ≡ brief_of s → b.equ ≡ false → b.pcrel_high ≡ false → IsPlain s.body
+pub no_high : (s : Stmt) (b : Brief) → b ≡ brief_of s → b.pcrel_high ≡ false → pcrel_high_of s.body ≡ None
+no_high s b is high = none (pcrel_high_of s.body) (sym (ap (λ b. b.pcrel_high) is) ∙ high)
+
+plain : (s : Stmt) (b : Brief) → b ≡ brief_of s → b.equ ≡ false → b.pcrel_high ≡ false → IsPlain s.body
 plain s b is equ high = record {
   equ = sym (ap (λ b. b.equ) is) ∙ equ;
-  high = none (pcrel_high_of s.body) (sym (ap (λ b. b.pcrel_high) is) ∙ high);
+  high = no_high s b is high;
 }
 
 pub no_labels : (s : Stmt) (b : Brief) → b ≡ brief_of s → b.labels ≡ false → s.labels ≡ []

@@ -1,14 +1,15 @@
--- A statement that defines nothing, at the end of a text: where no section moves, the lines before it stay as they are.
-use Rattle.std.proofs.Common.{◌≡◌, ℕ, zero, suc, ◌+◌, ◌-◌, ◌<◌, ◌≤◌, nat_le, Bool, true, false, ◌==◌, not, ◌&&◌, List, [], ◌∷◌, ◌++◌, length, Option, Some, None, Err, Ok, ok_or, pos, if◌then◌else◌, true≢false, arith, ap, sym, ◌∙◌, refl}
-use Rattle.std.proofs.lemmas.Bool.{le-leb}
+-- A statement at the end of a text, where no line before it defines or uses what it defines: those lines stay as they are, if
+-- no section moves.
+use Rattle.std.proofs.Common.{◌≡◌, ℕ, zero, suc, ◌+◌, ◌-◌, ◌<◌, ◌≤◌, nat_le, Bool, true, false, ◌==◌, not, ◌&&◌, List, [], ◌∷◌, ◌++◌, length, Option, Some, None, Err, Ok, ok_or, pos, if◌then◌else◌, arith, ap, sym, ◌∙◌, refl}
+use Rattle.std.specs.List.{list_any}
+use Rattle.std.proofs.lemmas.Bool.{le-leb, ne_eqb, or_parts}
 use Rattle.std.proofs.lemmas.List.{get_or_append_left, take-append-le}
-use Rattle.std.proofs.Math.Path.{fun_ext}
 use Rattle.rv_expr.specs.declared.faults.ValueFault.TheVariants.{NoPartner, Undefined, LaterEqu}
 use Rattle.rv_expr.specs.declared.tree.Direction.{Direction}
 use Rattle.rv_expr.specs.declared.tree.Direction.TheVariants.{Back, Forward}
 use Rattle.rv_expr.specs.declared.tree.LabelReference.{LabelReference}
 use Rattle.rv_expr.specs.declared.tree.LabelReference.TheVariants as reference
-use Rattle.rv_stmt.specs.declared.directive.Definition.{Definition}
+use Rattle.rv_stmt.specs.declared.label.Label.{Label}
 use Rattle.rv_stmt.specs.declared.statement.Body.{Body}
 use Rattle.rv_stmt.specs.declared.statement.Body.TheVariants as body
 use Rattle.rv_stmt.specs.declared.statement.Stmt.{Stmt}
@@ -22,20 +23,20 @@ use Rattle.rv_fix.specs.Values.{Entry, operand_values_of}
 use Rattle.rv_list.specs.declared.view.DefinitionPlace.{DefinitionPlace}
 use Rattle.rv_list.specs.declared.view.DefinitionPlace.TheVariants.{Nowhere, Label as ByLabel, Equ}
 use Rattle.rv_store.specs.declared.line_values.LineValues.TheVariants.{Nothing, Operands, Symbol, Padding}
-use Rattle.rv_store.specs.Appended.{IsBare, shape_at_end, StaySections}
+use Rattle.rv_store.specs.Appended.{defines_in_body, defines, IsApart, shape_at_end, StaySections}
 use Rattle.rv_store.specs.Codes.{is_text, values_of_body, values_by_shape, values_at, code_by_values, code_at}
-use Rattle.rv_store.specs.Constants.{defined_value, constant_through}
-use Rattle.rv_store.specs.Definitions.{place_among_labels, or_place, place_in_statement, first_place, definition_of, is_equ_on}
+use Rattle.rv_store.specs.Constants.{defined_value}
+use Rattle.rv_store.specs.Definitions.{defines_symbol, place_among_labels, place_in_body, or_place, place_in_statement, definition_of, is_equ_on}
 use Rattle.rv_store.specs.Layout.{shape_at, shapes_of, section_at, address_at, size_at as size_on, place_at}
 use Rattle.rv_store.specs.Pairs.{pcrel_high_of, high_by, high_at, has_bytes_in, high_at_line, paired_high_of, names_at}
 use Rattle.rv_store.specs.Program.{Program, body_at, lines_that, last_line, first_line}
 use Rattle.rv_store.specs.References.{among_local, has_local, local_line, line_of_place, label_line, or_faulty_equ, by_definition, address_of_line, names_on, no_pairs, equ_value, symbol_through, usable_equs, reference_of, references_at}
-use Rattle.rv_store.specs.Uses.{is_equ}
-use Rattle.rv_store.proofs.AlikeLaws.{place_in-plain}
-use Rattle.rv_store.proofs.ConstantRows.{constants-kept}
+use Rattle.rv_store.specs.Uses.{names_in, tree_of_label, names_used}
+use Rattle.rv_store.proofs.AgreeingNames.{Agree, operand_values-agree, defined_value-agrees, high-agrees}
 use Rattle.rv_store.proofs.DefinitionLaws.{IsWithin, definition-within}
-use Rattle.rv_store.proofs.EquLaws.{equ_values-same}
-use Rattle.rv_store.proofs.LongerPrograms.{more, count-more, statement-earlier, statement-last, body-earlier, body-last, constants-same, shape-same, shapes-more}
+use Rattle.rv_store.proofs.DefinitionRows.{or_place-nowhere}
+use Rattle.rv_store.proofs.EquLaws.{equ_value-kept}
+use Rattle.rv_store.proofs.LongerPrograms.{more, count-more, statement-earlier, statement-last, body-earlier, body-last, definitions-more, equ-earlier, shape-same, shapes-more}
 use Rattle.rv_store.proofs.Programs.{length-for_lines}
 
 -- Lines
@@ -91,34 +92,45 @@ local_line-within p i number Forward line within e =
     let there = first_line-within (has_local p number) i (length p - i) line e in
     (omega (arith, there.0), omega (arith, there.1, within))
 
--- Plain bodies
+-- What a statement does not define
 
-no_equ : (b : Body) (d : Definition) → is_equ b ≡ false → b ≡ body.Equ d → ⊥
-no_equ b d h e = true≢false (sym (ap is_equ e) ∙ h)
+labels-nowhere : (line index : ℕ) (ls : List Label) (name : List ℕ) → list_any (λ l. defines_symbol l.name name) ls ≡ false → place_among_labels line index ls name ≡ Nowhere
+labels-nowhere line index [] name none = refl
+labels-nowhere line index (l ∷ ls) name none =
+    let parts = or_parts (defines_symbol l.name name) (list_any (λ l. defines_symbol l.name name) ls) none in
+    ap (λ b. if b then ByLabel line index else place_among_labels line (index + 1) ls name) parts.0
+    ∙ labels-nowhere line (index + 1) ls name parts.1
+
+body-nowhere : (line : ℕ) (b : Body) (name : List ℕ) → defines_in_body b name ≡ false → place_in_body line b name ≡ Nowhere
+body-nowhere line (body.Equ d) name none = ap (λ b. if b then Equ line else Nowhere) none
+body-nowhere line b name none = refl
+
+statement-nowhere : (line : ℕ) (s : Stmt) (name : List ℕ) → defines s name ≡ false → place_in_statement line s name ≡ Nowhere
+statement-nowhere line s name none =
+    let parts = or_parts (list_any (λ l. defines_symbol l.name name) s.labels) (defines_in_body s.body name) none in
+    ap (λ place. or_place place (place_in_body line s.body name)) (labels-nowhere line 0 s.labels name parts.0)
+    ∙ body-nowhere line s.body name parts.1
+
+-- what a text defines is no `.equ` after it
+pub no_equ_after : (n : ℕ) (place : DefinitionPlace) → IsWithin 1 (1 + n) place → is_equ_on (suc n) place ≡ false
+no_equ_after n Nowhere within = refl
+no_equ_after n (ByLabel line index) within = refl
+no_equ_after n (Equ line) within = ne_eqb line (suc n) (λ same. omega (arith, same, within.1))
 
 -- The text with one statement more
 
-module _ (p : Program) (s : Stmt) (bare : IsBare s) where
-  -- Definitions and constants
+module _ (p : Program) (s : Stmt) (apart : IsApart p s) where
+  -- no name among these is a symbol that the statement defines
+  abbrev NoneIn : List (List ℕ) → Type 0
+  NoneIn names = list_any (defines s) names ≡ false
 
-  nothing-here : (line : ℕ) (name : List ℕ) → place_in_statement line s name ≡ Nowhere
-  nothing-here line name =
-      λ i. or_place (place_among_labels line 0 (bare.labels i) name) (place_in-plain line s.body name bare.plain.equ i)
+  -- Definitions
 
-  first_place-more : (line : ℕ) (ss : Program) (name : List ℕ) → first_place line (ss ++ s ∷ []) name ≡ first_place line ss name
-  first_place-more line [] name = ap (λ d. or_place d Nowhere) (nothing-here line name)
-  first_place-more line (t ∷ ss) name =
-      ap (or_place (place_in_statement line t name)) (first_place-more (line + 1) ss name)
-
-  pub definitions-same : definition_of (more p s) ≡ definition_of p
-  definitions-same = fun_ext (λ name. first_place-more 1 p name)
-
-  none-last : (d : Definition) → body_at (more p s) (suc (length p)) ≡ body.Equ d → is_equ_on (suc (length p)) (definition_of (more p s) d.symbol) ≡ false
-  none-last d here = absurd (no_equ s.body d bare.plain.equ (sym (body-last p s) ∙ here))
-
-  pub constants-last : constant_through (more p s) (length (more p s)) ≡ constant_through p (length p)
-  constants-last =
-      ap (constant_through (more p s)) (count-more p s) ∙ constants-kept (more p s) (length p) none-last ∙ constants-same p s (length p) (omega arith)
+  pub definition-same : (name : List ℕ) → defines s name ≡ false → definition_of (more p s) name ≡ definition_of p name
+  definition-same name none =
+      ap (λ f. f name) (definitions-more p s)
+      ∙ ap (or_place (definition_of p name)) (statement-nowhere (suc (length p)) s name none)
+      ∙ or_place-nowhere (definition_of p name)
 
   -- Local labels
 
@@ -126,7 +138,7 @@ module _ (p : Program) (s : Stmt) (bare : IsBare s) where
   has_local-same number i first last = ap (λ t. among_local number t.labels) (statement-earlier p s i first last)
 
   pub has_local-last : (number : ℕ) → has_local (more p s) number (suc (length p)) ≡ false
-  has_local-last number = ap (λ t. among_local number t.labels) (statement-last p s) ∙ ap (among_local number) bare.labels
+  has_local-last number = ap (λ t. among_local number t.labels) (statement-last p s) ∙ apart.local number
 
   pub local_line-same : (i number : ℕ) (direction : Direction) → i ≤ length p → local_line (more p s) i number direction ≡ local_line p i number direction
   local_line-same i number Back within =
@@ -139,10 +151,12 @@ module _ (p : Program) (s : Stmt) (bare : IsBare s) where
       (λ j above below. has_local-same number j (omega (arith, above)) (omega (arith, below, within)))
       (ap (has_local (more p s) number) end ∙ has_local-last number)
 
-  pub label_line-same : (i : ℕ) (label : LabelReference) → i ≤ length p → label_line (more p s) i label ≡ label_line p i label
-  label_line-same i (reference.Symbol name) within = λ j. line_of_place (definitions-same j name)
-  label_line-same i (reference.Local number direction) within = λ j. ok_or (local_line-same i number direction within j) Undefined
-  label_line-same i reference.Here within = refl
+  label_line-same : (i : ℕ) (label : LabelReference) → i ≤ length p → NoneIn (names_in (tree_of_label label)) → label_line (more p s) i label ≡ label_line p i label
+  label_line-same i (reference.Symbol name) within none =
+      ap line_of_place (definition-same name (or_parts (defines s name) false none).0)
+  label_line-same i (reference.Local number direction) within none =
+      λ j. ok_or (local_line-same i number direction within j) Undefined
+  label_line-same i reference.Here within none = refl
 
   -- Places, where no section moves
 
@@ -190,14 +204,19 @@ module _ (p : Program) (s : Stmt) (bare : IsBare s) where
         ap (address_of_line base (more p s)) (local_line-same i number direction within)
         ∙ address_of_line-same (local_line p i number direction) (λ line e. local_line-within p i number direction line within e)
 
-    names_on-same : (i : ℕ) (symbol symbol' : List ℕ → Entry) (paired paired' : ℕ → Entry) → i ≤ length p → symbol ≡ symbol' → ((label : LabelReference) → and_then (label_line (more p s) i label) paired ≡ and_then (label_line p i label) paired') → names_on base (more p s) i symbol paired ≡ names_on base p i symbol' paired'
-    names_on-same i symbol symbol' paired paired' within e f =
-        let here = address-same i (omega (arith, within)) in λ j. record {
-          symbol = e j;
-          local = λ number direction. local-same i number direction within j;
-          here = Ok (pos (here j));
-          paired_high = λ label. f label j;
+    names_on-agree : (i : ℕ) (symbol symbol' : List ℕ → Entry) (paired paired' : ℕ → Entry) → i ≤ length p → ((name : List ℕ) → defines s name ≡ false → symbol name ≡ symbol' name) → ((label : LabelReference) → NoneIn (names_in (tree_of_label label)) → and_then (label_line (more p s) i label) paired ≡ and_then (label_line p i label) paired') → Agree (defines s) (names_on base (more p s) i symbol paired) (names_on base p i symbol' paired')
+    names_on-agree i symbol symbol' paired paired' within symbols pairs =
+        let here = address-same i (omega (arith, within)) in record {
+          symbols = symbols;
+          local = λ j number direction. local-same i number direction within j;
+          here = λ j. Ok (pos (here j));
+          pairs = pairs;
         }
+
+    -- for expressions
+    expressions-agree : (i : ℕ) (symbol symbol' : List ℕ → Entry) → i ≤ length p → ((name : List ℕ) → defines s name ≡ false → symbol name ≡ symbol' name) → Agree (defines s) (names_on base (more p s) i symbol no_pairs) (names_on base p i symbol' no_pairs)
+    expressions-agree i symbol symbol' within symbols =
+        names_on-agree i symbol symbol' no_pairs no_pairs within symbols (λ label none j. and_then (label_line-same i label within none j) no_pairs)
 
     by_definition-same : (m : ℕ) (place : DefinitionPlace) (value : Entry) → IsWithin 1 (1 + length p) place → by_definition (address_at base (more p s)) m place value ≡ by_definition (address_at base p) m place value
     by_definition-same m Nowhere value within = refl
@@ -214,54 +233,59 @@ module _ (p : Program) (s : Stmt) (bare : IsBare s) where
         let other : nat_le line (length p) ≡ true = le-leb line (length p) (omega (arith, within.1)) in
         ap (λ b. if b then or_faulty_equ value else Err LaterEqu) (one ∙ sym other)
 
-    symbol-by : (m : ℕ) → equ_value base (more p s) m ≡ equ_value base p m → symbol_through base (more p s) m ≡ symbol_through base p m
-    symbol-by m equs = fun_ext (λ name.
-        (λ j. by_definition (address_at base (more p s)) m (definitions-same j name) (equs j name))
-        ∙ by_definition-same m (definition_of p name) (equ_value base p m name) (definition-within p name))
+    symbol-by : (m : ℕ) → equ_value base (more p s) m ≡ equ_value base p m → (name : List ℕ) → defines s name ≡ false → symbol_through base (more p s) m name ≡ symbol_through base p m name
+    symbol-by m equs name none =
+        (λ j. by_definition (address_at base (more p s)) m (definition-same name none j) (equs j name))
+        ∙ by_definition-same m (definition_of p name) (equ_value base p m name) (definition-within p name)
 
     pub equ_value-same : (m : ℕ) → m ≤ length p → equ_value base (more p s) m ≡ equ_value base p m
     equ_value-same zero within = refl
     equ_value-same (suc m) within =
         let earlier = equ_value-same m (omega (arith, within)) in
-        let symbols = symbol-by m earlier in
-        let names = names_on-same (suc m) (symbol_through base (more p s) m) (symbol_through base p m) no_pairs no_pairs within symbols (λ label j. and_then (label_line-same (suc m) label within j) no_pairs) in
+        let names = expressions-agree (suc m) (symbol_through base (more p s) m) (symbol_through base p m) within (symbol-by m earlier) in
         let here = body-earlier p s (suc m) (omega arith) within in
-        λ j name. if is_equ_on (suc m) (definitions-same j name) then defined_value (names j) (here j) else earlier j name
+        let value = ap (defined_value (names_on base (more p s) (suc m) (symbol_through base (more p s) m) no_pairs)) here ∙ defined_value-agrees names (body_at p (suc m)) (apart.unused (suc m) (omega arith) within) in
+        λ j name. if equ-earlier p s (suc m) name within j then value j else earlier j name
 
-    pub equ_value-last : equ_value base (more p s) (length (more p s)) ≡ equ_value base p (length p)
-    equ_value-last =
-        ap (equ_value base (more p s)) (count-more p s) ∙ equ_values-same base (more p s) (length p) none-last ∙ equ_value-same (length p) (omega arith)
+    -- the last line gives none of the other symbols
+    pub equ_value-last : (name : List ℕ) → defines s name ≡ false → equ_value base (more p s) (length (more p s)) name ≡ equ_value base p (length p) name
+    equ_value-last name none =
+        let other = ap (is_equ_on (suc (length p))) (definition-same name none) ∙ no_equ_after (length p) (definition_of p name) (definition-within p name) in
+        ap (λ n. equ_value base (more p s) n name) (count-more p s)
+        ∙ equ_value-kept base (more p s) (length p) name other
+        ∙ ap (λ f. f name) (equ_value-same (length p) (omega arith))
 
-    pub symbol-last : symbol_through base (more p s) (length (more p s)) ≡ symbol_through base p (length p)
-    symbol-last = fun_ext (λ name.
-        (λ j. by_definition (address_at base (more p s)) (count-more p s j) (definitions-same j name) (equ_value-last j name))
+    pub symbol-last : (name : List ℕ) → defines s name ≡ false → symbol_through base (more p s) (length (more p s)) name ≡ symbol_through base p (length p) name
+    symbol-last name none =
+        let equ = equ_value-last name none in
+        (λ j. by_definition (address_at base (more p s)) (count-more p s j) (definition-same name none j) (equ j))
         ∙ by_definition-same (suc (length p)) (definition_of p name) (equ_value base p (length p) name) (definition-within p name)
-        ∙ by_definition-all (definition_of p name) (equ_value base p (length p) name) (definition-within p name))
+        ∙ by_definition-all (definition_of p name) (equ_value base p (length p) name) (definition-within p name)
 
-    symbol-usable : (i : ℕ) (b : Body) → i ≤ length p → symbol_through base (more p s) (usable_equs (more p s) i b) ≡ symbol_through base p (usable_equs p i b)
-    symbol-usable i (body.Equ d) last = symbol-by (i - 1) (equ_value-same (i - 1) (omega (arith, last)))
-    symbol-usable i b last = symbol-last
+    symbol-usable : (i : ℕ) (b : Body) → i ≤ length p → (name : List ℕ) → defines s name ≡ false → symbol_through base (more p s) (usable_equs (more p s) i b) name ≡ symbol_through base p (usable_equs p i b) name
+    symbol-usable i (body.Equ d) last name none = symbol-by (i - 1) (equ_value-same (i - 1) (omega (arith, last))) name none
+    symbol-usable i b last name none = symbol-last name none
 
-    pub reference-same : (i : ℕ) → 1 ≤ i → i ≤ length p → reference_of base (more p s) i ≡ reference_of base p i
-    reference-same i first last =
-        ap (λ b. symbol_through base (more p s) (usable_equs (more p s) i b)) (body-earlier p s i first last) ∙ symbol-usable i (body_at p i) last
+    pub reference-same : (i : ℕ) → 1 ≤ i → i ≤ length p → (name : List ℕ) → defines s name ≡ false → reference_of base (more p s) i name ≡ reference_of base p i name
+    reference-same i first last name none =
+        ap (λ b. symbol_through base (more p s) (usable_equs (more p s) i b) name) (body-earlier p s i first last) ∙ symbol-usable i (body_at p i) last name none
 
-    references-same : (i : ℕ) → 1 ≤ i → i ≤ length p → references_at base (more p s) i ≡ references_at base p i
-    references-same i first last =
-        names_on-same i (reference_of base (more p s) i) (reference_of base p i) no_pairs no_pairs last (reference-same i first last) (λ label j. and_then (label_line-same i label last j) no_pairs)
+    references-agree : (i : ℕ) → 1 ≤ i → i ≤ length p → Agree (defines s) (references_at base (more p s) i) (references_at base p i)
+    references-agree i first last =
+        expressions-agree i (reference_of base (more p s) i) (reference_of base p i) last (reference-same i first last)
 
     -- High halves
 
     pub high-same : (i : ℕ) → 1 ≤ i → i ≤ length p → high_at base (more p s) i ≡ high_at base p i
     high-same i first last =
-        let names = references-same i first last in
         let address = address-same i (omega (arith, last)) in
         let here = body-earlier p s i first last in
-        λ j. high_by (names j) (address j) (pcrel_high_of (here j))
+        (λ j. high_by (references_at base (more p s) i) (address j) (pcrel_high_of (here j)))
+        ∙ high-agrees (references-agree i first last) (address_at base p i) (body_at p i) (apart.unused i first last)
 
     pub high-last : high_at base (more p s) (suc (length p)) ≡ Err NoPartner
     high-last =
-        ap (high_by (references_at base (more p s) (suc (length p))) (address_at base (more p s) (suc (length p)))) (ap pcrel_high_of (body-last p s) ∙ bare.plain.high)
+        ap (high_by (references_at base (more p s) (suc (length p))) (address_at base (more p s) (suc (length p)))) (ap pcrel_high_of (body-last p s) ∙ apart.high)
 
     has_bytes-same : (section i : ℕ) → 1 ≤ i → i ≤ length p → has_bytes_in (more p s) section i ≡ has_bytes_in p section i
     has_bytes-same section i first last =
@@ -318,38 +342,38 @@ module _ (p : Program) (s : Stmt) (bare : IsBare s) where
         at (Some l) is h = local_line-within p i number direction line within (is ∙ (let one : Ok l ≡ Ok line = h in let same : l ≡ line = cc in ap Some same))
     label-within i reference.Here line within e = absurd (let no : Err Undefined ≡ Ok line = e in cc)
 
-    pair-same : (i : ℕ) (label : LabelReference) → i ≤ length p → and_then (label_line (more p s) i label) (paired_high_of base (more p s)) ≡ and_then (label_line p i label) (paired_high_of base p)
-    pair-same i label within =
-        ap (λ l. and_then l (paired_high_of base (more p s))) (label_line-same i label within)
+    pair-same : (i : ℕ) (label : LabelReference) → i ≤ length p → NoneIn (names_in (tree_of_label label)) → and_then (label_line (more p s) i label) (paired_high_of base (more p s)) ≡ and_then (label_line p i label) (paired_high_of base p)
+    pair-same i label within none =
+        ap (λ l. and_then l (paired_high_of base (more p s))) (label_line-same i label within none)
         ∙ at (label_line p i label) (λ line e. label-within i label line within e)
       where
         at : (l : _) → ((line : ℕ) → l ≡ Ok line → (1 ≤ line) × (line ≤ length p)) → and_then l (paired_high_of base (more p s)) ≡ and_then l (paired_high_of base p)
         at (Ok line) w = let there = w line refl in paired_high-same line there.0 there.1
         at (Err fault) w = refl
 
-    pub names-same : (i : ℕ) → 1 ≤ i → i ≤ length p → names_at base (more p s) i ≡ names_at base p i
-    names-same i first last =
-        names_on-same i (reference_of base (more p s) i) (reference_of base p i) (paired_high_of base (more p s)) (paired_high_of base p) last (reference-same i first last) (λ label. pair-same i label last)
+    names-agree : (i : ℕ) → 1 ≤ i → i ≤ length p → Agree (defines s) (names_at base (more p s) i) (names_at base p i)
+    names-agree i first last =
+        names_on-agree i (reference_of base (more p s) i) (reference_of base p i) (paired_high_of base (more p s)) (paired_high_of base p) last (reference-same i first last) (λ label none. pair-same i label last none)
 
     -- Values and codes
 
-    values_of-same : (i : ℕ) (b : Body) → 1 ≤ i → i ≤ length p → values_of_body base (more p s) i b ≡ values_of_body base p i b
-    values_of-same i (body.Align d) first last =
+    values_of-same : (i : ℕ) (b : Body) → 1 ≤ i → i ≤ length p → NoneIn (names_used b) → values_of_body base (more p s) i b ≡ values_of_body base p i b
+    values_of-same i (body.Align d) first last none =
         let section = section-same i (omega (arith, last)) in
         let size = size-same i first last in
         λ j. Padding (is_text (section j)) (size j)
-    values_of-same i (body.Equ d) first last =
-        let names = references-same i first last in
-        λ j. if is_equ_on i (definitions-same j d.symbol) then Symbol (defined_value (names j) (body.Equ d)) else Nothing
-    values_of-same i b first last =
-        let names = names-same i first last in
+    values_of-same i (body.Equ d) first last none =
+        let value = defined_value-agrees (references-agree i first last) (body.Equ d) none in
+        λ j. if equ-earlier p s i d.symbol last j then Symbol (value j) else Nothing
+    values_of-same i b first last none =
         let address = address-same i (omega (arith, last)) in
-        λ j. Operands (operand_values_of (names j) (address j) b)
+        (λ j. Operands (operand_values_of (names_at base (more p s) i) (address j) b))
+        ∙ ap Operands (operand_values-agree (names-agree i first last) (address_at base p i) b none)
 
     pub values-same : (i : ℕ) → 1 ≤ i → i ≤ length p → values_at base (more p s) i ≡ values_at base p i
     values-same i first last =
         let shape = shape-same p s i first last in
-        let values = ap (values_of_body base (more p s) i) (body-earlier p s i first last) ∙ values_of-same i (body_at p i) first last in
+        let values = ap (values_of_body base (more p s) i) (body-earlier p s i first last) ∙ values_of-same i (body_at p i) first last (apart.unused i first last) in
         λ j. values_by_shape (shape j) (values j)
 
     pub code-same : (i : ℕ) → 1 ≤ i → i ≤ length p → code_at base (more p s) i ≡ code_at base p i

@@ -5,15 +5,15 @@ use Rattle.std.proofs.lemmas.Bool.{lt-ltb, le-ltb, eq-eqb, not_from_true}
 use Rattle.std.proofs.lemmas.List.{map-append, length-append, append-nil, take_all}
 use Rattle.std.proofs.lemmas.List.Edits.{insert_end}
 use Rattle.std.proofs.Math.Seq.{take-append_seam}
-use Rattle.rv_expr.specs.declared.faults.ValueFault.TheVariants.{LaterEqu, NoPartner}
+use Rattle.rv_expr.specs.declared.faults.ValueFault.TheVariants.{NoPartner}
+use Rattle.rv_stmt.specs.declared.statement.Stmt.{Stmt}
 use Rattle.rv_stmt.specs.Statement.{statement_of}
 use Rattle.rv_layout.specs.Effects.{layout_of}
 use Rattle.rv_layout.specs.Places.{AreLimited}
-use Rattle.rv_list.specs.declared.view.DefinitionPlace.TheVariants.{Nowhere}
 use Rattle.rv_store.specs.declared.ending.Ending.{Ending}
 use Rattle.rv_store.specs.declared.item.Item.{Item}
 use Rattle.rv_store.specs.declared.survey.Survey.{Survey}
-use Rattle.rv_store.specs.Appended.{StaySections, shape_at_end, IsEnding, AreSameNames, AreExtended, BeginAs, AreSameRows}
+use Rattle.rv_store.specs.Appended.{StaySections, shape_at_end, IsEnding, AreSameSymbols, AreSameLines, AreExtended, BeginAs, AreSymbols, IsLast, IsUnsettled}
 use Rattle.rv_store.specs.Changes.{program_after, is_new_or, differs_in_code, differs_in_uses, differs_in_values, is_changed, changed_lines, is_invalidated, is_reencoded, most_values, most_codes}
 use Rattle.rv_store.specs.Codes.{values_at, code_at}
 use Rattle.rv_store.specs.Edits.{line_before_edit}
@@ -21,13 +21,13 @@ use Rattle.rv_store.specs.Items.{IsItem, AreFirstItems, AreItems, IsItemAdded}
 use Rattle.rv_store.specs.Layout.{shape_at, place_at}
 use Rattle.rv_store.specs.Pairs.{high_at, paired_high_of}
 use Rattle.rv_store.specs.Program.{Program, program_of, body_at, for_lines, lines_that}
-use Rattle.rv_store.specs.References.{has_local}
-use Rattle.rv_store.specs.Rows.{in_row}
+use Rattle.rv_store.specs.References.{has_local, equ_value}
+use Rattle.rv_store.specs.Rows.{AreDefinitions, AreConstants, AreEquValues, ArePlaces, AreLocals}
 use Rattle.rv_store.specs.Surveys.{IsSurvey}
 use Rattle.rv_store.specs.Text.{Insert, lines_after}
 use Rattle.rv_store.specs.Work.{survey_operands, value_operands}
 use Rattle.rv_store.proofs.AlikeTexts.{some_line}
-use Rattle.rv_store.proofs.AppendLaws.{lines_that-same, definitions-same, constants-last, place-same, has_local-same, has_local-last, equ_value-last, high-same, high-last, paired_high-same, paired_high-last, values-same, code-same}
+use Rattle.rv_store.proofs.AppendLaws.{lines_that-same, place-same, has_local-same, has_local-last, equ_value-same, high-same, high-last, paired_high-same, paired_high-last, values-same, code-same}
 use Rattle.rv_store.proofs.Items.{one_item_more, all_items}
 use Rattle.rv_store.proofs.LongerPrograms.{for_lines-same, more, count-more, shape-same, shapes-more, statement-last}
 use Rattle.rv_store.proofs.Programs.{length-for_lines, length-program}
@@ -69,18 +69,15 @@ module _ (base : ℕ) (lines : List (List ℕ)) (names : List (List ℕ)) (s : S
   count-paired_highs =
       ap length are.paired_highs ∙ length-for_lines (paired_high_of base (program_of lines)) (length (program_of lines)) ∙ length-program lines
 
-  same-names : AreSameNames s s
-  same-names = record { definitions = refl; constants = refl; locals = refl; equ_values = refl }
-
   all-of : {A : Type 0} (xs : List A) → length xs ≡ length lines → take (length lines) xs ≡ xs
   all-of xs e = take_all (length lines) xs (omega (arith, e))
 
   pub begins-alone : length s.lines.items ≡ length lines → BeginAs (length lines) s s
   begins-alone listed = record {
-    names = same-names;
     lines = all-of s.lines.items listed;
     shapes = all-of s.shapes.items count-shapes;
     places = all-of s.places.items count-places;
+    locals = refl;
     highs = all-of s.highs.items count-highs;
     paired_highs = all-of s.paired_highs.items count-paired_highs;
   }
@@ -90,27 +87,61 @@ module _ (base : ℕ) (lines : List (List ℕ)) (names : List (List ℕ)) (s : S
 
   pub begins-extended : (line : List ℕ) (end : Ending) (new : Survey) → length s.lines.items ≡ length lines → AreExtended line end s new → BeginAs (length lines) s new
   begins-extended line end new listed extended = record {
-    names = extended.names;
     lines = first-of s.lines.items new.lines.items line listed extended.lines;
     shapes = first-of s.shapes.items new.shapes.items end.shape count-shapes extended.shapes;
     places = first-of s.places.items new.places.items end.place count-places extended.places;
+    locals = extended.locals;
     highs = first-of s.highs.items new.highs.items (Err NoPartner) count-highs extended.highs;
     paired_highs = first-of s.paired_highs.items new.paired_highs.items (Err NoPartner) count-paired_highs extended.paired_highs;
   }
 
-  pub survey-same : (new : Survey) → AreSameRows s new → IsSurvey base (program_of lines) names new
-  survey-same new same = record {
-    definitions = record { each = (λ j. in_row names (same.names.definitions j).items Nowhere) ∙ are.definitions.each; within = rw same.names.definitions are.definitions.within };
-    constants = record { each = (λ j. in_row names (same.names.constants j).items None) ∙ are.constants.each; within = rw same.names.constants are.constants.within };
-    shapes = same.shapes ∙ are.shapes;
-    limited = subst AreLimited (sym same.shapes) are.limited;
-    total = same.total ∙ are.total ∙ ap layout_of (sym same.shapes);
-    places = same.places ∙ are.places;
-    locals = λ number. (λ j. get_or (same.names.locals j) number []) ∙ are.locals number;
-    equ_values = record { each = (λ j. in_row names (same.names.equ_values j).items (Err LaterEqu)) ∙ are.equ_values.each; within = rw same.names.equ_values are.equ_values.within };
-    highs = same.highs ∙ are.highs;
-    paired_highs = same.paired_highs ∙ are.paired_highs;
-  }
+-- where the rows by lines change no more, they begin as before
+pub begins-still : (count : ℕ) (old middle new : Survey) → BeginAs count old middle → AreSameLines middle new → BeginAs count old new
+begins-still count old middle new begin same = record {
+  lines = ap (take count) same.lines ∙ begin.lines;
+  shapes = ap (take count) same.shapes ∙ begin.shapes;
+  places = ap (take count) same.places ∙ begin.places;
+  locals = same.locals ∙ begin.locals;
+  highs = ap (take count) same.highs ∙ begin.highs;
+  paired_highs = ap (take count) same.paired_highs ∙ begin.paired_highs;
+}
+
+-- rows by lines that are the old ones, and rows by names that hold the same
+pub survey-back : (base : ℕ) (lines names names' : List (List ℕ)) (old new : Survey) → IsSurvey base (program_of lines) names old → AreSameLines old new → AreSymbols base (program_of lines) (length lines) names' new → IsSurvey base (program_of lines) names' new
+survey-back base lines names names' old new are same symbols =
+    let count : length lines ≡ length (program_of lines) = sym (length-program lines) in
+    let constants = subst (λ k. AreConstants (program_of lines) k names' new.constants.items) count symbols.constants in
+    let equ_values = subst (λ k. AreEquValues base (program_of lines) k names' new.equ_values.items) count symbols.equ_values in
+    record {
+      definitions = symbols.definitions;
+      constants = constants;
+      shapes = same.shapes ∙ are.shapes;
+      limited = subst AreLimited (sym same.shapes) are.limited;
+      total = same.total ∙ are.total ∙ ap layout_of (sym same.shapes);
+      places = same.places ∙ are.places;
+      locals = λ number. (λ j. get_or (same.locals j) number []) ∙ are.locals number;
+      equ_values = equ_values;
+      highs = same.highs ∙ are.highs;
+      paired_highs = same.paired_highs ∙ are.paired_highs;
+    }
+
+-- what a survey holds by names
+pub symbols-of : (base : ℕ) (lines names : List (List ℕ)) (s : Survey) → IsSurvey base (program_of lines) names s → AreSymbols base (program_of lines) (length lines) names s
+symbols-of base lines names s are =
+    let count = length-program lines in
+    record {
+      definitions = are.definitions;
+      constants = subst (λ k. AreConstants (program_of lines) k names s.constants.items) count are.constants;
+      equ_values = subst (λ k. AreEquValues base (program_of lines) k names s.equ_values.items) count are.equ_values;
+    }
+
+-- the same rows
+pub symbols-same : (base : ℕ) (program : Program) (k : ℕ) (names : List (List ℕ)) (old new : Survey) → AreSameSymbols old new → AreSymbols base program k names old → AreSymbols base program k names new
+symbols-same base program k names old new same are = record {
+  definitions = subst (λ v. AreDefinitions program names v.items) (sym same.definitions) are.definitions;
+  constants = subst (λ v. AreConstants program k names v.items) (sym same.constants) are.constants;
+  equ_values = subst (λ v. AreEquValues base program k names v.items) (sym same.equ_values) are.equ_values;
+}
 
 module _ (base : ℕ) (lines : List (List ℕ)) (line : List ℕ) (end : Ending) (is : IsEnding base (program_of lines) (statement_of line) end) where
   abbrev p : Program
@@ -131,53 +162,86 @@ module _ (base : ℕ) (lines : List (List ℕ)) (line : List ℕ) (end : Ending)
   count : length p ≡ length lines
   count = length-program lines
 
-  -- the rows
-  survey-more : (names : List (List ℕ)) (old new : Survey) → IsSurvey base p names old → AreExtended line end old new → IsSurvey base (more p (statement_of line)) names new
-  survey-more names old new are extended =
-      let s = statement_of line in
-      let n = count-more p s in
-      record {
-        definitions = record {
-          each = (λ j. in_row names (extended.names.definitions j).items Nowhere) ∙ are.definitions.each ∙ sym (definitions-same p s is.bare);
-          within = rw extended.names.definitions are.definitions.within;
-        };
-        constants = record {
-          each = (λ j. in_row names (extended.names.constants j).items None) ∙ are.constants.each ∙ sym (constants-last p s is.bare);
-          within = rw extended.names.constants are.constants.within;
-        };
-        shapes = extended.shapes ∙ (λ j. are.shapes j ++ is.shape j ∷ []) ∙ sym (shapes-more p s);
-        limited = subst AreLimited (sym extended.shapes) (limited-push old.shapes.items end.shape are.limited is.limited);
-        total = extended.total ∙ is.total ∙ (λ j. layout_of (sym are.shapes j ++ end.shape ∷ [])) ∙ ap layout_of (sym extended.shapes);
-        places =
-            extended.places
-            ∙ (λ j. are.places j ++ is.place j ∷ [])
-            ∙ ap (λ row. row ++ place_at base (more p s) (suc (length p)) ∷ []) (sym (for_lines-same (place_at base (more p s)) (place_at base p) (length p) (place-same p s is.bare base stay)))
-            ∙ ap (for_lines (place_at base (more p s))) (sym n);
-        locals = λ number.
-            (λ j. get_or (extended.names.locals j) number [])
-            ∙ are.locals number
-            ∙ sym (lines_that-same (has_local (more p s) number) (has_local p number) (length p) (has_local-same p s is.bare number))
-            ∙ sym (append-nil _)
-            ∙ (λ j. lines_that (has_local (more p s) number) (length p) ++ (if sym (has_local-last p s is.bare number) j then suc (length p) ∷ [] else []))
-            ∙ ap (lines_that (has_local (more p s) number)) (sym n);
-        equ_values = record {
-          each = (λ j. in_row names (extended.names.equ_values j).items (Err LaterEqu)) ∙ are.equ_values.each ∙ sym (equ_value-last p s is.bare base stay);
-          within = rw extended.names.equ_values are.equ_values.within;
-        };
-        highs =
-            extended.highs
-            ∙ (λ j. are.highs j ++ sym (high-last p s is.bare base stay) j ∷ [])
-            ∙ ap (λ row. row ++ high_at base (more p s) (suc (length p)) ∷ []) (sym (for_lines-same (high_at base (more p s)) (high_at base p) (length p) (high-same p s is.bare base stay)))
-            ∙ ap (for_lines (high_at base (more p s))) (sym n);
-        paired_highs =
-            extended.paired_highs
-            ∙ (λ j. are.paired_highs j ++ sym (paired_high-last p s is.bare base stay) j ∷ [])
-            ∙ ap (λ row. row ++ paired_high_of base (more p s) (suc (length p)) ∷ []) (sym (for_lines-same (paired_high_of base (more p s)) (paired_high_of base p) (length p) (paired_high-same p s is.bare base stay)))
-            ∙ ap (for_lines (paired_high_of base (more p s))) (sym n);
-      }
+  -- the rows by lines
 
-  pub survey-extended : (names : List (List ℕ)) (old new : Survey) → IsSurvey base p names old → AreExtended line end old new → IsSurvey base (program_of after) names new
-  survey-extended names old new are extended = subst (λ q. IsSurvey base q names new) (sym after-more) (survey-more names old new are extended)
+  pub is_last : IsLast base lines line
+  is_last = record {
+    apart = is.apart;
+    alone = is.alone;
+    earlier =
+        ap (λ q. equ_value base q (length lines)) after-more
+        ∙ equ_value-same p (statement_of line) is.apart base stay (length lines) (omega (arith, count));
+  }
+
+  module _ (names : List (List ℕ)) (old new : Survey) (are : IsSurvey base p names old) (extended : AreExtended line end old new) where
+    abbrev s : Stmt
+    s = statement_of line
+
+    n : length (more p s) ≡ suc (length p)
+    n = count-more p s
+
+    places-more : ArePlaces base (more p s) new.places.items
+    places-more =
+        extended.places
+        ∙ (λ j. are.places j ++ is.place j ∷ [])
+        ∙ ap (λ row. row ++ place_at base (more p s) (suc (length p)) ∷ []) (sym (for_lines-same (place_at base (more p s)) (place_at base p) (length p) (place-same p s is.apart base stay)))
+        ∙ ap (for_lines (place_at base (more p s))) (sym n)
+
+    locals-more : AreLocals (more p s) (length (more p s)) new.locals
+    locals-more number =
+        (λ j. get_or (extended.locals j) number [])
+        ∙ are.locals number
+        ∙ sym (lines_that-same (has_local (more p s) number) (has_local p number) (length p) (has_local-same p s is.apart number))
+        ∙ sym (append-nil _)
+        ∙ (λ j. lines_that (has_local (more p s) number) (length p) ++ (if sym (has_local-last p s is.apart number) j then suc (length p) ∷ [] else []))
+        ∙ ap (lines_that (has_local (more p s) number)) (sym n)
+
+    -- the rows by names wait for the line
+    pub unsettled : length after ≤ 16384 → AreSameSymbols old new → old.lines.items ≡ lines → IsUnsettled base names line new
+    unsettled few same listed =
+        let now : new.lines.items ≡ after = extended.lines ∙ ap (λ ls. ls ++ line ∷ []) listed in
+        let all : new.lines.items ≡ after = now in
+        record {
+          lines = lines;
+          more = now;
+          few = rw now few;
+          last = is_last;
+          symbols = symbols-same base p (length lines) names old new same (symbols-of base lines names old are);
+          places = subst (λ q. ArePlaces base q new.places.items) (sym (ap program_of all ∙ after-more)) places-more;
+          locals = subst (λ q. AreLocals q (length q) new.locals) (sym (ap program_of all ∙ after-more)) locals-more;
+        }
+
+    -- and then have it
+    survey-more : (names' : List (List ℕ)) (settled : Survey) → AreSameLines new settled → AreSymbols base (program_of after) (length after) names' settled → IsSurvey base (more p s) names' settled
+    survey-more names' settled same symbols =
+        let k : length after ≡ length (more p s) = count-after ∙ ap suc (sym count) ∙ sym n in
+        let symbols' : AreSymbols base (more p s) (length (more p s)) names' settled =
+        subst (λ q. AreSymbols base q (length (more p s)) names' settled) after-more (subst (λ m. AreSymbols base (program_of after) m names' settled) k symbols) in
+        record {
+          definitions = symbols'.definitions;
+          constants = symbols'.constants;
+          shapes = same.shapes ∙ extended.shapes ∙ (λ j. are.shapes j ++ is.shape j ∷ []) ∙ sym (shapes-more p s);
+          limited = subst AreLimited (sym (same.shapes ∙ extended.shapes)) (limited-push old.shapes.items end.shape are.limited is.limited);
+          total = same.total ∙ extended.total ∙ is.total ∙ (λ j. layout_of (sym are.shapes j ++ end.shape ∷ [])) ∙ ap layout_of (sym (same.shapes ∙ extended.shapes));
+          places = same.places ∙ places-more;
+          locals = λ number. (λ j. get_or (same.locals j) number []) ∙ locals-more number;
+          equ_values = symbols'.equ_values;
+          highs =
+              same.highs
+              ∙ extended.highs
+              ∙ (λ j. are.highs j ++ sym (high-last p s is.apart base stay) j ∷ [])
+              ∙ ap (λ row. row ++ high_at base (more p s) (suc (length p)) ∷ []) (sym (for_lines-same (high_at base (more p s)) (high_at base p) (length p) (high-same p s is.apart base stay)))
+              ∙ ap (for_lines (high_at base (more p s))) (sym n);
+          paired_highs =
+              same.paired_highs
+              ∙ extended.paired_highs
+              ∙ (λ j. are.paired_highs j ++ sym (paired_high-last p s is.apart base stay) j ∷ [])
+              ∙ ap (λ row. row ++ paired_high_of base (more p s) (suc (length p)) ∷ []) (sym (for_lines-same (paired_high_of base (more p s)) (paired_high_of base p) (length p) (paired_high-same p s is.apart base stay)))
+              ∙ ap (for_lines (paired_high_of base (more p s))) (sym n);
+        }
+
+    pub survey-extended : (names' : List (List ℕ)) (settled : Survey) → AreSameLines new settled → AreSymbols base (program_of after) (length after) names' settled → IsSurvey base (program_of after) names' settled
+    survey-extended names' settled same symbols = subst (λ q. IsSurvey base q names' settled) (sym after-more) (survey-more names' settled same symbols)
 
   -- the items of the lines before it
   first-items : (items : List Item) → AreItems base lines items → AreFirstItems base after (length lines) items
@@ -192,11 +256,11 @@ module _ (base : ℕ) (lines : List (List ℕ)) (line : List ℕ) (end : Ending)
             ∙ ap (λ r. for_lines (shape_at r) (length lines)) (sym after-more);
         values =
             are.values
-            ∙ sym (for_lines-same (values_at base q) (values_at base p) (length lines) (λ i first last. values-same p s is.bare base stay i first (omega (arith, last, count))))
+            ∙ sym (for_lines-same (values_at base q) (values_at base p) (length lines) (λ i first last. values-same p s is.apart base stay i first (omega (arith, last, count))))
             ∙ ap (λ r. for_lines (values_at base r) (length lines)) (sym after-more);
         codes =
             are.codes
-            ∙ sym (for_lines-same (code_at base q) (code_at base p) (length lines) (λ i first last. code-same p s is.bare base stay i first (omega (arith, last, count))))
+            ∙ sym (for_lines-same (code_at base q) (code_at base p) (length lines) (λ i first last. code-same p s is.apart base stay i first (omega (arith, last, count))))
             ∙ ap (λ r. for_lines (code_at base r) (length lines)) (sym after-more);
       }
 
@@ -240,7 +304,7 @@ module _ (base : ℕ) (lines : List (List ℕ)) (line : List ℕ) (end : Ending)
         ap (lines_that (is_changed base lines (Insert k line))) count-end
         ∙ last_that (is_changed base lines (Insert k line)) (length lines)
         (λ i first last.
-        let code = ap (λ q. code_at base q i) program-end ∙ code-same p (statement_of line) is.bare base stay i first (omega (arith, last, count)) in
+        let code = ap (λ q. code_at base q i) program-end ∙ code-same p (statement_of line) is.apart base stay i first (omega (arith, last, count)) in
         ap (is_new_or (differs_in_code base p (program_after lines (Insert k line)) i)) (stands i last)
         ∙ not_from_true _ ((same_code-Decides _ _).1 code))
         (ap (is_changed base lines (Insert k line)) number ∙ ap (is_new_or (differs_in_code base p (program_after lines (Insert k line)) k)) is_new)

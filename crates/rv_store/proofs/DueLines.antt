@@ -31,7 +31,7 @@ use Rattle.rv_store.specs.Layout.{shape_at, address_at}
 use Rattle.rv_store.specs.Pairs.{names_at}
 use Rattle.rv_store.specs.Program.{Program, program_of, body_at, lines_that}
 use Rattle.rv_store.specs.References.{reference_of}
-use Rattle.rv_store.specs.Sameness.{same_shape, same_entry, same_values}
+use Rattle.rv_store.specs.Sameness.{same_entry, same_values}
 use Rattle.rv_store.specs.Text.{Edit, refusal_of, lines_after}
 use Rattle.rv_store.specs.TextRows.{program_in}
 use Rattle.rv_store.specs.Uses.{is_equ}

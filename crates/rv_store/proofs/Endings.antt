@@ -1,6 +1,5 @@
 -- A line at the end of some lines: where it lies.
-use Rattle.std.proofs.Common.{◌≡◌, ℕ, suc, ◌+◌, ◌^◌, ◌<◌, ◌≤◌, true, not, ◌&&◌, List, [], ◌∷◌, ◌++◌, length, take, slice_index, arith, ap, sym, subst, ◌∙◌}
-use Rattle.std.proofs.lemmas.Bool.{and_parts, not-true}
+use Rattle.std.proofs.Common.{◌≡◌, ℕ, suc, ◌+◌, ◌^◌, ◌<◌, ◌≤◌, List, [], ◌∷◌, ◌++◌, length, take, slice_index, arith, ap, sym, subst, ◌∙◌}
 use Rattle.std.proofs.lemmas.List.{length-append}
 use Rattle.std.proofs.Math.Seq.{get_or-append_seam, take-append_seam}
 use Rattle.rv_stmt.specs.declared.statement.Stmt.{Stmt}
@@ -12,16 +11,13 @@ use Rattle.rv_layout.specs.Effects.{layout_of, offset_reached, base_by_layout}
 use Rattle.rv_layout.specs.PlaceLaws.{reached-end, reached-section, reached_together, base-layout}
 use Rattle.rv_layout.specs.Places.{sum_below, section_base_of, IsBase, IsLimited, AreLimited}
 use Rattle.rv_layout.specs.Sections.{sections, section_number}
-use Rattle.rv_store.specs.declared.brief.Brief.{Brief}
 use Rattle.rv_store.specs.declared.ending.Ending.{Ending}
 use Rattle.rv_store.specs.declared.ends.Ends.{Ends}
-use Rattle.rv_store.specs.Appended.{IsBare, shape_at_end, IsEnding}
-use Rattle.rv_store.specs.Briefs.{brief_of}
+use Rattle.rv_store.specs.Appended.{IsApart, IsAlone, shape_at_end, IsEnding}
 use Rattle.rv_store.specs.Ends.{ends_of, ends_reached, next_offset, next_place, place_by_shapes}
 use Rattle.rv_store.specs.Layout.{shape_at, shapes_of}
 use Rattle.rv_store.specs.Program.{program_of}
 use Rattle.rv_store.specs.Rows.{AreShapes}
-use Rattle.rv_store.proofs.AlikeLines.{no_labels, plain}
 use Rattle.rv_store.proofs.LongerPrograms.{shapes-more}
 use Rattle.rv_store.proofs.Programs.{length-for_lines, length-program}
 use Rattle.rv_store.proofs.ShapeRows.{limited-push}
@@ -75,30 +71,20 @@ module _ (ms : List Measured) (m : Measured) (few : length ms < 16384) (limited 
   together-all total is =
       subst (λ l. sum_below (offset_reached l) sections ≤ 2 ^ 30) (sym is) (reached_together (ms ++ m ∷ []) limited few-all)
 
--- What a line is, in brief
-
-pub bare-in_brief : (s : Stmt) (b : Brief) → b ≡ brief_of s → (not b.labels && not b.equ && not b.pcrel_high) ≡ true → IsBare s
-bare-in_brief s b is h =
-    let first = and_parts (not b.labels && not b.equ) (not b.pcrel_high) h in
-    let second = and_parts (not b.labels) (not b.equ) first.0 in
-    record {
-      labels = no_labels s b is (not-true b.labels second.0);
-      plain = plain s b is (not-true b.equ second.1) (not-true b.pcrel_high first.1);
-    }
-
 -- What the line adds
 
-pub ending-is : (base : ℕ) (lines : List (List ℕ)) (s : Stmt) (shapes : List Measured) (before : Effect) (end : Ending) → AreShapes (program_of lines) shapes → AreLimited shapes → length lines < 16384 → IsBare s
+pub ending-is : (base : ℕ) (lines : List (List ℕ)) (s : Stmt) (shapes : List Measured) (before : Effect) (end : Ending) → AreShapes (program_of lines) shapes → AreLimited shapes → length lines < 16384 → IsApart (program_of lines) s → IsAlone s
     → end.shape ≡ shape_at_end (program_of lines) s → IsLimited end.shape → before ≡ layout_of shapes → end.total ≡ layout_of (shapes ++ end.shape ∷ [])
     → ((t : ℕ) → t < sections → base_by_layout base end.total t ≡ base_by_layout base before t) → end.place ≡ place_by_shapes base (shapes ++ end.shape ∷ []) (suc (length shapes)) → IsEnding base (program_of lines) s end
-ending-is base lines s shapes before end are limited few bare shape limited_end is all stay place =
+ending-is base lines s shapes before end are limited few apart alone shape limited_end is all stay place =
     let p = program_of lines in
     let count : length shapes ≡ length lines = ap length are ∙ length-for_lines (shape_at p) (length p) ∙ length-program lines in
     let limited_all : AreLimited (shapes ++ end.shape ∷ []) = limited-push shapes end.shape limited limited_end in
     let few_all : length (shapes ++ end.shape ∷ []) ≤ 16384 = few-all shapes end.shape (omega (arith, count, few)) limited_all in
     let rows : shapes ++ end.shape ∷ [] ≡ shapes_of (p ++ s ∷ []) = (λ i. are i ++ shape i ∷ []) ∙ sym (shapes-more p s) in
     record {
-      bare = bare;
+      apart = apart;
+      alone = alone;
       shape = shape;
       limited = limited_end;
       total = all ∙ ap (λ ms. layout_of (ms ++ end.shape ∷ [])) are;

@@ -30,7 +30,7 @@ equ_value-here base program i name e =
     ap (λ t. if t then defined_value (references_after base program i) (body_at program (suc i)) else equ_value base program i name) e
 
 -- and on any other
-equ_value-kept : (base : ℕ) (program : Program) (i : ℕ) (name : List ℕ) → is_equ_on (suc i) (definition_of program name) ≡ false → equ_value base program (suc i) name ≡ equ_value base program i name
+pub equ_value-kept : (base : ℕ) (program : Program) (i : ℕ) (name : List ℕ) → is_equ_on (suc i) (definition_of program name) ≡ false → equ_value base program (suc i) name ≡ equ_value base program i name
 equ_value-kept base program i name e =
     ap (λ t. if t then defined_value (references_after base program i) (body_at program (suc i)) else equ_value base program i name) e
 

@@ -1,3 +1,4 @@
+pub mod AgreeingNames
 pub mod AlikeLaws
 pub mod AlikeLines
 pub mod AlikeTexts
@@ -33,6 +34,7 @@ pub mod LineNameLaws
 pub mod LinePairLaws
 pub mod LineSums
 pub mod ListedLines
+pub mod LastSymbols
 pub mod Lists
 pub mod LocalLines
 pub mod LongerPrograms
@@ -40,6 +42,7 @@ pub mod LongerTexts
 pub mod NameRows
 pub mod NameSets
 pub mod NextHighs
+pub mod OnlySymbols
 pub mod Programs
 pub mod RenewalRuns
 pub mod Sameness

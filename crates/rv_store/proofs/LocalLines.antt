@@ -196,7 +196,7 @@ no-local : (k : ℕ) (name : LabelName) → is_local_label name ≡ false → is
 no-local k (label.Local number) other = absurd (true≢false other)
 no-local k (label.Symbol symbol) other = refl
 
-none-among : (k : ℕ) (ls : List Label) → has_local_labels ls ≡ false → among_local k ls ≡ false
+pub none-among : (k : ℕ) (ls : List Label) → has_local_labels ls ≡ false → among_local k ls ≡ false
 none-among k [] none = refl
 none-among k (l ∷ ls) none =
     let parts = or_parts (is_local_label l.name) (has_local_labels ls) none in

@@ -76,7 +76,7 @@ module _ (p : Program) (s : Stmt) where
   equ-by m (Equ line) last within there = refl
 
   -- the earlier lines define the same constants
-  equ-earlier : (m : ℕ) (name : List ℕ) → m ≤ length p → is_equ_on m (definition_of more name) ≡ is_equ_on m (definition_of p name)
+  pub equ-earlier : (m : ℕ) (name : List ℕ) → m ≤ length p → is_equ_on m (definition_of more name) ≡ is_equ_on m (definition_of p name)
   equ-earlier m name within =
       ap (λ f. is_equ_on m (f name)) definitions-more
       ∙ equ-by m (definition_of p name) (place_in_statement (suc (length p)) s name) within (statement-within (suc (length p)) s name)

@@ -4,7 +4,7 @@ use Rattle.std.proofs.Math.Path.{fun_ext}
 use Rattle.std.proofs.lemmas.Bool.{cases_lt, false≢true}
 use Rattle.std.proofs.lemmas.Grind.{common_steps}
 use Rattle.std.proofs.lemmas.Bool.Decides.{nat_tests}
-use Rattle.std.proofs.lemmas.List.{append-nil, map-append, length-append, get_or_past, get_or-set_same, get_or-set_other, take_all}
+use Rattle.std.proofs.lemmas.List.{append-nil, map-append, length-append, get_or_past, get_or-set_same, get_or-set_other, take_all, length-replicate}
 use Rattle.std.proofs.lemmas.Slice.Eq.{bytes_eq-Decides}
 use Rattle.std.specs.List.{list_any, position_or_len, AllByRecursion, IsDistinct}
 use Rattle.rv_store.specs.Rows.{number_of, entry_at, in_row, Grows}
@@ -221,6 +221,16 @@ pub lengthened : {A : Type 0} (names : List (List ℕ)) (row : List A) (other : 
 lengthened names row other n within =
     ap (λ l. in_row names (l ++ replicate (n - length row) other) other) (take_all n row within)
     ∙ row-filled names row other (n - length row)
+
+-- one that gets a place for each name
+pub row-placed : {A : Type 0} (names : List (List ℕ)) (row row' : List A) (other : A) (n count : ℕ) → row' ≡ take n row ++ replicate (n - count) other → count ≡ length row → n ≡ length names → length row ≤ length names → (in_row names row' other ≡ in_row names row other) × (length row' ≤ length names)
+row-placed names row row' other n count made counted all within =
+    let made' : row' ≡ take n row ++ replicate (n - length row) other = made ∙ ap (λ k. take n row ++ replicate (n - k) other) counted in
+    let least : length row ≤ n = omega (arith, all, within) in
+    let whole : row' ≡ row ++ replicate (n - length row) other = made' ∙ ap (λ l. l ++ replicate (n - length row) other) (take_all n row least) in
+    let count' : length row' ≡ length row + (n - length row) =
+    ap length whole ∙ length-append row (replicate (n - length row) other) ∙ ap (λ k. length row + k) (length-replicate (n - length row) other) in
+    (ap (λ r. in_row names r other) made' ∙ lengthened names row other n least, omega (arith, count', all, least))
 
 -- a row of nothing but the other value
 pub row-empty : {A : Type 0} (names : List (List ℕ)) (other : A) (k : ℕ) → in_row names (replicate k other) other ≡ (λ name. other)

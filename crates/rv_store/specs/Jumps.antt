@@ -1,7 +1,6 @@
 -- Jumps and the like: lines that use the address of one symbol, counted from their own, and nothing else.
 -- (docs/LANGUAGE.md, Values of operands)
-use Rattle.std.specs.Prelude.{ℕ, Bool, ◌||◌, List, [], ◌∷◌, Option, Some, None, Ok}
-use Rattle.std.specs.Option.{is_some}
+use Rattle.std.specs.Prelude.{ℕ, List, [], ◌∷◌, Option, Some, None, Ok}
 use Rattle.rv_expr.specs.Tree.{Symbol}
 use Rattle.rv_stmt.specs.declared.operand.Operand.{Operand}
 use Rattle.rv_stmt.specs.declared.operand.OperandValue.{OperandValue}

@@ -1,5 +1,5 @@
 -- The items of a text after an edit, those of the lines that are due made anew, from the first to the last.
-use Rattle.std.proofs.Common.{◌≡◌, ℕ, suc, ◌+◌, ◌-◌, ◌*◌, ◌^◌, ◌<◌, ◌≤◌, ◌⊎◌, inl, inr, false, List, ◌∷◌, ◌++◌, length, get_or, slice_get, Some, arith, ap, subst, sym, ◌∙◌, refl}
+use Rattle.std.proofs.Common.{◌≡◌, ℕ, suc, ◌+◌, ◌-◌, ◌*◌, ◌^◌, ◌<◌, ◌≤◌, ◌⊎◌, inl, inr, false, List, ◌∷◌, ◌++◌, length, get_or, arith, ap, subst, sym, ◌∙◌, refl}
 use Rattle.rv_text.specs.Counting.{Counts}
 use Rattle.rv_tree.specs.PassLaws.{kept_by_parts}
 use Rattle.rv_tree.specs.Passes.{Runs}

@@ -1,19 +1,19 @@
-//! A line at the end of a text that no other line has to do with.
+//! A line at the end of a text with which no other line has to do.
 
-ghost use Rattle.std.specs.Prelude.{◌≡◌, ℕ, ◌≤◌, ◌<◌, ◌+◌, ◌-◌, ◌^◌, suc, false, [], ◌∷◌, ◌++◌, length, IfOk, IfErr, IfSome, OnOk, OnErr, IsTrue};
+ghost use Rattle.std.specs.Prelude.{◌≡◌, ℕ, ◌≤◌, ◌<◌, ◌+◌, ◌-◌, ◌*◌, ◌^◌, suc, [], ◌∷◌, ◌++◌, length, IfOk, IfErr, IfSome, OnOk, OnErr, IsTrue};
 ghost use Rattle.rv_layout.specs.Effects.{layout_of, offset_reached, base_by_layout};
 ghost use Rattle.rv_layout.specs.Places.{sum_below, IsLimited, AreLimited, IsBase};
 ghost use Rattle.rv_layout.specs.Sections.{sections};
 ghost use Rattle.rv_layout.specs.Shapes.{size_operands};
 ghost use Rattle.rv_stmt.specs.Statement.{statement_of};
 ghost use Rattle.rv_store.specs.declared.limits.TheConstants.{MAX_LINES};
-ghost use Rattle.rv_store.specs.Appended.{IsBare, shape_at_end, IsEnding, AreExtended, BeginAs, AreSameRows};
+ghost use Rattle.rv_store.specs.Appended.{shape_at_end, IsEnding, AreExtended, BeginAs, AreSameLines, AreSameSymbols, AreSymbols};
 ghost use Rattle.rv_store.specs.Ends.{place_by_shapes};
 ghost use Rattle.rv_store.specs.Items.{IsItemAdded};
 ghost use Rattle.rv_store.specs.Program.{program_of, body_at};
-ghost use Rattle.rv_store.specs.Rows.{AreConstants, AreShapes};
+ghost use Rattle.rv_store.specs.Rows.{AreDefinitions, AreConstants, AreShapes};
 ghost use Rattle.rv_store.specs.Surveys.{IsSurvey};
-ghost use Rattle.rv_store.specs.Work.{value_operands};
+ghost use Rattle.rv_store.specs.Work.{equ_operands, value_operands};
 
 use crate::changed::Changed;
 use crate::constants::LineConstants;
@@ -23,6 +23,7 @@ use crate::item::Item;
 use crate::line::Line;
 use crate::lines::Lines;
 use crate::names::NameTable;
+use crate::only_symbol::is_apart;
 use crate::places::next_place;
 use crate::replacement::item_of_line;
 use crate::shapes::shape_of_line;
@@ -69,14 +70,6 @@ pub fn shape_at_end<'a, C: Count>(
     shape_of_line(line, &constants, counter)
 }
 
-// Whether a line defines nothing.
-fn is_bare(line: &Line) -> bool
-    ensures { IsTrue result → IsBare (statement_of line.now) }
-{
-    let brief = line.brief();
-    !brief.labels & !brief.equ & !brief.pcrel_high
-}
-
 // Whether all sections begin where they began before lines were added.
 fn stay_sections(base: u32, before: &Layout, total: &Layout) -> bool
     requires base { IsBase base }
@@ -100,10 +93,17 @@ fn place_at_end(base: u32, survey: &Survey, total: &Layout, shape: &Measured) ->
     next_place(&bases(total, base), &Ends::reached(&survey.total), shape)
 }
 
-/// What a line of this shape adds at the end of a text, if no other line has to do with it: it defines nothing, and no section
-/// moves by it.
-pub fn bare_ending(base: u32, survey: &Survey, line: &Line, shape: Measured) -> Option<Ending>
+/// What a line of this shape adds at the end of a text, if no other line has to do with it: none defines or uses what it defines,
+/// and no section moves by it.
+pub fn apart_ending(
+    base: u32,
+    names: &NameTable,
+    survey: &Survey,
+    line: &Line,
+    shape: Measured,
+) -> Option<Ending>
     requires base { IsBase base }
+    requires definitions { AreDefinitions (program_of survey.now.lines.items) names.now survey.now.definitions.items }
     requires shapes { AreShapes (program_of survey.now.lines.items) survey.now.shapes.items }
     requires limited { AreLimited survey.now.shapes.items }
     requires total { survey.now.total ≡ layout_of survey.now.shapes.items }
@@ -112,12 +112,12 @@ pub fn bare_ending(base: u32, survey: &Survey, line: &Line, shape: Measured) -> 
     requires limited_shape { IsLimited shape }
     ensures { IfSome result (IsEnding base (program_of survey.now.lines.items) (statement_of line.now)) }
 {
-    if !is_bare(line) {
-        return None;
-    }
     layouts_tell_places();
     let total = survey.total.then(&shape);
     if !stay_sections(base, &survey.total, &total) {
+        return None;
+    }
+    if !is_apart(&survey.lines, names, &survey.definitions, line) {
         return None;
     }
     let place = place_at_end(base, survey, &total, &shape);
@@ -129,7 +129,7 @@ pub fn bare_ending(base: u32, survey: &Survey, line: &Line, shape: Measured) -> 
 }
 
 impl Survey {
-    /// Adds a line at the end. Where there is no memory for that, some rows have one entry more.
+    /// Adds a line to the rows by lines. Where there is no memory for that, some of them have one entry more.
     pub fn push(&mut self, line: Line, end: &Ending) -> Result<(), AllocError>
         requires few { length self.old.lines.items < MAX_LINES }
         requires shapes { length self.old.shapes.items ≡ length self.old.lines.items }
@@ -138,6 +138,7 @@ impl Survey {
         requires paired_highs { length self.old.paired_highs.items ≡ length self.old.lines.items }
         ensures ok { OnOk result (AreExtended line end.now self.old self.new) }
         ensures err { OnErr result (BeginAs (length self.old.lines.items) self.old self.new) }
+        ensures symbols { AreSameSymbols self.old self.new }
     {
         self.lines.push(line)?;
         self.shapes.push(end.shape)?;
@@ -148,9 +149,10 @@ impl Survey {
         Ok(())
     }
 
-    /// Takes back what was added after the first lines, whose layout is `total`.
+    /// Takes back what was added to the rows by lines after the first lines, whose layout is `total`.
     pub fn shorten(&mut self, count: usize, total: Layout)
-        ensures rows { (old : Survey) → old.total ≡ total → BeginAs count old self.old → AreSameRows old self.new }
+        ensures lines { (old : Survey) → old.total ≡ total → BeginAs count old self.old → AreSameLines old self.new }
+        ensures symbols { AreSameSymbols self.old self.new }
     {
         self.lines.truncate(count);
         self.shapes.truncate(count);
@@ -173,7 +175,7 @@ fn with_last_item<C: Count>(
     requires survey { IsSurvey base (program_of survey.now.lines.items) names.now survey.now }
     requires few { length survey.now.lines.items ≤ MAX_LINES }
     requires count { length items.now.items + 1 ≡ length survey.now.lines.items }
-    requires valued { C.valued_count counter.old ≤ 2 ^ 63 + 1 }
+    requires valued { C.valued_count counter.old ≤ 2 ^ 63 + 3 }
     requires encoded { C.encoded_count counter.old ≤ 2 ^ 63 }
     ensures items { IfOk result (λ t. IsItemAdded base survey.now.lines.items items.now.items t.items) }
     ensures memory { IfErr result (λ e. e ≡ EditError.Memory) }
@@ -192,45 +194,55 @@ fn with_last_item<C: Count>(
 }
 
 /// Adds a line at the end of a text, with which no other line has to do, and makes its item, by the survey of the text. The
-/// report is that this line is new.
+/// report is that this line is new. A symbol that the line defines gets a number, whatever the outcome.
 ///
-/// The counter's number of expressions computed rises by at most the operands of the line, and its number of lines encoded by
-/// at most one, whatever the outcome.
+/// The counter's number of expressions computed rises by at most the operands of the line, two for an `.equ`, and its number of
+/// lines encoded by at most one, whatever the outcome.
 ///
 /// # Errors
 ///
-/// `Memory` if there was no memory for what is kept; the rows of the lines before it are as they were.
+/// `Memory` if there was no memory for what is kept; the rows of the lines before it are as they were, and the rows by names
+/// hold what they held.
 pub fn appended<C: Count>(
     alloc: Global,
     base: u32,
-    names: &NameTable,
+    names: &mut NameTable,
     survey: &mut Survey,
     items: &SumTree<Item>,
     line: Line,
     end: &Ending,
     counter: &mut C,
 ) -> Result<(SumTree<Item>, Changed), EditError>
-    requires survey { IsSurvey base (program_of survey.old.lines.items) names.now survey.old }
+    requires survey { IsSurvey base (program_of survey.old.lines.items) names.old survey.old }
     requires ending { IsEnding base (program_of survey.old.lines.items) (statement_of line) end.now }
     requires few { length survey.old.lines.items < MAX_LINES }
     requires count { length items.now.items ≡ length survey.old.lines.items }
     requires valued { C.valued_count counter.old ≤ 2 ^ 63 + 1 }
     requires encoded { C.encoded_count counter.old ≤ 2 ^ 63 }
-    ensures ok { OnOk result (AreExtended line end.now survey.old survey.new) }
+    ensures lines { OnOk result (survey.new.lines.items ≡ survey.old.lines.items ++ line ∷ []) }
+    ensures survey { OnOk result (IsSurvey base (program_of (survey.old.lines.items ++ line ∷ [])) names.new survey.new) }
     ensures err { OnErr result (BeginAs (length survey.old.lines.items) survey.old survey.new) }
+    ensures symbols { OnErr result (AreSymbols base (program_of survey.old.lines.items) (length survey.old.lines.items) names.new survey.new) }
     ensures items { IfOk result (λ r. IsItemAdded base (survey.old.lines.items ++ line ∷ []) items.now.items r.0.items) }
     ensures changed { IfOk result (λ r. r.1.lines ≡ (length survey.old.lines.items + 1) ∷ []) }
     ensures memory { IfErr result (λ e. e ≡ EditError.Memory) }
     ensures parsed { C.parsed_count counter.new ≡ C.parsed_count counter.old }
     ensures valued_least { C.valued_count counter.old ≤ C.valued_count counter.new }
-    ensures valued_most { C.valued_count counter.new ≤ C.valued_count counter.old + value_operands (statement_of line).body }
-    ensures valued_few { C.valued_count counter.new ≤ C.valued_count counter.old + 1000 }
+    ensures valued_most { C.valued_count counter.new ≤ C.valued_count counter.old + 2 * equ_operands (statement_of line).body + value_operands (statement_of line).body }
+    ensures valued_few { C.valued_count counter.new ≤ C.valued_count counter.old + 1002 }
     ensures encoded_least { C.encoded_count counter.old ≤ C.encoded_count counter.new }
     ensures encoded_most { C.encoded_count counter.new ≤ C.encoded_count counter.old + 1 }
 {
     let mut numbers = Vec::new(alloc);
     numbers.push(survey.lines.len() as u32 + 1)?;
+    let last = line.share()?;
     survey.push(line, end)?;
-    let items = with_last_item(alloc, base, names, survey, items, counter)?;
-    Ok((items, Changed::of(numbers)))
+    survey.define_last(alloc, base, names, &last, counter)?;
+    match with_last_item(alloc, base, names, survey, items, counter) {
+        Ok(items) => Ok((items, Changed::of(numbers))),
+        Err(e) => {
+            survey.forget_last(names, &last);
+            Err(e)
+        }
+    }
 }

@@ -42,9 +42,9 @@ fn value_on<C: Count>(
     defined_value(definition, &names, text.address(line), counter)
 }
 
-// Goes from the values of the first `i` lines to those of one line more: if the next line has the `.equ` that defines its
-// symbol, the row gets its value.
-fn settle_equ<C: Count>(text: &TextRows<'_>, i: usize, row: &mut Vec<Entry>, counter: &mut C)
+/// Goes from the values of the first `i` lines to those of one line more: if the next line has the `.equ` that defines its
+/// symbol, the row gets its value. The counter's number of expressions computed rises by at most one.
+pub fn settle_equ<C: Count>(text: &TextRows<'_>, i: usize, row: &mut Vec<Entry>, counter: &mut C)
     requires rows { AreTextRows text.now }
     requires within { i < length text.now.lines.now }
     requires few { length text.now.lines.now ≤ MAX_LINES }

@@ -6,7 +6,7 @@ ghost use Rattle.rv_layout.specs.Places.{IsLimited, AreLimited, IsBase};
 ghost use Rattle.rv_layout.specs.Shapes.{size_operands};
 ghost use Rattle.rv_store.specs.declared.limits.TheConstants.{MAX_LINES};
 ghost use Rattle.rv_store.specs.declared.item.Item.{Item};
-ghost use Rattle.rv_store.specs.Appended.{shape_at_end, IsAtEnd, IsLonger, BeginAs, AreCountedLonger, AreCountedAtEnd};
+ghost use Rattle.rv_store.specs.Appended.{shape_at_end, IsAtEnd, IsLonger, BeginAs, AreSameSymbols, AreCountedLonger, AreCountedAtEnd};
 ghost use Rattle.rv_store.specs.Before.{IsBefore, base_before, lines_before, edit_on};
 ghost use Rattle.rv_store.specs.Changes.{changed_lines};
 ghost use Rattle.rv_store.specs.Counted.{counts_of};
@@ -234,6 +234,7 @@ pub fn extended<C: Count>(
     requires encoded { C.encoded_count counter.old ≤ 2 ^ 63 }
     ensures lines { OnOk result (survey.new.lines.items ≡ survey.old.lines.items ++ line ∷ []) }
     ensures begin { BeginAs (length survey.old.lines.items) survey.old survey.new }
+    ensures symbols { AreSameSymbols survey.old survey.new }
     ensures names { Grows names.old names.new }
     ensures survey { IfOk result (λ r. IsSurvey base (program_of (survey.old.lines.items ++ line ∷ [])) names.new r.0) }
     ensures items { IfOk result (λ r. AreItems base (survey.old.lines.items ++ line ∷ []) r.1.items) }

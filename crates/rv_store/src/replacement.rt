@@ -32,7 +32,7 @@ pub fn item_of_line<C: Count>(
     requires few { length rows.now.symbols.text.lines.now ≤ MAX_LINES }
     requires first { 1 ≤ line }
     requires last { line ≤ length rows.now.symbols.text.lines.now }
-    requires valued { C.valued_count counter.old ≤ 2 ^ 63 + 1 }
+    requires valued { C.valued_count counter.old ≤ 2 ^ 63 + 3 }
     requires encoded { C.encoded_count counter.old ≤ 2 ^ 63 }
     ensures item { IfOk result (λ item. IsItem (base_of rows.now) rows.now.symbols.text.lines.now line item) }
     ensures memory { IfErr result (λ e. e ≡ EditError.Memory) }

@@ -27,7 +27,7 @@ use crate::changed::Changed;
 use crate::column::{edit_lines, take_back};
 use crate::edit::{LineEdit, ReadEdit};
 use crate::edit_error::EditError;
-use crate::ending::{Ending, appended, bare_ending, shape_at_end};
+use crate::ending::{Ending, apart_ending, appended, shape_at_end};
 use crate::extension::extended;
 use crate::item::Item;
 use crate::limits::MAX_LINES;
@@ -240,7 +240,7 @@ impl Store {
         ensures changed { IfOk result (λ c. c.lines ≡ changed_lines self.old.base self.old.lines (Insert k line)) }
         ensures memory { IfErr result (λ e. e ≡ EditError.Memory) }
         ensures parsed { C.parsed_count counter.new ≡ C.parsed_count counter.old }
-        ensures valued { (C.valued_count counter.old ≤ C.valued_count counter.new) × (C.valued_count counter.new ≤ C.valued_count counter.old + 1000) }
+        ensures valued { (C.valued_count counter.old ≤ C.valued_count counter.new) × (C.valued_count counter.new ≤ C.valued_count counter.old + 1002) }
         ensures encoded { (C.encoded_count counter.old ≤ C.encoded_count counter.new) × (C.encoded_count counter.new ≤ C.encoded_count counter.old + 1) }
         ensures values { C.valued_count counter.new + size_operands (statement_of line).body ≤ C.valued_count counter.old + most_values self.old.base self.old.lines (Insert k line) }
         ensures codes { C.encoded_count counter.new ≤ C.encoded_count counter.old + most_codes self.old.base self.old.lines (Insert k line) }
@@ -250,7 +250,7 @@ impl Store {
         match appended(
             self.alloc,
             self.base,
-            &self.names,
+            &mut self.names,
             &mut self.survey,
             &self.items,
             line,
@@ -339,7 +339,7 @@ impl Store {
         ensures codes { C.encoded_count counter.new ≤ C.encoded_count counter.old + most_codes self.old.base self.old.lines (Insert k line.now) }
     {
         let shape = shape_at_end(&self.survey, &self.names, line, counter);
-        if let Some(end) = bare_ending(self.base, &self.survey, line, shape) {
+        if let Some(end) = apart_ending(self.base, &self.names, &self.survey, line, shape) {
             return self.push(k, line.share()?, &end, counter);
         }
         self.extend(k, line.share()?, shape, counter)

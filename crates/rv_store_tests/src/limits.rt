@@ -12,10 +12,6 @@ use std::alloc::{AllocError, Global};
 use std::process::Abort;
 use std::test::Fail;
 
-// How many symbols the chain has. All of them are looked at when one more is defined, so a chain of as many lines as there may be
-// takes a minute.
-const CHAIN: usize = 2048;
-
 // A long text.
 #[derive(Clone, Copy)]
 enum LongText {
@@ -28,14 +24,6 @@ enum LongText {
 }
 
 impl LongText {
-    // How many lines it has.
-    fn count(self) -> usize {
-        match self {
-            LongText::Blank | LongText::Wide => MAX_LINES,
-            LongText::Chain => CHAIN,
-        }
-    }
-
     // The line at a place, counted from 0.
     fn line(self, alloc: Global, place: usize) -> Result<String, AllocError> {
         match (self, place.checked_sub(1)) {
@@ -48,7 +36,7 @@ impl LongText {
 }
 
 fn fill(alloc: Global, store: &mut Store, text: LongText) -> Result<(), EditError> {
-    for place in 0..text.count() {
+    for place in 0..MAX_LINES {
         let line = text.line(alloc, place)?;
         append(store, line.as_bytes())?;
     }
@@ -96,19 +84,19 @@ fn replace_first<T: Abort>(rt: &T, store: &mut Store, line: &[u8]) -> Result<Cha
     let changed = store.replace(1, line, &mut tally)?;
     assert_eq!(rt; tally.parsed_calls(), 1);
     let (valued, encoded) = (tally.valued_calls(), tally.encoded_calls());
-    assert!(rt; valued <= 4096, "{valued} values");
-    assert!(rt; encoded <= 2048, "{encoded} codes");
+    assert!(rt; valued <= 32_768, "{valued} values");
+    assert!(rt; encoded <= 16_384, "{encoded} codes");
     Ok(changed)
 }
 
 fn last_symbol(store: &Store) -> Option<SymValue> {
-    store.symbol(b"n2047")
+    store.symbol(b"n16383")
 }
 
 // The faults of the chain whose first symbol has no value. The fault of each other line is that of its expression.
 fn faults_of_chain(alloc: Global) -> Result<Vec<u8>, AllocError> {
-    let mut text = Vec::from_slice(alloc, b"faults 2048\n1 9 10 12 Undefined\n")?;
-    for place in 1..CHAIN {
+    let mut text = Vec::from_slice(alloc, b"faults 16384\n1 9 10 12 Undefined\n")?;
+    for place in 1..MAX_LINES {
         let name = format!(in alloc; ".equ n{place}, ")?;
         let line = LongText::Chain.line(alloc, place)?;
         let number = place.saturating_add(1);
@@ -125,7 +113,7 @@ fn chain_is_faulty<T: Abort>(
     store: &Store,
     changed: &Changed,
 ) -> Result<(), Fail> {
-    assert_eq!(rt; changed.lines.as_slice().len(), 2048);
+    assert_eq!(rt; changed.lines.as_slice().len(), 16_384);
     for (place, line) in changed.lines.as_slice().iter().enumerate() {
         assert_eq!(rt; (*line as usize).checked_sub(1), Some(place));
     }
@@ -138,10 +126,10 @@ fn chain_is_faulty<T: Abort>(
 
 // The last symbol of the chain follows the first one.
 fn chain_is_followed<T: Abort>(rt: &T, alloc: Global, store: &mut Store) -> Result<(), Fail> {
-    assert_eq!(rt; last_symbol(store), Some(SymValue::Equ(Some(2048))));
+    assert_eq!(rt; last_symbol(store), Some(SymValue::Equ(Some(16_384))));
     let changed = replace_first(rt, store, b".equ n0, 2")?;
     assert_eq!(rt; changed.lines.as_slice(), [1].as_slice());
-    assert_eq!(rt; last_symbol(store), Some(SymValue::Equ(Some(2049))));
+    assert_eq!(rt; last_symbol(store), Some(SymValue::Equ(Some(16_385))));
     let changed = replace_first(rt, store, b".equ n0, x")?;
     assert_eq!(rt; last_symbol(store), Some(SymValue::Equ(None)));
     chain_is_faulty(rt, alloc, store, &changed)

@@ -1,7 +1,9 @@
-use Rattle.std.proofs.Common.{sym, subst, refl}
+use Rattle.std.proofs.Common.{◌≡◌, ◌≤◌, ◌+◌, [], ◌∷◌, ◌++◌, length, arith, sym, subst, ◌∙◌, refl}
+use Rattle.rv_store.specs.Appended.{AreSymbols, IsLast, IsUnsettled}
 use Rattle.rv_store.specs.Program.{program_of}
 use Rattle.rv_store.specs.Surveys.{IsSurvey}
-use Rattle.rv_store.proofs.AppendTexts.{in_any_error, begins-alone, begins-extended, count-shapes, count-places, count-highs, count-paired_highs, survey-extended}
+use Rattle.rv_store.proofs.AppendTexts.{in_any_error, begins-alone, begins-extended, begins-still, symbols-of, symbols-same, count-shapes, count-places, count-highs, count-paired_highs, is_last, unsettled, survey-extended}
+use Rattle.rv_store.proofs.LongerTexts.{count-longer}
 use Rattle.rv_store.proofs.ending.appended.Goals as goal
 
 pub push-requires-2-clause-shapes : goal.push-requires-2-clause-shapes
@@ -16,17 +18,72 @@ push-requires-2-clause-highs g c = count-highs c.args.base c.args.survey.now.lin
 pub push-requires-2-clause-paired_highs : goal.push-requires-2-clause-paired_highs
 push-requires-2-clause-paired_highs g c = count-paired_highs c.args.base c.args.survey.now.lines.items c.args.names.now c.args.survey.now c.requires.survey
 
+pub returns-in_err-push-clause-err : goal.returns-in_err-push-clause-err
+returns-in_err-push-clause-err g c = in_any_error c.from_residual.result (begins-alone c.args.base c.args.survey.now.lines.items c.args.names.now c.args.survey.now c.requires.survey refl)
+
+pub returns-in_err-push-clause-symbols : goal.returns-in_err-push-clause-symbols
+returns-in_err-push-clause-symbols g c = in_any_error c.from_residual.result (symbols-of c.args.base c.args.survey.now.lines.items c.args.names.now c.args.survey.now c.requires.survey)
+
+pub returns-in_err-last-clause-err : goal.returns-in_err-last-clause-err
+returns-in_err-last-clause-err g c = in_any_error c.from_residual-in_err-last.result (begins-alone c.args.base c.args.survey.now.lines.items c.args.names.now c.args.survey.now c.requires.survey refl)
+
+pub returns-in_err-last-clause-symbols : goal.returns-in_err-last-clause-symbols
+returns-in_err-last-clause-symbols g c = in_any_error c.from_residual-in_err-last.result (symbols-of c.args.base c.args.survey.now.lines.items c.args.names.now c.args.survey.now c.requires.survey)
+
+pub returns-in_err-push-2-clause-symbols : goal.returns-in_err-push-2-clause-symbols
+returns-in_err-push-2-clause-symbols g c =
+    in_any_error c.from_residual-in_err-push-2.result
+    (symbols-same c.args.base (program_of c.args.survey.now.lines.items) (length c.args.survey.now.lines.items) c.args.names.now c.args.survey.now c.push-2.new.self c.push-2.ensures.symbols (symbols-of c.args.base c.args.survey.now.lines.items c.args.names.now c.args.survey.now c.requires.survey))
+
+pub define_last-requires-clause-unsettled : goal.define_last-requires-clause-unsettled
+define_last-requires-clause-unsettled g c =
+    let lines = c.args.survey.now.lines.items in
+    let few : length (lines ++ c.args.line ∷ []) ≤ 16384 = omega (arith, c.requires.few, count-longer lines c.args.line) in
+    let waits = unsettled c.args.base lines c.args.line c.args.end.now c.requires.ending c.args.names.now c.args.survey.now c.push-2.new.self c.requires.survey c.in_ok-push-2.ensures.ok few c.push-2.ensures.symbols refl in
+    subst (λ l. IsUnsettled c.args.base c.args.names.now l c.push-2.new.self) (sym c.in_ok-last.ensures) waits
+
+pub returns-in_err-define_last-clause-err : goal.returns-in_err-define_last-clause-err
+returns-in_err-define_last-clause-err g c =
+    let lines = c.args.survey.now.lines.items in
+    let begin = begins-extended c.args.base c.args.survey.now.lines.items c.args.names.now c.args.survey.now c.requires.survey c.args.line c.args.end.now c.push-2.new.self refl c.in_ok-push-2.ensures.ok in
+    in_any_error c.from_residual-in_err-define_last.result (begins-still (length lines) c.args.survey.now c.push-2.new.self c.define_last.new.self begin c.define_last.ensures.lines)
+
+pub returns-in_err-define_last-clause-symbols : goal.returns-in_err-define_last-clause-symbols
+returns-in_err-define_last-clause-symbols g c =
+    let lines = c.args.survey.now.lines.items in
+    in_any_error c.from_residual-in_err-define_last.result
+    (c.in_err-define_last.ensures.err c.args.base (program_of lines) (length lines) (symbols-same c.args.base (program_of lines) (length lines) c.args.names.now c.args.survey.now c.push-2.new.self c.push-2.ensures.symbols (symbols-of c.args.base c.args.survey.now.lines.items c.args.names.now c.args.survey.now c.requires.survey)))
+
 pub with_last_item-requires-clause-survey : goal.with_last_item-requires-clause-survey
 with_last_item-requires-clause-survey g c =
-    let extended = c.in_ok-push-2.ensures.ok in
-    let now = survey-extended c.args.base c.args.survey.now.lines.items c.args.line c.args.end.now c.requires.ending c.args.names.now c.args.survey.now c.push-2.new.self c.requires.survey extended in
-    subst (λ ls. IsSurvey c.args.base (program_of ls) c.args.names.now c.push-2.new.self) (sym extended.lines) now
+    let lines = c.args.survey.now.lines.items in
+    let all : c.define_last.new.self.lines.items ≡ lines ++ c.args.line ∷ [] = c.define_last.ensures.lines.lines ∙ c.in_ok-push-2.ensures.ok.lines in
+    let symbols = subst (λ ls. AreSymbols c.args.base (program_of ls) (length ls) c.define_last.new.names c.define_last.new.self) all c.in_ok-define_last.ensures.symbols in
+    let now = survey-extended c.args.base lines c.args.line c.args.end.now c.requires.ending c.args.names.now c.args.survey.now c.push-2.new.self c.requires.survey c.in_ok-push-2.ensures.ok c.define_last.new.names c.define_last.new.self c.define_last.ensures.lines symbols in
+    subst (λ ls. IsSurvey c.args.base (program_of ls) c.define_last.new.names c.define_last.new.self) (sym all) now
 
-pub returns-in_err-push-clause-err : goal.returns-in_err-push-clause-err
-returns-in_err-push-clause-err g c =
-    in_any_error c.from_residual.result (begins-alone c.args.base c.args.survey.now.lines.items c.args.names.now c.args.survey.now c.requires.survey refl)
+pub returns-in-Ok-clause-survey : goal.returns-in-Ok-clause-survey
+returns-in-Ok-clause-survey g c =
+    let lines = c.args.survey.now.lines.items in
+    let all : c.define_last.new.self.lines.items ≡ lines ++ c.args.line ∷ [] = c.define_last.ensures.lines.lines ∙ c.in_ok-push-2.ensures.ok.lines in
+    let symbols = subst (λ ls. AreSymbols c.args.base (program_of ls) (length ls) c.define_last.new.names c.define_last.new.self) all c.in_ok-define_last.ensures.symbols in
+    survey-extended c.args.base lines c.args.line c.args.end.now c.requires.ending c.args.names.now c.args.survey.now c.push-2.new.self c.requires.survey c.in_ok-push-2.ensures.ok c.define_last.new.names c.define_last.new.self c.define_last.ensures.lines symbols
 
-pub returns-in_err-items-clause-err : goal.returns-in_err-items-clause-err
-returns-in_err-items-clause-err g c =
-    in_any_error c.from_residual-in_err-items.result
-    (begins-extended c.args.base c.args.survey.now.lines.items c.args.names.now c.args.survey.now c.requires.survey c.args.line c.args.end.now c.push-2.new.self refl c.in_ok-push-2.ensures.ok)
+pub returns-in-Err-clause-err : goal.returns-in-Err-clause-err
+returns-in-Err-clause-err g c =
+    let lines = c.args.survey.now.lines.items in
+    let begin = begins-extended c.args.base c.args.survey.now.lines.items c.args.names.now c.args.survey.now c.requires.survey c.args.line c.args.end.now c.push-2.new.self refl c.in_ok-push-2.ensures.ok in
+    begins-still (length lines) c.args.survey.now c.define_last.new.self c.forget_last.new.self
+    (begins-still (length lines) c.args.survey.now c.push-2.new.self c.define_last.new.self begin c.define_last.ensures.lines) c.forget_last.ensures.lines
+
+pub returns-in-Err-clause-symbols : goal.returns-in-Err-clause-symbols
+returns-in-Err-clause-symbols g c =
+    let lines = c.args.survey.now.lines.items in
+    let all : c.define_last.new.self.lines.items ≡ lines ++ c.args.line ∷ [] = c.define_last.ensures.lines.lines ∙ c.in_ok-push-2.ensures.ok.lines in
+    let symbols = subst (λ ls. AreSymbols c.args.base (program_of ls) (length ls) c.define_last.new.names c.define_last.new.self) all c.in_ok-define_last.ensures.symbols in
+    let last : c.args.line ≡ c.in_ok-last.last = sym c.in_ok-last.ensures in
+    let count : length (lines ++ c.args.line ∷ []) ≡ length lines + 1 = omega (arith, count-longer lines c.args.line) in
+    let counted = subst (λ k. AreSymbols c.args.base (program_of (lines ++ c.args.line ∷ [])) k c.define_last.new.names c.define_last.new.self) count symbols in
+    c.forget_last.ensures.symbols c.args.base lines
+    (subst (IsLast c.args.base lines) last (is_last c.args.base lines c.args.line c.args.end.now c.requires.ending))
+    (subst (λ l. AreSymbols c.args.base (program_of (lines ++ l ∷ [])) (length lines + 1) c.define_last.new.names c.define_last.new.self) last counted)

@@ -44,10 +44,10 @@ pub returns-in_err-push-clause-begin : goal.returns-in_err-push-clause-begin
 returns-in_err-push-clause-begin g c =
     let alone = begins-alone c.args.base c.args.survey.now.lines.items c.args.names.now c.args.survey.now c.requires.survey refl in
     record {
-      names = record { definitions = refl; constants = refl; locals = refl; equ_values = refl };
       lines = ap (take (length c.args.survey.now.lines.items)) c.in_err-push.ensures.items ∙ alone.lines;
       shapes = alone.shapes;
       places = alone.places;
+      locals = refl;
       highs = alone.highs;
       paired_highs = alone.paired_highs;
     }
@@ -114,10 +114,10 @@ returns-clause-begin g c =
     let lines = c.args.survey.now.lines.items in
     let alone = begins-alone c.args.base lines c.args.names.now c.args.survey.now c.requires.survey refl in
     record {
-      names = record { definitions = refl; constants = refl; locals = refl; equ_values = refl };
       lines = ap (take (length lines)) c.in_ok-push.ensures.items ∙ take-append_seam lines (c.args.line ∷ []);
       shapes = alone.shapes;
       places = alone.places;
+      locals = refl;
       highs = alone.highs;
       paired_highs = alone.paired_highs;
     }

@@ -8,7 +8,7 @@ use Rattle.rv_store.specs.Items.{AreItems}
 use Rattle.rv_store.specs.Program.{program_of}
 use Rattle.rv_store.specs.Surveys.{IsSurvey}
 use Rattle.rv_store.specs.Text.{Insert, is_line, refusal_of}
-use Rattle.rv_store.proofs.AppendTexts.{survey-same}
+use Rattle.rv_store.proofs.AppendTexts.{symbols-of, symbols-same, survey-back}
 use Rattle.rv_store.proofs.EditRefusals.{lined_after, few_after}
 use Rattle.rv_store.proofs.LongerTexts.{lines-longer, body-at_end}
 use Rattle.rv_store.proofs.Stores.{survey_grown}
@@ -63,8 +63,10 @@ invariant_of-self-in-Err g c =
     let surveyed : IsSurvey base (program_of lines) names survey = survey_grown _ _ _ _ _ c.extended.ensures.names (subst (λ ls. IsSurvey base (program_of ls) c.self.inside.names survey) (sym c.self.invariant.listed) c.self.invariant.surveyed) in
     let same : lines ≡ c.args.self.now.lines = c.self.invariant.listed ∙ ap (λ t. t.lines) c.self.view_is in
     let count : length lines ≡ c.len-count.result = ap length same ∙ sym c.len-count.ensures.value in
-    let back = c.shorten.ensures.rows survey refl (subst (λ n. BeginAs n survey c.extended.new.survey) count c.in-Err.ensures.begin) in
-    let now = survey-same base lines names survey surveyed c.shorten.new.self back in
+    let back = c.shorten.ensures.lines survey refl (subst (λ n. BeginAs n survey c.extended.new.survey) count c.in-Err.ensures.begin) in
+    let held = symbols-same base (program_of lines) (length lines) names survey c.extended.new.survey c.in-Err.ensures.symbols (symbols-of base lines names survey surveyed) in
+    let symbols = symbols-same base (program_of lines) (length lines) names c.extended.new.survey c.shorten.new.self c.shorten.ensures.symbols held in
+    let now = survey-back base lines names names survey c.shorten.new.self surveyed back symbols in
     record {
       based = c.self.invariant.based;
       lined = c.self.invariant.lined;

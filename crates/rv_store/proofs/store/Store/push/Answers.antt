@@ -6,7 +6,7 @@ use Rattle.rv_store.specs.Items.{AreItems}
 use Rattle.rv_store.specs.Program.{program_of}
 use Rattle.rv_store.specs.Surveys.{IsSurvey}
 use Rattle.rv_store.specs.Text.{Insert, is_line, refusal_of}
-use Rattle.rv_store.proofs.AppendTexts.{survey-extended, survey-same, items-added, lines-end, one_changed, values-enough, codes-enough}
+use Rattle.rv_store.proofs.AppendTexts.{symbols-same, survey-back, items-added, lines-end, one_changed, values-enough, codes-enough}
 use Rattle.rv_store.proofs.EditRefusals.{lined_after, few_after}
 use Rattle.rv_store.proofs.store.Store.push.Goals as goal
 
@@ -39,9 +39,6 @@ invariant_of-self g c =
     let viewed = subst (λ t. IsEnding t.base (program_of t.lines) (statement_of c.args.line) c.args.end.now) (sym c.self.view_is) c.requires.ending in
     let ending : IsEnding base (program_of lines) (statement_of c.args.line) c.args.end.now =
     subst (λ ls. IsEnding base (program_of ls) (statement_of c.args.line) c.args.end.now) (sym c.self.invariant.listed) viewed in
-    let surveyed : IsSurvey base (program_of lines) names survey = subst (λ ls. IsSurvey base (program_of ls) names survey) (sym c.self.invariant.listed) c.self.invariant.surveyed in
-    let extended = c.in-Ok.ensures.ok in
-    let more = survey-extended base lines c.args.line c.args.end.now ending names survey c.appended.new.survey surveyed extended in
     let assembled : AreItems base lines c.self.inside.items.items = subst (λ ls. AreItems base ls c.self.inside.items.items) (sym c.self.invariant.listed) c.self.invariant.assembled in
     let items = items-added base lines c.args.line c.args.end.now ending c.self.inside.items.items c.in-Ok.items.items assembled c.in-Ok.ensures.items in
     let lined : AllPass is_line lines = subst (AllPass is_line) (sym c.self.invariant.listed) c.self.invariant.lined in
@@ -51,8 +48,8 @@ invariant_of-self g c =
       based = c.self.invariant.based;
       lined = subst (AllPass is_line) (after ∙ sym items.lines) (lined_after lines (Insert c.args.k c.args.line) lined allowed);
       few = rw (items.lines ∙ sym after) (few_after lines (Insert c.args.k c.args.line) few allowed);
-      listed = extended.lines ∙ sym items.lines;
-      surveyed = subst (λ ls. IsSurvey base (program_of ls) names c.appended.new.survey) (sym items.lines) more;
+      listed = c.in-Ok.ensures.lines ∙ sym items.lines;
+      surveyed = subst (λ ls. IsSurvey base (program_of ls) c.appended.new.names c.appended.new.survey) (sym items.lines) c.in-Ok.ensures.survey;
       assembled = subst (λ ls. AreItems base ls c.in-Ok.items.items) (sym items.lines) items;
     }
 
@@ -65,14 +62,15 @@ invariant_of-self-in-Err g c =
     let surveyed : IsSurvey base (program_of lines) names survey = subst (λ ls. IsSurvey base (program_of ls) names survey) (sym c.self.invariant.listed) c.self.invariant.surveyed in
     let same : lines ≡ c.args.self.now.lines = c.self.invariant.listed ∙ ap (λ t. t.lines) c.self.view_is in
     let count : length lines ≡ c.len-count.result = ap length same ∙ sym c.len-count.ensures.value in
-    let back = c.shorten.ensures.rows survey refl (subst (λ n. BeginAs n survey c.appended.new.survey) count c.in-Err.ensures.err) in
-    let now = survey-same base lines names survey surveyed c.shorten.new.self back in
+    let back = c.shorten.ensures.lines survey refl (subst (λ n. BeginAs n survey c.appended.new.survey) count c.in-Err.ensures.err) in
+    let symbols = symbols-same base (program_of lines) (length lines) c.appended.new.names c.appended.new.survey c.shorten.new.self c.shorten.ensures.symbols c.in-Err.ensures.symbols in
+    let now = survey-back base lines names c.appended.new.names survey c.shorten.new.self surveyed back symbols in
     record {
       based = c.self.invariant.based;
       lined = c.self.invariant.lined;
       few = c.self.invariant.few;
       listed = back.lines ∙ c.self.invariant.listed;
-      surveyed = subst (λ ls. IsSurvey base (program_of ls) names c.shorten.new.self) c.self.invariant.listed now;
+      surveyed = subst (λ ls. IsSurvey base (program_of ls) c.appended.new.names c.shorten.new.self) c.self.invariant.listed now;
       assembled = c.self.invariant.assembled;
     }
 

@@ -1,10 +1,12 @@
-use Rattle.std.proofs.Common.{arith, ap, sym, ◌∙◌}
+use Rattle.std.proofs.Common.{arith, ap, sym, subst, ◌∙◌}
 use Rattle.rv_stmt.specs.Statement.{statement_of}
 use Rattle.rv_layout.specs.Effects.{join, effect_of}
+use Rattle.rv_store.specs.Appended.{IsApart}
+use Rattle.rv_store.specs.Program.{program_of}
 use Rattle.rv_store.proofs.Endings.{together-before, together-all, ending-is}
 use Rattle.rv_store.proofs.ShapeRows.{limited-push}
 use Rattle.rv_store.proofs.Surveys.{length_of_shapes}
-use Rattle.rv_store.proofs.ending.bare_ending.Goals as goal
+use Rattle.rv_store.proofs.ending.apart_ending.Goals as goal
 
 pub stay_sections-requires-clause-ends_before : goal.stay_sections-requires-clause-ends_before
 stay_sections-requires-clause-ends_before c =
@@ -33,4 +35,5 @@ pub returns : goal.returns
 returns c =
     let total = c.then-total.ensures ∙ ap (λ l. join l (effect_of c.args.shape)) c.requires.total ∙ sym (c.layouts_tell_places.ensures.more c.args.survey.now.shapes.items c.args.shape c.requires.limited c.requires.limited_shape) in
     ending-is c.args.base c.args.survey.now.lines.items (statement_of c.args.line.now) c.args.survey.now.shapes.items c.args.survey.now.total _ c.requires.shapes c.requires.limited c.requires.few
-    (c.is_bare.ensures c.if-not-is_bare.false) c.requires.shape c.requires.limited_shape c.requires.total total (c.stay_sections.ensures c.if-not-stay_sections.false) c.place_at_end-place.ensures
+    (subst (λ ls. IsApart (program_of ls) (statement_of c.args.line.now)) c.deref.ensures.value (c.is_apart.ensures.apart c.if-not-is_apart.false))
+    (c.is_apart.ensures.alone c.if-not-is_apart.false) c.requires.shape c.requires.limited_shape c.requires.total total (c.stay_sections.ensures c.if-not-stay_sections.false) c.place_at_end-place.ensures

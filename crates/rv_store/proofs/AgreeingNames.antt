@@ -1,0 +1,107 @@
+-- Two environments that give the same but for some symbols. What a line gives is the same in both, where it uses none of those
+-- symbols.
+use Rattle.std.proofs.Common.{◌≡◌, ℕ, Bool, true, false, List, [], ◌∷◌, map, Ok, if◌then◌else◌, ap, sym, ◌∙◌, refl}
+use Rattle.std.specs.List.{list_any, flat_map}
+use Rattle.std.proofs.lemmas.Bool.{or_parts}
+use Rattle.std.proofs.lemmas.List.Folds.{list_any-append}
+use Rattle.rv_expr.specs.declared.tree.LabelReference.{LabelReference}
+use Rattle.rv_expr.specs.Tree.{Tree}
+use Rattle.rv_expr.specs.Value.{Environment, value_of}
+use Rattle.rv_ops.specs.declared.op.Op.{Op}
+use Rattle.rv_ops.specs.declared.op.Op.TheVariants.{Auipc}
+use Rattle.rv_stmt.specs.declared.operand.Operand.{Operand}
+use Rattle.rv_stmt.specs.declared.operand.OperandValue.{OperandValue}
+use Rattle.rv_stmt.specs.declared.operand.OperandValue.TheVariants.{Plain, High, Low, PcrelHigh, PcrelLow}
+use Rattle.rv_stmt.specs.declared.operand.Role.{Role}
+use Rattle.rv_stmt.specs.declared.statement.Body.{Body}
+use Rattle.rv_stmt.specs.declared.statement.Body.TheVariants as body
+use Rattle.rv_stmt.specs.Readings.{and_then}
+use Rattle.rv_stmt.specs.Statement.{operands_of}
+use Rattle.rv_stmt.specs.ValueParts.{high_part, low_part}
+use Rattle.rv_layout.specs.Shapes.{is_size}
+use Rattle.rv_fix.specs.Displacements.{displacement}
+use Rattle.rv_fix.specs.Values.{for_constants, given_to, operand_value, counted_from, entry_of, operand_values_of}
+use Rattle.rv_store.specs.Constants.{value_without_modifier, first_value, defined_value}
+use Rattle.rv_store.specs.Pairs.{pcrel_high_value, pcrel_high_operand, pcrel_high_of, high_by}
+use Rattle.rv_store.specs.Uses.{names_in, tree_of_label, expression_of, names_used}
+use Rattle.rv_store.proofs.UsedValues.{value-follows}
+
+-- two environments that give the same, but for the symbols that differ and the labels of their names
+pub record Agree (differs : List ℕ → Bool) (given other : Environment) : Type 0 where
+  pub symbols : (name : List ℕ) → differs name ≡ false → given.symbol name ≡ other.symbol name
+  pub local : given.local ≡ other.local
+  pub here : given.here ≡ other.here
+  pub pairs : (label : LabelReference) → list_any differs (names_in (tree_of_label label)) ≡ false → given.paired_high label ≡ other.paired_high label
+
+-- the symbols in some operands
+abbrev names_of : List Operand → List (List ℕ)
+names_of os = flat_map (λ o. names_in (expression_of o.value)) os
+
+-- where none of them differs, none in the first operand does, nor in the others
+first-and-others : (differs : List ℕ → Bool) (o : Operand) (os : List Operand) → list_any differs (names_of (o ∷ os)) ≡ false → (list_any differs (names_in (expression_of o.value)) ≡ false) × (list_any differs (names_of os) ≡ false)
+first-and-others differs o os names =
+    let first = names_in (expression_of o.value) in
+    or_parts (list_any differs first) (list_any differs (names_of os)) (sym (list_any-append differs first (names_of os)) ∙ names)
+
+module _ {differs : List ℕ → Bool} {given other : Environment} (agree : Agree differs given other) where
+  value-agrees : (e : Tree) → list_any differs (names_in e) ≡ false → value_of given e ≡ value_of other e
+  value-agrees e names = value-follows differs given other agree.symbols e names (λ h. agree.here) (λ h. agree.local)
+
+  value-in_role : (for_constant : Bool) (e : Tree) → list_any differs (names_in e) ≡ false → value_of (if for_constant then for_constants given else given) e ≡ value_of (if for_constant then for_constants other else other) e
+  value-in_role true e names =
+      value-follows differs (for_constants given) (for_constants other) agree.symbols e names (λ h. refl) (λ h. refl)
+  value-in_role false e names = value-agrees e names
+
+  pair-in_role : (for_constant : Bool) (label : LabelReference) → list_any differs (names_in (tree_of_label label)) ≡ false → (if for_constant then for_constants given else given).paired_high label ≡ (if for_constant then for_constants other else other).paired_high label
+  pair-in_role true label names = agree.pairs label names
+  pair-in_role false label names = agree.pairs label names
+
+  -- Operands
+
+  operand_value-agrees : (role : Role) (here : ℕ) (v : OperandValue) → list_any differs (names_in (expression_of v)) ≡ false → operand_value (given_to role given) here v ≡ operand_value (given_to role other) here v
+  operand_value-agrees role here (Plain e) names = value-in_role (is_size role) e names
+  operand_value-agrees role here (High e) names = ap (λ r. and_then r (λ v. Ok (high_part v))) (value-in_role (is_size role) e names)
+  operand_value-agrees role here (Low e) names = ap (λ r. and_then r (λ v. Ok (low_part v))) (value-in_role (is_size role) e names)
+  operand_value-agrees role here (PcrelHigh e) names =
+      ap (λ r. and_then r (λ v. Ok (high_part (displacement here v)))) (value-in_role (is_size role) e names)
+  operand_value-agrees role here (PcrelLow label) names =
+      ap (λ r. and_then r (λ v. Ok (low_part v))) (pair-in_role (is_size role) label names)
+
+  entries-agree : (here : ℕ) (os : List Operand) → list_any differs (names_of os) ≡ false → map (entry_of given here) os ≡ map (entry_of other here) os
+  entries-agree here [] names = refl
+  entries-agree here (o ∷ os) names =
+      let parts = first-and-others differs o os names in
+      let value = operand_value-agrees o.role here o.value parts.0 in
+      let rest = entries-agree here os parts.1 in
+      λ i. and_then (value i) (λ v. Ok (counted_from here o.role v)) ∷ rest i
+
+  pub operand_values-agree : (here : ℕ) (b : Body) → list_any differs (names_used b) ≡ false → operand_values_of given here b ≡ operand_values_of other here b
+  operand_values-agree here b names = entries-agree here (operands_of b) names
+
+  -- The value of an `.equ`
+
+  without_modifier-agrees : (v : OperandValue) → list_any differs (names_in (expression_of v)) ≡ false → value_without_modifier given v ≡ value_without_modifier other v
+  without_modifier-agrees (Plain e) names = value-agrees e names
+  without_modifier-agrees v names = refl
+
+  first_value-agrees : (os : List Operand) → list_any differs (names_of os) ≡ false → first_value given os ≡ first_value other os
+  first_value-agrees [] names = refl
+  first_value-agrees (o ∷ os) names = without_modifier-agrees o.value (first-and-others differs o os names).0
+
+  pub defined_value-agrees : (b : Body) → list_any differs (names_used b) ≡ false → defined_value given b ≡ defined_value other b
+  defined_value-agrees (body.Equ d) names = first_value-agrees d.operands names
+  defined_value-agrees b names = refl
+
+  -- High halves
+
+  high-of_value : (here : ℕ) (v : OperandValue) → list_any differs (names_in (expression_of v)) ≡ false → high_by given here (pcrel_high_value v) ≡ high_by other here (pcrel_high_value v)
+  high-of_value here (PcrelHigh e) names = ap (λ r. and_then r (λ v. Ok (displacement here v))) (value-agrees e names)
+  high-of_value here v names = refl
+
+  high-of_operands : (here : ℕ) (op : Op) (os : List Operand) → list_any differs (names_of os) ≡ false → high_by given here (pcrel_high_operand op os) ≡ high_by other here (pcrel_high_operand op os)
+  high-of_operands here Auipc (o ∷ os) names = high-of_value here o.value (first-and-others differs o os names).0
+  high-of_operands here op os names = refl
+
+  pub high-agrees : (here : ℕ) (b : Body) → list_any differs (names_used b) ≡ false → high_by given here (pcrel_high_of b) ≡ high_by other here (pcrel_high_of b)
+  high-agrees here (body.Instr i) names = high-of_operands here i.op i.operands names
+  high-agrees here b names = refl

@@ -1,0 +1,131 @@
+//! Lines that define one symbol, and lines with which no other line has to do.
+
+ghost use Rattle.std.specs.Prelude.{◌≡◌, List, ℕ, None, true, false, length, bytes_eq, IsTrue};
+ghost use Rattle.std.specs.List.{list_any};
+ghost use Rattle.std.specs.Option.{option_map};
+ghost use Rattle.rv_stmt.specs.Statement.{statement_of};
+ghost use Rattle.rv_store.specs.Appended.{defines, symbol_of_label, symbol_of_equ, only_symbol, IsApart, IsUnknown, IsAlone};
+ghost use Rattle.rv_store.specs.NameSets.{with_name, no_names};
+ghost use Rattle.rv_store.specs.Program.{program_of};
+ghost use Rattle.rv_store.specs.Rows.{AreDefinitions};
+ghost use Rattle.rv_store.specs.Uses.{names_used};
+
+use crate::line::Line;
+use crate::name_set::NameSet;
+use crate::names::{NameTable, entry_of};
+use crate::uses::{NameTest, any_name, is_equ};
+use rv_list::DefinitionPlace;
+use rv_stmt::{Body, Label, LabelName, Stmt};
+
+// The symbol of a label. Local labels are none.
+fn symbol_of_label<'a>(label: &'a Label) -> Option<&'a [u8]>
+    ensures { option_map (λ s. s.now) result ≡ symbol_of_label label.entry.now.name }
+{
+    match &label.name {
+        LabelName::Symbol(symbol) => Some(symbol.bytes()),
+        LabelName::Local(_) => None,
+    }
+}
+
+// The symbol of an `.equ`.
+fn symbol_of_equ<'a>(body: &'a Body) -> Option<&'a [u8]>
+    ensures { option_map (λ s. s.now) result ≡ symbol_of_equ body.entry.now }
+{
+    match body {
+        Body::Equ(definition) => Some(definition.symbol.bytes()),
+        _ => None,
+    }
+}
+
+/// The symbol that a statement defines, where it defines no more: by its only label, or by its `.equ`.
+pub fn only_symbol<'a>(stmt: &'a Stmt) -> Option<&'a [u8]>
+    ensures { option_map (λ s. s.now) result ≡ only_symbol stmt.entry.now }
+{
+    match stmt.labels.as_slice() {
+        [] => symbol_of_equ(&stmt.body),
+        [_] if is_equ(&stmt.body) => None,
+        [label] => symbol_of_label(label),
+        _ => None,
+    }
+}
+
+// One name.
+#[derive(Drop)]
+struct OneName<'a> {
+    name: &'a [u8],
+}
+
+impl NameTest for OneName<'_> {
+    ghost can_test = { λ t. true ≡ true };
+
+    ghost test = { λ t. bytes_eq t.name.now };
+
+    fn passes(&self, name: &[u8]) -> bool {
+        self.name == name
+    }
+}
+
+// Whether a line uses a symbol. `set` is the set of this symbol alone: lines that use none of its bucket are gone past without
+// a look at their statements.
+fn uses(line: &Line, set: NameSet, symbol: &OneName<'_>) -> bool
+    requires { set ≡ with_name no_names symbol.now.name.now }
+    ensures { result ≡ list_any (bytes_eq symbol.now.name.now) (names_used (statement_of line.now).body) }
+{
+    line.brief().names.meets(set) && any_name(&line.stmt().body, symbol)
+}
+
+// Whether one of the lines uses a symbol.
+fn any_uses(mut lines: &[Line], name: &[u8]) -> bool
+    ensures { result ≡ list_any (λ l. list_any (bytes_eq name.now) (names_used (statement_of l).body)) lines.entry.now }
+{
+    let set = NameSet::empty().with(name);
+    let symbol = OneName { name };
+    while let [line, rest @ ..] = lines {
+        if uses(line, set, &symbol) {
+            return true;
+        }
+        lines = rest;
+    }
+    false
+}
+
+// Whether a symbol is neither defined nor used in a text.
+fn is_unknown(
+    lines: &[Line],
+    names: &NameTable,
+    definitions: &[DefinitionPlace],
+    symbol: &[u8],
+) -> bool
+    requires { AreDefinitions (program_of lines.now) names.now definitions.now }
+    ensures { IsTrue result → IsUnknown (program_of lines.now) symbol.now }
+{
+    match entry_of(names, definitions, DefinitionPlace::Nowhere, symbol) {
+        DefinitionPlace::Nowhere => !any_uses(lines, symbol),
+        _ => false,
+    }
+}
+
+/// Whether no line of a text has to do with a line at its end: it defines nothing, or one symbol that the text neither defines
+/// nor uses, and has no local label, and is no high half.
+pub fn is_apart(
+    lines: &[Line],
+    names: &NameTable,
+    definitions: &[DefinitionPlace],
+    line: &Line,
+) -> bool
+    requires { AreDefinitions (program_of lines.now) names.now definitions.now }
+    ensures apart { IsTrue result → IsApart (program_of lines.now) (statement_of line.now) }
+    ensures alone { IsTrue result → IsAlone (statement_of line.now) }
+{
+    let brief = line.brief();
+    if brief.local_labels || brief.pcrel_high {
+        return false;
+    }
+    if !brief.labels && !brief.equ {
+        return true;
+    }
+    match only_symbol(line.stmt()) {
+        Some(symbol) => is_unknown(lines, names, definitions, symbol),
+        None => false,
+    }
+}
