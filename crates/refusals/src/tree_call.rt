@@ -1,6 +1,6 @@
 //! Calls of `rv_tree`.
 
-use crate::case::{Outcome, pad};
+use crate::call::Answer;
 use rv_tree::{Pass, SumTree, TreeError};
 use rv_tree_tests::extent::{Block, Extent};
 use std::alloc::{AllocError, Global};
@@ -53,26 +53,6 @@ fn make_tree(alloc: Global) -> Result<SumTree<Block>, TreeError> {
     Ok(tree)
 }
 
-// The insertion and the deletion put a tree out of balance.
-fn make(alloc: Global, tree: &SumTree<Block>, call: TreeCall) -> Result<SumTree<Block>, TreeError> {
-    match call {
-        TreeCall::Insert => tree.inserted(6, Block { size: 60 }),
-        TreeCall::Delete => tree.deleted(1),
-        TreeCall::Replace => tree.replaced(4, Block { size: 44 }),
-        TreeCall::Rewrite => tree.rewritten(&mut Accumulate { alloc }),
-    }
-}
-
-// The sizes of the blocks after a call.
-fn sizes_after(call: TreeCall) -> &'static [u64] {
-    match call {
-        TreeCall::Insert => &[10, 20, 30, 40, 50, 60],
-        TreeCall::Delete => &[20, 30, 40, 50],
-        TreeCall::Replace => &[10, 20, 30, 44, 50],
-        TreeCall::Rewrite => &[10, 30, 70, 150, 310],
-    }
-}
-
 // Whether these are the sizes of the blocks, and the sums those of the first blocks.
 fn has_blocks(tree: &SumTree<Block>, sizes: &[u64]) -> bool {
     let mut sum = 0u64;
@@ -87,34 +67,48 @@ fn has_blocks(tree: &SumTree<Block>, sizes: &[u64]) -> bool {
     tree.len() as usize == sizes.len() && tree.total().size == sum
 }
 
-// Whether the call was made.
-fn is_made(found: &Result<SumTree<Block>, TreeError>, call: TreeCall) -> bool {
-    match found {
-        Ok(tree) => has_blocks(tree, sizes_after(call)),
-        Err(_) => false,
-    }
-}
-
-/// A call on a tree of five blocks, and once more where it is refused.
-pub fn tree_call_refused(alloc: Global, pads: u32, call: TreeCall) -> Outcome {
-    let Ok(tree) = make_tree(alloc) else {
-        return Outcome::Unprepared(0);
-    };
-    if let Err(outcome) = pad(alloc, pads) {
-        return outcome;
-    }
-    let first = make(alloc, &tree, call);
-    if !has_blocks(&tree, BEFORE) {
-        return Outcome::Wrong;
-    }
-    if is_made(&first, call) {
-        return Outcome::Made;
-    }
-    let again = make(alloc, &tree, call);
-    match first {
-        Err(TreeError::Memory) if is_made(&again, call) && has_blocks(&tree, BEFORE) => {
-            Outcome::Refused
+impl TreeCall {
+    // Makes it on a tree. The insertion and the deletion put the tree of five blocks out of balance.
+    fn result(self, alloc: Global, tree: &SumTree<Block>) -> Result<SumTree<Block>, TreeError> {
+        match self {
+            TreeCall::Insert => tree.inserted(6, Block { size: 60 }),
+            TreeCall::Delete => tree.deleted(1),
+            TreeCall::Replace => tree.replaced(4, Block { size: 44 }),
+            TreeCall::Rewrite => tree.rewritten(&mut Accumulate { alloc }),
         }
-        _ => Outcome::Wrong,
+    }
+
+    // The sizes of the blocks after it.
+    fn sizes_after(self) -> &'static [u64] {
+        match self {
+            TreeCall::Insert => &[10, 20, 30, 40, 50, 60],
+            TreeCall::Delete => &[20, 30, 40, 50],
+            TreeCall::Replace => &[10, 20, 30, 44, 50],
+            TreeCall::Rewrite => &[10, 30, 70, 150, 310],
+        }
+    }
+
+    // Whether it gives what it has to on a tree of five blocks, which stays as it is.
+    fn answer(self, alloc: Global, tree: &SumTree<Block>) -> Answer {
+        let result = self.result(alloc, tree);
+        if !has_blocks(tree, BEFORE) {
+            return Answer::Wrong;
+        }
+        match result {
+            Ok(found) => Answer::of(has_blocks(&found, self.sizes_after())),
+            Err(TreeError::Memory) => Answer::Refused,
+            Err(_) => Answer::Wrong,
+        }
+    }
+
+    /// Makes it on a tree of five blocks, and once more on the same tree where it is refused.
+    pub fn make(self, alloc: Global) -> Answer {
+        let Ok(tree) = make_tree(alloc) else {
+            return Answer::Refused;
+        };
+        match self.answer(alloc, &tree) {
+            Answer::Refused => Answer::after_refusal(self.answer(alloc, &tree) == Answer::Right),
+            answer => answer,
+        }
     }
 }

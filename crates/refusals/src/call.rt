@@ -1,0 +1,78 @@
+//! The calls, and what one can answer.
+
+use crate::tree_call::TreeCall;
+
+/// Which call is made.
+#[derive(Clone, Copy, Debug)]
+pub enum Call {
+    Tokens,
+    Sink,
+    Items,
+    Name,
+    Expression,
+    Instruction,
+    Directive,
+    Values,
+    Code,
+    LineAlone,
+    PayloadBytes,
+    InstructionText,
+    Rows,
+    SectionBytes,
+    Tree(TreeCall),
+    Edited,
+}
+
+/// The calls, by the names that the input gives them.
+pub const CALLS: [(&str, Call); 19] = [
+    ("tokens", Call::Tokens),
+    ("sink", Call::Sink),
+    ("items", Call::Items),
+    ("name", Call::Name),
+    ("expression", Call::Expression),
+    ("instruction", Call::Instruction),
+    ("directive", Call::Directive),
+    ("values", Call::Values),
+    ("code", Call::Code),
+    ("line_alone", Call::LineAlone),
+    ("payload_bytes", Call::PayloadBytes),
+    ("instruction_text", Call::InstructionText),
+    ("rows", Call::Rows),
+    ("section_bytes", Call::SectionBytes),
+    ("tree_insert", Call::Tree(TreeCall::Insert)),
+    ("tree_delete", Call::Tree(TreeCall::Delete)),
+    ("tree_replace", Call::Tree(TreeCall::Replace)),
+    ("tree_rewrite", Call::Tree(TreeCall::Rewrite)),
+    ("edited", Call::Edited),
+];
+
+/// What a call answered.
+#[derive(Clone, Copy, Debug, PartialEq, Eq)]
+pub enum Answer {
+    /// What it has to.
+    Right,
+    /// That there was no memory, and all was as before.
+    Refused,
+    /// Something else.
+    Wrong,
+}
+
+impl Answer {
+    /// That of a call that found memory.
+    pub fn of(is_right: bool) -> Answer {
+        if is_right {
+            Answer::Right
+        } else {
+            Answer::Wrong
+        }
+    }
+
+    /// That of a call that found none, all being as before, and that was made once more.
+    pub fn after_refusal(is_right: bool) -> Answer {
+        if is_right {
+            Answer::Refused
+        } else {
+            Answer::Wrong
+        }
+    }
+}
