@@ -2,11 +2,12 @@
 
 use rv_code::{Fields, Word, word_of};
 use rv_stmt::{
-    Body, Instruction, Instructions, MachineInstruction, expansion_of, high_part, instructions_of,
-    low_part, read_line, word_bits,
+    Body, Instruction, Instructions, MachineInstruction, Stmt, expansion_of, high_part,
+    instructions_of, low_part, read_line, word_bits,
 };
 use rv_text::Tally;
 use std::alloc::Global;
+use std::process::Abort;
 use std::test::Fail;
 
 // Lines with the value of their operand, as the displacement of an address or as a number of 32 bits with a sign, and the
@@ -50,26 +51,23 @@ lw a0, 4(a1) @ 4 = 0045a503, 4 bytes
 c.addi a0, 1 @ 1 = 0505, 2 bytes
 c.nop @ 0 = 0001, 2 bytes";
 
-fn push_word(alloc: Global, text: &mut String, machine: &MachineInstruction) -> Result<(), Fail> {
+fn word_text(alloc: Global, machine: &MachineInstruction) -> Result<String, Fail> {
     match word_of(machine.op, &machine.fields) {
-        Word::Full(number) => text.push_str(format!(in alloc; "{number:08x}")?.as_str())?,
-        Word::Half(number) => text.push_str(format!(in alloc; "{number:04x}")?.as_str())?,
+        Word::Full(number) => Ok(format!(in alloc; "{number:08x}")?),
+        Word::Half(number) => Ok(format!(in alloc; "{number:04x}")?),
     }
-    Ok(())
 }
 
 // The words in hexadecimal digits, with a space between two.
 fn words_of(alloc: Global, instructions: &Instructions) -> Result<String, Fail> {
-    let mut text = String::new(alloc);
     match instructions {
-        Instructions::One(only) => push_word(alloc, &mut text, only)?,
+        Instructions::One(only) => word_text(alloc, only),
         Instructions::Two(first, second) => {
-            push_word(alloc, &mut text, first)?;
-            text.push(' ')?;
-            push_word(alloc, &mut text, second)?;
+            let first = word_text(alloc, first)?;
+            let second = word_text(alloc, second)?;
+            Ok(format!(in alloc; "{first} {second}")?)
         }
     }
-    Ok(text)
 }
 
 // What the instruction stands for, with this value.
@@ -83,18 +81,17 @@ fn expanded(instruction: &Instruction, value: i32) -> Instructions {
     instructions_of(instruction, &fields)
 }
 
-// The words and their size of a line with a value.
-fn words_of_row(alloc: Global, row: &str) -> Result<String, Fail> {
-    let Some((line, value)) = row.split_once(" @ ") else {
-        return Err(Fail::new("a row without a value"));
-    };
+fn statement_of(alloc: Global, line: &str) -> Result<Stmt, Fail> {
     if line.len() > 1000 {
         return Err(Fail::new("a long line"));
     }
-    let stmt = read_line(alloc, line.as_bytes(), &mut Tally::new())?;
-    match &stmt.body {
+    Ok(read_line(alloc, line.as_bytes(), &mut Tally::new())?)
+}
+
+fn words_of_body(alloc: Global, body: &Body, value: i32) -> Result<String, Fail> {
+    match body {
         Body::Instr(instruction) | Body::Pseudo(instruction) => {
-            let instructions = expanded(instruction, value.parse::<i32>()?);
+            let instructions = expanded(instruction, value);
             let words = words_of(alloc, &instructions)?;
             let size = instructions.size();
             Ok(format!(in alloc; "{words}, {size} bytes")?)
@@ -103,53 +100,35 @@ fn words_of_row(alloc: Global, row: &str) -> Result<String, Fail> {
     }
 }
 
-#[test]
-fn lines_stand_for_words(rt: HostRuntime) -> Result<(), Fail> {
-    for row in WORDS.lines() {
-        let Some((given, wanted)) = row.split_once(" = ") else {
-            return Err(Fail::new("a row without words"));
-        };
-        let found = words_of_row(rt.alloc(), given)?;
-        assert_eq!(rt; found.as_str(), wanted, "at {given}");
-    }
-    Ok(())
+// The words and their size of a line with a value.
+fn words_of_row(alloc: Global, row: &str) -> Result<String, Fail> {
+    let Some((line, value)) = row.split_once(" @ ") else {
+        return Err(Fail::new("a row without a value"));
+    };
+    let stmt = statement_of(alloc, line)?;
+    words_of_body(alloc, &stmt.body, value.parse::<i32>()?)
 }
 
 // Lines with what they expand to and how many operands wait for a value: our own rules.
-const EXPANSIONS: &str = r" => Itself 0
-frob => Itself 0
-add a0, a0, a0 => Itself 0
-addi a0, a0, 1 => Itself 1
-csrrwi a0, 5, n => Itself 2
-j t => Itself 1
-lw a0, 4(a1) => Itself 1
-lw a0, t => AddressPair 1
-sw a0, t, a1 => AddressPair 1
-call t => AddressPair 1
-li a0, 1 => ConstantLoad 1";
+const EXPANSIONS: &str = r" = Itself 0
+frob = Itself 0
+add a0, a0, a0 = Itself 0
+addi a0, a0, 1 = Itself 1
+csrrwi a0, 5, n = Itself 2
+j t = Itself 1
+lw a0, 4(a1) = Itself 1
+lw a0, t = AddressPair 1
+sw a0, t, a1 = AddressPair 1
+call t = AddressPair 1
+li a0, 1 = ConstantLoad 1";
 
 // What the line expands to, and how many operands it has.
 fn expansion_of_row(alloc: Global, line: &str) -> Result<String, Fail> {
-    if line.len() > 1000 {
-        return Err(Fail::new("a long line"));
-    }
-    let stmt = read_line(alloc, line.as_bytes(), &mut Tally::new())?;
+    let stmt = statement_of(alloc, line)?;
     let operands = stmt.body.operands();
     let expansion = expansion_of(operands);
     let count = operands.len();
     Ok(format!(in alloc; "{expansion:?} {count}")?)
-}
-
-#[test]
-fn operands_decide_expansions(rt: HostRuntime) -> Result<(), Fail> {
-    for row in EXPANSIONS.lines() {
-        let Some((line, wanted)) = row.split_once(" => ") else {
-            return Err(Fail::new("a row without an expansion"));
-        };
-        let found = expansion_of_row(rt.alloc(), line)?;
-        assert_eq!(rt; found.as_str(), wanted, "at {line}");
-    }
-    Ok(())
 }
 
 // Values with their lowest 32 bits, and `%hi` and `%lo` as `llvm-mc` gives them for these bits.
@@ -170,14 +149,47 @@ fn parts_of_row(alloc: Global, row: &str) -> Result<String, Fail> {
     Ok(format!(in alloc; "{bits} {high} {low}")?)
 }
 
-#[test]
-fn parts_of_values(rt: HostRuntime) -> Result<(), Fail> {
-    for row in PARTS.lines() {
-        let Some((value, wanted)) = row.split_once(" = ") else {
-            return Err(Fail::new("a row without parts"));
+// What the rows of a table are about.
+#[derive(Clone, Copy)]
+enum Subject {
+    Words,
+    Expansion,
+    Parts,
+}
+
+fn found(alloc: Global, subject: Subject, given: &str) -> Result<String, Fail> {
+    match subject {
+        Subject::Words => words_of_row(alloc, given),
+        Subject::Expansion => expansion_of_row(alloc, given),
+        Subject::Parts => parts_of_row(alloc, given),
+    }
+}
+
+fn rows_hold<T: Abort>(rt: &T, alloc: Global, subject: Subject, table: &str) -> Result<(), Fail> {
+    for row in table.lines() {
+        let Some((given, wanted)) = row.split_once(" = ") else {
+            return Err(Fail::new("a row without what is wanted"));
         };
-        let found = parts_of_row(rt.alloc(), value)?;
-        assert_eq!(rt; found.as_str(), wanted, "at {value}");
+        assert_eq!(rt;
+            found(alloc, subject, given)?.as_str(),
+            wanted,
+            "at {given}"
+        );
     }
     Ok(())
+}
+
+#[test]
+fn lines_stand_for_words(rt: HostRuntime) -> Result<(), Fail> {
+    rows_hold(&rt, rt.alloc(), Subject::Words, WORDS)
+}
+
+#[test]
+fn operands_decide_expansions(rt: HostRuntime) -> Result<(), Fail> {
+    rows_hold(&rt, rt.alloc(), Subject::Expansion, EXPANSIONS)
+}
+
+#[test]
+fn parts_of_values(rt: HostRuntime) -> Result<(), Fail> {
+    rows_hold(&rt, rt.alloc(), Subject::Parts, PARTS)
 }

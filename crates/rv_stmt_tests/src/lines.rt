@@ -7,6 +7,22 @@ use std::alloc::Global;
 use std::process::Abort;
 use std::test::Fail;
 
+// The statement of a line as text, and the calls that were counted: lines read, values, encodings.
+fn statement_of(alloc: Global, line: &str) -> Result<(String, [u64; 3]), Fail> {
+    if line.len() > 1000 {
+        return Err(Fail::new("a long line"));
+    }
+    let mut tally = Tally::new();
+    let stmt = read_line(alloc, line.as_bytes(), &mut tally)?;
+    let text = text_of(alloc, &stmt)?;
+    let calls = [
+        tally.parsed_calls(),
+        tally.valued_calls(),
+        tally.encoded_calls(),
+    ];
+    Ok((text, calls))
+}
+
 // Each line has its statement, and each call counts one line that was read and nothing else. A row of the table is a
 // line and its statement.
 fn lines_are<T: Abort>(rt: &T, alloc: Global, table: &str) -> Result<(), Fail> {
@@ -14,14 +30,8 @@ fn lines_are<T: Abort>(rt: &T, alloc: Global, table: &str) -> Result<(), Fail> {
         let Some((line, wanted)) = row.split_once(" => ") else {
             return Err(Fail::new("a row without a statement"));
         };
-        assert!(rt; line.len() <= 1000);
-        let mut tally = Tally::new();
-        let stmt = read_line(alloc, line.as_bytes(), &mut tally)?;
-        let text = text_of(alloc, &stmt)?;
-        assert_eq!(rt; text.as_str(), wanted, "at {line}");
-        assert_eq!(rt; tally.parsed_calls(), 1, "at {line}");
-        assert_eq!(rt; tally.valued_calls(), 0, "at {line}");
-        assert_eq!(rt; tally.encoded_calls(), 0, "at {line}");
+        let (text, calls) = statement_of(alloc, line)?;
+        assert_eq!(rt; (text.as_str(), calls), (wanted, [1, 0, 0]), "at {line}");
     }
     Ok(())
 }
