@@ -585,28 +585,30 @@ const JUDGED: [Judged; 28] = [
 
 fn check_names<T: Abort>(rt: &T, row: &TableRow) {
     let name = row.1;
-    assert_eq!(rt; name_of(row.0), name);
-    assert_eq!(rt; op_by_name(name.as_bytes()), Some(row.0), "{name}");
+    let found = (name_of(row.0), op_by_name(name.as_bytes()));
+    assert_eq!(rt; found, (name, Some(row.0)), "{name}");
 }
 
 fn check_row<T: Abort>(rt: &T, expected: &TableRow) {
-    let found = row(expected.0);
-    assert_eq!(rt; found.name, expected.1);
-    assert_eq!(rt; found.shape, expected.2, "{}", expected.1);
-    assert_eq!(rt; found.fixed, expected.3, "{}", expected.1);
-    assert_eq!(rt; found.mask, expected.4, "{}", expected.1);
+    let (op, name, shape, fixed, mask) = *expected;
+    let found = row(op);
+    let columns = (found.name, found.shape, found.fixed, found.mask);
+    assert_eq!(rt; columns, (name, shape, fixed, mask), "{name}");
 }
 
 fn check_columns<T: Abort>(rt: &T, expected: &TableRow) {
-    assert_eq!(rt; shape(expected.0), expected.2, "{}", expected.1);
-    assert_eq!(rt; fixed(expected.0), expected.3, "{}", expected.1);
-    assert_eq!(rt; mask(expected.0), expected.4, "{}", expected.1);
+    let op = expected.0;
+    let columns = (shape(op), fixed(op), mask(op));
+    assert_eq!(rt;
+        columns,
+        (expected.2, expected.3, expected.4),
+        "{}",
+        expected.1
+    );
 }
 
 fn check_operation<T: Abort>(rt: &T, row: &TableRow, operation: &Operation) {
-    assert_eq!(rt; row.1, operation.1);
-    assert_eq!(rt; row.0, operation.0, "{}", row.1);
-    assert_eq!(rt; row.2, operation.2, "{}", row.1);
+    assert_eq!(rt; (row.0, row.1, row.2), *operation, "{}", row.1);
 }
 
 fn check_operations<T: Abort>(rt: &T, rows: &[TableRow], operations: &[Operation]) {
@@ -624,20 +626,33 @@ fn operations(rt: HostRuntime) {
     check_operations(&rt, &TABLE, &OPERATIONS);
 }
 
+/// Names in either case, and names of no operation.
+const OTHER_NAMES: [(&str, Option<Op>); 13] = [
+    ("ADDI", Some(Op::Addi)),
+    ("C.AddI16sP", Some(Op::CAddi16sp)),
+    ("Fence.TSO", Some(Op::FenceTso)),
+    ("nop", None),
+    ("", None),
+    ("ad", None),
+    ("addd", None),
+    ("add ", None),
+    ("add.", None),
+    ("subi", None),
+    ("c.fence", None),
+    ("c.", None),
+    ("fence.i", None),
+];
+
+fn check_operation_names<T: Abort>(rt: &T, rows: &[(&str, Option<Op>)]) {
+    for row in rows {
+        let (name, op) = *row;
+        assert_eq!(rt; op_by_name(name.as_bytes()), op, "{name}");
+    }
+}
+
 #[test]
 fn operation_names(rt: HostRuntime) {
-    for (name, op) in [
-        ("ADDI", Op::Addi),
-        ("C.AddI16sP", Op::CAddi16sp),
-        ("Fence.TSO", Op::FenceTso),
-    ] {
-        assert_eq!(rt; op_by_name(name.as_bytes()), Some(op), "{name}");
-    }
-    for name in [
-        "nop", "", "ad", "addd", "add ", "add.", "subi", "c.fence", "c.", "fence.i",
-    ] {
-        assert!(rt; op_by_name(name.as_bytes()).is_none(), "{name}");
-    }
+    check_operation_names(&rt, &OTHER_NAMES);
 }
 
 /// A slice of a field at its place in the encoding.
@@ -652,19 +667,28 @@ fn placed(slice: &FieldSlice, rd: u32, rs1: u32, rs2: u32, value: i32) -> u32 {
     bits.wrapping_shl(slice.word_bit)
 }
 
+/// The encoding of an operation with these fields.
+fn filled(op: Op, rd: u32, rs1: u32, rs2: u32, value: i32) -> u32 {
+    let mut filled = fixed(op);
+    for slice in slices(op) {
+        filled |= placed(slice, rd, rs1, rs2, value);
+    }
+    filled
+}
+
+fn check_word<T: Abort>(rt: &T, encoded: &Encoded) {
+    let (name, rd, rs1, rs2, value, word) = *encoded;
+    let op = op_by_name(name.as_bytes()).expect(rt, "an operation");
+    let found = (filled(op, rd, rs1, rs2, value), word & mask(op));
+    assert_eq!(rt; found, (word, fixed(op)), "{name} {value}");
+    let fault = limits(op).fault(i64::from(value));
+    let is_half = name.starts_with("c.");
+    assert_eq!(rt; (is_full(op), fault), (!is_half, None), "{name} {value}");
+}
+
 fn check_words<T: Abort>(rt: &T, words: &[Encoded]) {
     for encoded in words {
-        let (name, rd, rs1, rs2, value, word) = *encoded;
-        let op = op_by_name(name.as_bytes()).expect(rt, "an operation");
-        let mut filled = fixed(op);
-        for slice in slices(op) {
-            filled |= placed(slice, rd, rs1, rs2, value);
-        }
-        assert_eq!(rt; filled, word, "{name} {value}");
-        assert_eq!(rt; word & mask(op), fixed(op), "{name} {value}");
-        assert_eq!(rt; is_full(op), !name.starts_with("c."), "{name}");
-        let fault = limits(op).fault(i64::from(value));
-        assert!(rt; fault.is_none(), "{name} {value}");
+        check_word(rt, encoded);
     }
 }
 
@@ -680,118 +704,172 @@ fn encodings(rt: HostRuntime) {
     check_words(&rt, &QUADRANT_2_WORDS);
 }
 
+fn check_taken<T: Abort>(rt: &T, rows: &[Taken]) {
+    for taken in rows {
+        let op = taken.op;
+        let found = (classes(op), limits(op), sign(op));
+        let wanted = (taken.registers, taken.limits, taken.sign);
+        assert_eq!(rt; found, wanted, "{op:?}");
+    }
+}
+
 #[test]
 fn taken_operands(rt: HostRuntime) {
-    for taken in &TAKEN {
-        let op = taken.op;
-        assert_eq!(rt; classes(op), taken.registers, "{op:?}");
-        assert_eq!(rt; limits(op), taken.limits, "{op:?}");
-        assert_eq!(rt; sign(op), taken.sign, "{op:?}");
+    check_taken(&rt, &TAKEN);
+}
+
+fn check_judged<T: Abort>(rt: &T, rows: &[Judged]) {
+    for row in rows {
+        let (name, value, fault) = *row;
+        let op = op_by_name(name.as_bytes()).expect(rt, "an operation");
+        assert_eq!(rt; limits(op).fault(value), fault, "{name} {value}");
     }
 }
 
 #[test]
 fn faults(rt: HostRuntime) {
-    for (name, value, fault) in JUDGED {
-        let op = op_by_name(name.as_bytes()).expect(&rt, "an operation");
-        assert_eq!(rt; limits(op).fault(value), fault, "{name} {value}");
-    }
+    check_judged(&rt, &JUDGED);
 }
 
-fn check_register<T: Abort>(rt: &T, name: &str, register: Reg) {
-    assert_eq!(rt; reg_by_name(name.as_bytes()), Some(register), "{name}");
-}
-
-fn check_registers<T: Abort>(rt: &T, number: u8, names: &[&str; 3]) {
+fn check_register<T: Abort>(rt: &T, number: u8, names: &[&str; 3]) {
     let register = Reg::new(number).expect(rt, "a register");
-    assert_eq!(rt; register.number(), number);
-    assert_eq!(rt; reg_name(register), names[0]);
-    check_register(rt, names[0], register);
-    check_register(rt, names[1], register);
-    check_register(rt, names[2], register);
+    let name = names[0];
+    assert_eq!(rt; (register.number(), reg_name(register)), (number, name));
+    let found = [
+        reg_by_name(name.as_bytes()),
+        reg_by_name(names[1].as_bytes()),
+        reg_by_name(names[2].as_bytes()),
+    ];
+    assert_eq!(rt;
+        found,
+        [Some(register), Some(register), Some(register)],
+        "{name}"
+    );
+}
+
+fn check_registers<T: Abort>(rt: &T, rows: &[[&str; 3]]) {
+    for (number, names) in (0..32).zip(rows) {
+        check_register(rt, number, names);
+    }
 }
 
 #[test]
 fn register_names(rt: HostRuntime) {
-    for (number, names) in (0..32).zip(&REGISTER_NAMES) {
-        check_registers(&rt, number, names);
+    check_registers(&rt, &REGISTER_NAMES);
+    let found = (Reg::new(0), Reg::new(32), Reg::new(255));
+    assert_eq!(rt; found, (Some(Reg::ZERO), None, None));
+}
+
+/// Other names of registers with their numbers, and names of no register.
+const OTHER_REGISTER_NAMES: [(&str, Option<u8>); 15] = [
+    ("fp", Some(8)),
+    ("FP", Some(8)),
+    ("A0", Some(10)),
+    ("Sp", Some(2)),
+    ("sP", Some(2)),
+    ("ZERO", Some(0)),
+    ("x32", None),
+    ("", None),
+    ("a8", None),
+    ("x00", None),
+    ("x", None),
+    ("s12", None),
+    ("t7", None),
+    ("a0 ", None),
+    ("r1", None),
+];
+
+fn register_number(name: &str) -> Option<u8> {
+    match reg_by_name(name.as_bytes()) {
+        Some(register) => Some(register.number()),
+        None => None,
     }
-    assert_eq!(rt; Some(Reg::ZERO), Reg::new(0));
-    for number in [32, 255] {
-        assert!(rt; Reg::new(number).is_none(), "{number}");
+}
+
+fn check_register_names<T: Abort>(rt: &T, rows: &[(&str, Option<u8>)]) {
+    for row in rows {
+        let (name, number) = *row;
+        assert_eq!(rt; register_number(name), number, "{name}");
     }
 }
 
 #[test]
 fn other_register_names(rt: HostRuntime) {
-    for (name, number) in [
-        ("fp", 8),
-        ("FP", 8),
-        ("A0", 10),
-        ("Sp", 2),
-        ("sP", 2),
-        ("ZERO", 0),
-    ] {
-        assert_eq!(rt; reg_by_name(name.as_bytes()), Reg::new(number), "{name}");
-    }
-    for name in ["x32", "", "a8", "x00", "x", "s12", "t7", "a0 ", "r1"] {
-        assert!(rt; reg_by_name(name.as_bytes()).is_none(), "{name}");
-    }
+    check_register_names(&rt, &OTHER_REGISTER_NAMES);
 }
 
 fn check_csrs<T: Abort>(rt: &T, csrs: &[(&str, u16)]) {
     for register in csrs {
         let (name, number) = *register;
         let csr = Csr::new(number).expect(rt, "a control and status register");
-        assert_eq!(rt; csr.number(), number);
-        assert_eq!(rt; csr_by_name(name.as_bytes()), Some(csr), "{name}");
-        assert_eq!(rt; csr_name(csr), Some(name));
+        let found = (csr.number(), csr_by_name(name.as_bytes()), csr_name(csr));
+        assert_eq!(rt; found, (number, Some(csr), Some(name)), "{name}");
+    }
+}
+
+/// Names in either case with their numbers, and names of no control and status register.
+const OTHER_CSR_NAMES: [(&str, Option<u16>); 9] = [
+    ("MStatus", Some(0x300)),
+    ("HPMCOUNTER31H", Some(0xc9f)),
+    ("satp", None),
+    ("", None),
+    ("hpmcounter2", None),
+    ("hpmcounter32", None),
+    ("mstatush", None),
+    ("cycle ", None),
+    ("0xc00", None),
+];
+
+fn csr_number(name: &str) -> Option<u16> {
+    match csr_by_name(name.as_bytes()) {
+        Some(csr) => Some(csr.number()),
+        None => None,
+    }
+}
+
+fn check_csr_names<T: Abort>(rt: &T, rows: &[(&str, Option<u16>)]) {
+    for row in rows {
+        let (name, number) = *row;
+        assert_eq!(rt; csr_number(name), number, "{name}");
     }
 }
 
 #[test]
 fn csr_names(rt: HostRuntime) {
     check_csrs(&rt, &CSR_NAMES);
-    assert_eq!(rt; csr_by_name(b"MStatus"), Csr::new(0x300));
-    assert_eq!(rt; csr_by_name(b"HPMCOUNTER31H"), Csr::new(0xc9f));
-    for name in [
-        "satp",
-        "",
-        "hpmcounter2",
-        "hpmcounter32",
-        "mstatush",
-        "cycle ",
-        "0xc00",
-    ] {
-        assert!(rt; csr_by_name(name.as_bytes()).is_none(), "{name}");
-    }
-    assert!(rt; Csr::new(4096).is_none());
-    assert!(rt; Csr::new(u16::MAX).is_none());
+    check_csr_names(&rt, &OTHER_CSR_NAMES);
+    assert_eq!(rt; (Csr::new(4096), Csr::new(u16::MAX)), (None, None));
+}
+
+fn has_name<T: Abort>(rt: &T, number: u16) -> bool {
+    csr_name(Csr::new(number).expect(rt, "twelve bits")).is_some()
 }
 
 #[test]
 fn named_csrs(rt: HostRuntime) {
     let mut named: usize = 0;
     for number in 0..4096 {
-        let csr = Csr::new(number).expect(&rt, "twelve bits");
-        if csr_name(csr).is_some() {
-            named = named.wrapping_add(1);
-        }
+        named = named.wrapping_add(usize::from(has_name(&rt, number)));
     }
-    assert_eq!(rt; named, CSR_NAMES.len());
-    let custom = Csr::new(0x7c0).expect(&rt, "twelve bits");
-    assert!(rt; csr_name(custom).is_none());
+    assert_eq!(rt; (named, has_name(&rt, 0x7c0)), (CSR_NAMES.len(), false));
 }
+
+const MODIFIER_NAMES: [(u16, &str); 4] = [(7, "hi"), (8, "lo"), (9, "LO"), (10, "pcrel_lo")];
 
 #[test]
 fn names_in_either_case(rt: HostRuntime) {
-    assert!(rt; is_name("mstatus", b"MStatus"));
-    assert!(rt; !is_name("mstatus", b"mstatush"));
-    assert!(rt; !is_name("mstatus", b"mstatu"));
-    assert!(rt; !is_name("", b" "));
-    let names = [(7u16, "hi"), (8, "lo"), (9, "LO"), (10, "pcrel_lo")];
-    assert_eq!(rt; first_named(&names, b"lo"), Some(8));
-    assert_eq!(rt; first_named(&names, b"Pcrel_Lo"), Some(10));
-    assert_eq!(rt; first_named(&names, b"l"), None);
-    assert_eq!(rt; first_named(&names, b""), None);
+    let are_names = [
+        is_name("mstatus", b"MStatus"),
+        is_name("mstatus", b"mstatush"),
+        is_name("mstatus", b"mstatu"),
+        is_name("", b" "),
+    ];
+    assert_eq!(rt; are_names, [true, false, false, false]);
+    let found = [
+        first_named(&MODIFIER_NAMES, b"lo"),
+        first_named(&MODIFIER_NAMES, b"Pcrel_Lo"),
+        first_named(&MODIFIER_NAMES, b"l"),
+        first_named(&MODIFIER_NAMES, b""),
+    ];
+    assert_eq!(rt; found, [Some(8), Some(10), None, None]);
 }
