@@ -2,6 +2,8 @@
 
 use crate::names::read_from;
 use rv_expr::{Direction, LabelReference, Node, label_number};
+use std::alloc::Global;
+use std::process::Abort;
 use std::test::Fail;
 
 // What an expression is, where it can be a label.
@@ -38,46 +40,70 @@ fn is_label(label: &Option<LabelReference>, want: Label, text: &[u8]) -> bool {
     }
 }
 
-#[test]
-fn takes_labels(rt: HostRuntime) -> Result<(), Fail> {
-    for (text, want) in [
-        ("a0", Label::Symbol),
-        ("..", Label::Symbol),
-        (".4", Label::Symbol),
-        (".L1", Label::Symbol),
-        (".Lhigh", Label::Symbol),
-        ("$x_1", Label::Symbol),
-        ("addi", Label::Symbol),
-        ("Mstatus", Label::Symbol),
-        ("0b", Label::Local(0, Direction::Back)),
-        ("1f", Label::Local(1, Direction::Forward)),
-        ("7f", Label::Local(7, Direction::Forward)),
-        ("9999b", Label::Local(9999, Direction::Back)),
-        (".", Label::Here),
-        ("1", Label::No),
-        ("-x", Label::No),
-        ("x + 0", Label::No),
-    ] {
-        assert!(rt; text.len() <= 1000);
-        let expression = read_from(rt.alloc(), text.as_bytes(), 0)??;
-        let root = is_node(&expression.node, want, text.as_bytes());
-        assert!(rt; root, "root of {text}");
-        let label = is_label(&expression.into_label(), want, text.as_bytes());
-        assert!(rt; label, "label of {text}");
+const LABELS: [(&str, Label); 16] = [
+    ("a0", Label::Symbol),
+    ("..", Label::Symbol),
+    (".4", Label::Symbol),
+    (".L1", Label::Symbol),
+    (".Lhigh", Label::Symbol),
+    ("$x_1", Label::Symbol),
+    ("addi", Label::Symbol),
+    ("Mstatus", Label::Symbol),
+    ("0b", Label::Local(0, Direction::Back)),
+    ("1f", Label::Local(1, Direction::Forward)),
+    ("7f", Label::Local(7, Direction::Forward)),
+    ("9999b", Label::Local(9999, Direction::Back)),
+    (".", Label::Here),
+    ("1", Label::No),
+    ("-x", Label::No),
+    ("x + 0", Label::No),
+];
+
+// Whether the root of the expression is as expected, and whether its label is.
+fn is_read(alloc: Global, text: &str, want: Label) -> Result<(bool, bool), Fail> {
+    if text.len() > 1000 {
+        return Err(Fail::new("a line of more than 1000 bytes"));
+    }
+    let expression = read_from(alloc, text.as_bytes(), 0)??;
+    let root = is_node(&expression.node, want, text.as_bytes());
+    let label = is_label(&expression.into_label(), want, text.as_bytes());
+    Ok((root, label))
+}
+
+fn are_labels<T: Abort>(rt: &T, alloc: Global, rows: &[(&str, Label)]) -> Result<(), Fail> {
+    for row in rows {
+        let (text, want) = *row;
+        assert_eq!(rt;
+            is_read(alloc, text, want)?,
+            (true, true),
+            "root and label of {text}"
+        );
     }
     Ok(())
 }
 
 #[test]
-fn numbers_labels(rt: HostRuntime) {
-    for (text, number) in [
-        ("0", Some(0)),
-        ("10", Some(10)),
-        ("9999", Some(9999)),
-        ("65536", None),
-        ("1b", None),
-        ("", None),
-    ] {
+fn takes_labels(rt: HostRuntime) -> Result<(), Fail> {
+    are_labels(&rt, rt.alloc(), &LABELS)
+}
+
+const NUMBERS: [(&str, Option<u16>); 6] = [
+    ("0", Some(0)),
+    ("10", Some(10)),
+    ("9999", Some(9999)),
+    ("65536", None),
+    ("1b", None),
+    ("", None),
+];
+
+fn are_numbers<T: Abort>(rt: &T, rows: &[(&str, Option<u16>)]) {
+    for row in rows {
+        let (text, number) = *row;
         assert_eq!(rt; label_number(text.as_bytes()), number, "at {text}");
     }
+}
+
+#[test]
+fn numbers_labels(rt: HostRuntime) {
+    are_numbers(&rt, &NUMBERS);
 }

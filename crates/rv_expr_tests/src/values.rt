@@ -5,6 +5,7 @@ use crate::outside_values::VALUES;
 use rv_expr::{ReadFault, ValueFault, value};
 use rv_text::{FaultNumber, Tally};
 use std::alloc::Global;
+use std::process::Abort;
 use std::test::Fail;
 
 // Worked expressions on a line at the address 4096 without names: a text on each line, and after ` = ` its value, or
@@ -103,22 +104,28 @@ fn wanted_calls(want: Result<i64, Refusal>) -> (u64, u64, u64) {
     }
 }
 
-#[test]
-fn computes_rows(rt: HostRuntime) -> Result<(), Fail> {
-    assert_eq!(rt; VALUES.lines().count(), 423);
-    assert_eq!(rt; WORKED.lines().count(), 42);
-    for (rows, here) in [(VALUES, 0), (WORKED, 4096)] {
-        for row in rows.lines() {
-            let Some((text, want)) = row.rsplit_once(" = ") else {
-                return Err(Fail::new("a row without a value"));
-            };
-            let want = wanted(want)?;
-            let found = computed(rt.alloc(), text.as_bytes(), 0, here)?;
-            assert_eq!(rt; found.result, want, "at {text}");
-            assert_eq!(rt; found.calls, wanted_calls(want), "at {text}");
-        }
+// Each row of the table has its value and its calls on a line at the address.
+fn rows_have_values<T: Abort>(rt: &T, alloc: Global, rows: &str, here: u32) -> Result<(), Fail> {
+    for row in rows.lines() {
+        let Some((text, want)) = row.rsplit_once(" = ") else {
+            return Err(Fail::new("a row without a value"));
+        };
+        let want = wanted(want)?;
+        let found = computed(alloc, text.as_bytes(), 0, here)?;
+        assert_eq!(rt;
+            (found.result, found.calls),
+            (want, wanted_calls(want)),
+            "at {text}"
+        );
     }
     Ok(())
+}
+
+#[test]
+fn computes_rows(rt: HostRuntime) -> Result<(), Fail> {
+    assert_eq!(rt; (VALUES.lines().count(), WORKED.lines().count()), (423, 42));
+    rows_have_values(&rt, rt.alloc(), VALUES, 0)?;
+    rows_have_values(&rt, rt.alloc(), WORKED, 4096)
 }
 
 // The prefix, and so many times the text, and a 1.
@@ -131,24 +138,39 @@ fn repeated(alloc: Global, prefix: &str, text: &str, times: usize) -> Result<Vec
     Ok(line)
 }
 
-// The branch targets at the ends of their range at the address 65536, and the longest lines.
+// Lines at the address 65536, the token to begin at, and the value: branch targets at the ends of their range.
+const TARGETS: [(&[u8], usize, i64); 3] = [
+    (b"beq a0, a1, .+4094", 5, 69630),
+    (b"beq a0, a1, .-4096", 5, 61440),
+    (b"beq a0, a1, .+4096", 5, 69632),
+];
+
+fn lines_have_values<T: Abort>(
+    rt: &T,
+    alloc: Global,
+    rows: &[(&[u8], usize, i64)],
+) -> Result<(), Fail> {
+    for row in rows {
+        let (line, from, want) = *row;
+        let found = computed(alloc, line, from, 65536)?;
+        let wanted = (Ok(want), (0, 1, 0));
+        assert_eq!(rt; (found.result, found.calls), wanted, "from token {from}");
+    }
+    Ok(())
+}
+
 #[test]
-fn computes_operands_of_lines(rt: HostRuntime) -> Result<(), Fail> {
+fn computes_targets(rt: HostRuntime) -> Result<(), Fail> {
+    lines_have_values(&rt, rt.alloc(), &TARGETS)
+}
+
+#[test]
+fn computes_longest_lines(rt: HostRuntime) -> Result<(), Fail> {
     let signs = repeated(rt.alloc(), ".word ", "-", 993)?;
     assert_eq!(rt; signs.len(), 1000);
     let sum = repeated(rt.alloc(), "", "1+", 499)?;
-    for (line, from, want) in [
-        (b"beq a0, a1, .+4094".as_slice(), 5, 69630),
-        (b"beq a0, a1, .-4096", 5, 61440),
-        (b"beq a0, a1, .+4096", 5, 69632),
-        (signs.as_slice(), 1, -1),
-        (sum.as_slice(), 0, 500),
-    ] {
-        let found = computed(rt.alloc(), line, from, 65536)?;
-        assert_eq!(rt; found.result, Ok(want), "from token {from}");
-        assert_eq!(rt; found.calls, (0, 1, 0), "from token {from}");
-    }
-    Ok(())
+    let rows = [(signs.as_slice(), 1, -1), (sum.as_slice(), 0, 500)];
+    lines_have_values(&rt, rt.alloc(), &rows)
 }
 
 #[test]
@@ -158,36 +180,43 @@ fn asks_for_names(rt: HostRuntime) -> Result<(), Fail> {
         symbol: Ok(30),
         local: Ok(-4),
     };
-    let mut tally = Tally::new();
-    assert_eq!(rt; value(&expression, &given, 10, &mut tally), Ok(-80));
     let later = Given {
         symbol: Err(ValueFault::LaterEqu),
         local: Err(ValueFault::Undefined),
     };
-    let result = value(&expression, &later, 10, &mut tally);
-    assert_eq!(rt; result, Err(ValueFault::LaterEqu));
-    assert_eq!(rt; tally.valued_calls(), 2);
+    let mut tally = Tally::new();
+    let first = value(&expression, &given, 10, &mut tally);
+    let second = value(&expression, &later, 10, &mut tally);
+    let wanted = (Ok(-80), Err(ValueFault::LaterEqu), 2);
+    assert_eq!(rt; (first, second, tally.valued_calls()), wanted);
     Ok(())
+}
+
+// A fault of a value, the fault of a line that it is, and its number.
+const FAULTS: [(ValueFault, FaultNumber, u8); 6] = [
+    (ValueFault::NotConstant, FaultNumber::NotConstant, 11),
+    (ValueFault::Undefined, FaultNumber::Undefined, 12),
+    (ValueFault::LaterEqu, FaultNumber::LaterEqu, 13),
+    (ValueFault::FaultyEqu, FaultNumber::FaultyEqu, 14),
+    (ValueFault::Arithmetic, FaultNumber::Arithmetic, 15),
+    (ValueFault::NoPartner, FaultNumber::NoPartner, 18),
+];
+
+fn are_faults<T: Abort>(rt: &T, rows: &[(ValueFault, FaultNumber, u8)]) {
+    for row in rows {
+        let (fault, line_fault, want) = *row;
+        let found = fault.line_fault();
+        assert_eq!(rt; (found, found.number()), (line_fault, want));
+    }
 }
 
 #[test]
 fn numbers_faults(rt: HostRuntime) {
-    for (fault, want) in [
-        (ReadFault::Deep, 1),
-        (ReadFault::Operand, 2),
-        (ReadFault::Memory, 3),
-    ] {
-        assert_eq!(rt; fault.number(), want);
-    }
-    for (fault, line_fault, want) in [
-        (ValueFault::NotConstant, FaultNumber::NotConstant, 11),
-        (ValueFault::Undefined, FaultNumber::Undefined, 12),
-        (ValueFault::LaterEqu, FaultNumber::LaterEqu, 13),
-        (ValueFault::FaultyEqu, FaultNumber::FaultyEqu, 14),
-        (ValueFault::Arithmetic, FaultNumber::Arithmetic, 15),
-        (ValueFault::NoPartner, FaultNumber::NoPartner, 18),
-    ] {
-        assert_eq!(rt; fault.line_fault(), line_fault, "at {want}");
-        assert_eq!(rt; fault.line_fault().number(), want);
-    }
+    let numbers = [
+        ReadFault::Deep.number(),
+        ReadFault::Operand.number(),
+        ReadFault::Memory.number(),
+    ];
+    assert_eq!(rt; numbers, [1, 2, 3]);
+    are_faults(&rt, &FAULTS);
 }
