@@ -3,6 +3,7 @@
 use rv_code::{Ins, Word, decode16, decode32, encode};
 use rv_ops::name_of;
 use std::alloc::{AllocError, Global};
+use std::process::Abort;
 use std::test::Fail;
 
 /// FNV-1a, of 64 bits.
@@ -24,6 +25,38 @@ fn digest_instruction(alloc: Global, from: u64, ins: &Ins) -> Result<u64, AllocE
     Ok(digest(from, line.as_bytes()))
 }
 
+/// How many words decode, and the digest of their lines.
+#[derive(Clone, Copy)]
+struct Sum {
+    count: u32,
+    hash: u64,
+}
+
+/// No words yet.
+const NO_WORDS: Sum = Sum {
+    count: 0,
+    hash: 0xcbf2_9ce4_8422_2325,
+};
+
+/// The sum goes on with a word and its bytes, if it decodes.
+fn add_word<T: Abort>(
+    rt: &T,
+    alloc: Global,
+    sum: Sum,
+    word: Word,
+    bytes: &[u8],
+    decoded: Option<Ins>,
+) -> Result<Sum, AllocError> {
+    let Some(ins) = decoded else {
+        return Ok(sum);
+    };
+    assert_eq!(rt; encode(&ins), word);
+    Ok(Sum {
+        count: sum.count.wrapping_add(1),
+        hash: digest_instruction(alloc, digest(sum.hash, bytes), &ins)?,
+    })
+}
+
 /// How many half words decode, and the digest of their lines, are those of two disassemblers, which agree, over
 /// all 65,536 half words: LLVM 14.0.6 (`llvm-mc -disassemble -triple=riscv32 -mattr=+c -riscv-no-aliases`) and GNU
 /// binutils 2.40 (`objdump -m riscv:rv32 -M no-aliases`). Left out of theirs is what the standard keeps for hints
@@ -31,18 +64,12 @@ fn digest_instruction(alloc: Global, from: u64, ins: &Ins) -> Result<u64, AllocE
 /// 31), the illegal word 0, and words of floating point.
 #[test]
 fn every_half_word(rt: HostRuntime) -> Result<(), Fail> {
-    let mut hash = 0xcbf2_9ce4_8422_2325;
-    let mut count: u32 = 0;
-    for word in 0..=u16::MAX {
-        if let Some(ins) = decode16(word) {
-            assert_eq!(rt; encode(&ins), Word::Half(word));
-            hash = digest(hash, &word.to_le_bytes());
-            hash = digest_instruction(rt.alloc(), hash, &ins)?;
-            count = count.wrapping_add(1);
-        }
+    let mut sum = NO_WORDS;
+    for number in 0..=u16::MAX {
+        let (word, bytes) = (Word::Half(number), number.to_le_bytes());
+        sum = add_word(&rt, rt.alloc(), sum, word, &bytes, decode16(number))?;
     }
-    assert_eq!(rt; count, 28461);
-    assert_eq!(rt; hash, 0x39d9_fa5c_33fa_56a3);
+    assert_eq!(rt; (sum.count, sum.hash), (28461, 0x39d9_fa5c_33fa_56a3));
     Ok(())
 }
 
@@ -68,20 +95,14 @@ fn scattered_word(count: u32, number: u32) -> u32 {
 /// which RV32I reserves (section 2.4), `fence.i` and the privileged instructions.
 #[test]
 fn scattered_full_words(rt: HostRuntime) -> Result<(), Fail> {
-    let mut hash = 0xcbf2_9ce4_8422_2325;
-    let mut decoded: u32 = 0;
+    let mut sum = NO_WORDS;
     let mut state: u32 = 1;
     for count in 0..48000 {
         state = state.wrapping_mul(1664525).wrapping_add(1013904223);
-        let word = scattered_word(count, state ^ (state >> 16));
-        if let Some(ins) = decode32(word) {
-            assert_eq!(rt; encode(&ins), Word::Full(word));
-            hash = digest(hash, &word.to_le_bytes());
-            hash = digest_instruction(rt.alloc(), hash, &ins)?;
-            decoded = decoded.wrapping_add(1);
-        }
+        let number = scattered_word(count, state ^ (state >> 16));
+        let (word, bytes) = (Word::Full(number), number.to_le_bytes());
+        sum = add_word(&rt, rt.alloc(), sum, word, &bytes, decode32(number))?;
     }
-    assert_eq!(rt; decoded, 28061);
-    assert_eq!(rt; hash, 0xe69e_682e_a889_cb7a);
+    assert_eq!(rt; (sum.count, sum.hash), (28061, 0xe69e_682e_a889_cb7a));
     Ok(())
 }

@@ -34,10 +34,8 @@ fn decode(word: Word) -> Option<Ins> {
     }
 }
 
-/// Each way to the instruction, and from it to its word and back.
-fn check_word<T: Abort>(rt: &T, name: &str, fields: Fields, word: Word) {
-    let op = operation(rt, name);
-    let ins = Ins::try_new(op, fields).expect(rt, "an instruction");
+/// Whether the constructor of the operation's shape, where there is one, makes this instruction.
+fn is_made(ins: Ins, op: Op, fields: Fields) -> bool {
     let Fields {
         rd,
         rs1,
@@ -45,19 +43,22 @@ fn check_word<T: Abort>(rt: &T, name: &str, fields: Fields, word: Word) {
         value,
     } = fields;
     match shape(op) {
-        Shape::Register => assert_eq!(rt; Ins::register(op, rd, rs1, rs2), ins, "{name} {value}"),
-        Shape::Immediate => {
-            let made = Ins::immediate(op, rd, rs1, i64::from(value));
-            assert_eq!(rt; made, Some(ins), "{name} {value}");
-        }
-        _ => {}
+        Shape::Register => Ins::register(op, rd, rs1, rs2) == ins,
+        Shape::Immediate => Ins::immediate(op, rd, rs1, i64::from(value)) == Some(ins),
+        _ => true,
     }
-    assert_eq!(rt; encode(&ins), word, "{name} {value}");
-    assert_eq!(rt; word_of(op, &fields), word, "{name} {value}");
+}
+
+/// Each way to the instruction, and from it to its word and back.
+fn check_word<T: Abort>(rt: &T, name: &str, fields: Fields, word: Word) {
+    let op = operation(rt, name);
+    let value = fields.value;
+    let ins = Ins::try_new(op, fields).expect(rt, "an instruction");
+    let found = (is_made(ins, op, fields), encode(&ins), word_of(op, &fields));
+    assert_eq!(rt; found, (true, word, word), "{name} {value}");
     let decoded = decode(word).expect(rt, "an instruction");
-    assert_eq!(rt; decoded, ins, "{name} {value}");
-    assert_eq!(rt; name_of(decoded.op()), name, "{value}");
-    assert_eq!(rt; *decoded.fields(), fields, "{name} {value}");
+    let found = (decoded, name_of(decoded.op()), *decoded.fields());
+    assert_eq!(rt; found, (ins, name, fields), "{name} {value}");
 }
 
 fn check_words<T: Abort>(rt: &T, rows: &[Row]) {
@@ -102,87 +103,112 @@ fn operands_not_taken(rt: HostRuntime) {
     check_not_taken(&rt, &NOT_TAKEN);
 }
 
-fn check_immediates<T: Abort>(rt: &T, table: &[TableRow], register: Reg) {
-    for entry in table {
-        let (op, name) = (entry.0, entry.1);
-        match shape(op) {
-            Shape::Immediate => {
-                for value in [-2049, 2048, 1 << 32, i64::MIN, i64::MAX] {
-                    let made = Ins::immediate(op, register, register, value);
-                    assert!(rt; made.is_none(), "{name} {value}");
-                }
-            }
-            _ => {}
-        }
+/// Whether an operation that takes a value of twelve bits takes this value.
+fn takes(op: Op, register: Reg, value: i64) -> bool {
+    match shape(op) {
+        Shape::Immediate => Ins::immediate(op, register, register, value).is_some(),
+        _ => false,
     }
 }
 
-/// A value that twelve bits do not hold, of 32 bits and of 64.
+/// Values that twelve bits do not hold, of 32 bits and of 64.
+const TOO_LONG: [i64; 5] = [-2049, 2048, 1 << 32, i64::MIN, i64::MAX];
+
+fn check_values<T: Abort>(rt: &T, entry: &TableRow, register: Reg, values: &[i64]) {
+    for value in values {
+        assert!(rt; !takes(entry.0, register, *value), "{} {value}", entry.1);
+    }
+}
+
+fn check_immediates<T: Abort>(rt: &T, table: &[TableRow], register: Reg, values: &[i64]) {
+    for entry in table {
+        check_values(rt, entry, register, values);
+    }
+}
+
 #[test]
 fn immediates_not_taken(rt: HostRuntime) {
-    check_immediates(&rt, &TABLE, register(&rt, 10));
+    check_immediates(&rt, &TABLE, register(&rt, 10), &TOO_LONG);
 }
 
 /// What the standard reserves and keeps for hints, words whose low bits say the other length, and the halves of
 /// longer words.
-#[test]
-fn words_of_no_instruction(rt: HostRuntime) {
-    for row in [
-        ("fence with empty sets", Word::Full(0x0000_000f)),
-        ("slli with bit 30", Word::Full(0x4000_1013)),
-        ("mret", Word::Full(0x3020_0073)),
-        ("slli with bit 25", Word::Full(0x0200_1013)),
-        ("all zeros", Word::Full(0x0000_0000)),
-        ("all ones", Word::Full(0xffff_ffff)),
-        ("mul with low bits 10", Word::Full(0x02c5_8532)),
-        ("mul with low bits 01", Word::Full(0x02c5_8531)),
-        ("mul with low bits 00", Word::Full(0x02c5_8530)),
-        ("c.ebreak with zeros above", Word::Full(0x0000_9002)),
-        ("c.ebreak with bits above", Word::Full(0x1001_9002)),
-        ("all zeros", Word::Half(0x0000)),
-        ("c.addi of zero", Word::Half(0x0501)),
-        ("c.addi16sp of zero", Word::Half(0x6101)),
-        ("c.jr of zero", Word::Half(0x8002)),
-        ("c.slli by more than 31", Word::Half(0x1502)),
-        ("c.addi of x0", Word::Half(0x0005)),
-        ("low half of mul", Word::Half(0x8533)),
-        ("low half of ecall", Word::Half(0x0073)),
-    ] {
-        let (name, word) = row;
+const NO_INSTRUCTIONS: [(&str, Word); 19] = [
+    ("fence with empty sets", Word::Full(0x0000_000f)),
+    ("slli with bit 30", Word::Full(0x4000_1013)),
+    ("mret", Word::Full(0x3020_0073)),
+    ("slli with bit 25", Word::Full(0x0200_1013)),
+    ("all zeros", Word::Full(0x0000_0000)),
+    ("all ones", Word::Full(0xffff_ffff)),
+    ("mul with low bits 10", Word::Full(0x02c5_8532)),
+    ("mul with low bits 01", Word::Full(0x02c5_8531)),
+    ("mul with low bits 00", Word::Full(0x02c5_8530)),
+    ("c.ebreak with zeros above", Word::Full(0x0000_9002)),
+    ("c.ebreak with bits above", Word::Full(0x1001_9002)),
+    ("all zeros", Word::Half(0x0000)),
+    ("c.addi of zero", Word::Half(0x0501)),
+    ("c.addi16sp of zero", Word::Half(0x6101)),
+    ("c.jr of zero", Word::Half(0x8002)),
+    ("c.slli by more than 31", Word::Half(0x1502)),
+    ("c.addi of x0", Word::Half(0x0005)),
+    ("low half of mul", Word::Half(0x8533)),
+    ("low half of ecall", Word::Half(0x0073)),
+];
+
+fn check_no_instructions<T: Abort>(rt: &T, rows: &[(&str, Word)]) {
+    for row in rows {
+        let (name, word) = *row;
         assert!(rt; decode(word).is_none(), "{name}: {word:?}");
     }
 }
 
 #[test]
-fn bytes_in_memory(rt: HostRuntime) {
-    for row in &[
-        (Word::Half(0x4501), [0x01u8, 0x45].as_slice()),
-        (Word::Full(0x40c5_8533), [0x33, 0x85, 0xc5, 0x40].as_slice()),
-    ] {
+fn words_of_no_instruction(rt: HostRuntime) {
+    check_no_instructions(&rt, &NO_INSTRUCTIONS);
+}
+
+const BYTES: [(Word, &[u8]); 2] = [
+    (Word::Half(0x4501), &[0x01, 0x45]),
+    (Word::Full(0x40c5_8533), &[0x33, 0x85, 0xc5, 0x40]),
+];
+
+fn check_bytes<T: Abort>(rt: &T, rows: &[(Word, &[u8])]) {
+    for row in rows {
         let (word, bytes) = *row;
         assert_eq!(rt; word.bytes().as_slice(), bytes, "{word:?}");
     }
 }
 
+#[test]
+fn bytes_in_memory(rt: HostRuntime) {
+    check_bytes(&rt, &BYTES);
+}
+
 /// Each class with its numbers, as bits: RISC-V Unprivileged ISA 20191213, chapters 2 and 16.
+const CLASSES: [(RegisterClass, u32); 6] = [
+    (RegisterClass::Absent, 0x0000_0001),
+    (RegisterClass::Any, 0xffff_ffff),
+    (RegisterClass::NotZero, 0xffff_fffe),
+    (RegisterClass::NotSp, 0xffff_fffa),
+    (RegisterClass::Prime, 0x0000_ff00),
+    (RegisterClass::Set, 0x0000_fffe),
+];
+
+fn check_class<T: Abort>(rt: &T, class: RegisterClass, numbers: u32) {
+    for number in 0..32u8 {
+        let is_there = numbers >> u32::from(number) & 1 == 1;
+        let found = in_class(class, register(rt, number));
+        assert_eq!(rt; found, is_there, "{class:?} {number}");
+    }
+}
+
+fn check_classes<T: Abort>(rt: &T, rows: &[(RegisterClass, u32)]) {
+    for row in rows {
+        check_class(rt, row.0, row.1);
+    }
+}
+
 #[test]
 fn registers_of_classes(rt: HostRuntime) {
-    for row in &[
-        (RegisterClass::Absent, 0x0000_0001u32),
-        (RegisterClass::Any, 0xffff_ffff),
-        (RegisterClass::NotZero, 0xffff_fffe),
-        (RegisterClass::NotSp, 0xffff_fffa),
-        (RegisterClass::Prime, 0x0000_ff00),
-        (RegisterClass::Set, 0x0000_fffe),
-    ] {
-        let (class, numbers) = *row;
-        for number in 0..32u8 {
-            let is_there = numbers >> u32::from(number) & 1 == 1;
-            assert_eq!(rt;
-                in_class(class, register(&rt, number)),
-                is_there,
-                "{class:?} {number}"
-            );
-        }
-    }
+    check_classes(&rt, &CLASSES);
 }
