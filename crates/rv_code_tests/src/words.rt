@@ -79,12 +79,16 @@ fn check_rows<T: Abort>(rt: &T, table: &[TableRow], full: &[Row], half: &[Row]) 
     }
 }
 
+fn check_tables<T: Abort>(rt: &T, table: &[TableRow], full: &[Row], half: &[Row]) {
+    check_words(rt, full);
+    check_words(rt, half);
+    check_rows(rt, table, full, half);
+}
+
 /// The words of the tables, in which no operation is missing.
 #[test]
 fn words_of_instructions(rt: HostRuntime) {
-    check_words(&rt, &FULL_WORDS);
-    check_words(&rt, &HALF_WORDS);
-    check_rows(&rt, &TABLE, &FULL_WORDS, &HALF_WORDS);
+    check_tables(&rt, &TABLE, &FULL_WORDS, &HALF_WORDS);
 }
 
 fn check_not_taken<T: Abort>(rt: &T, rows: &[(&str, u8, u8, u8, i32)]) {
