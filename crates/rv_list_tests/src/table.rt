@@ -5,6 +5,7 @@ ghost use Rattle.rv_layout.specs.Sections.{sections};
 ghost use Rattle.rv_list.specs.Shown.{Shown, shown_line};
 ghost use Rattle.rv_list_tests.specs.Tables.{no_line, no_section, known};
 
+use crate::defined::Defined;
 use rv_fix::Coded;
 use rv_layout::SECTIONS;
 use rv_list::{DefinitionPlace, LinePlace, LineView, SectionPlace, View};
@@ -18,14 +19,6 @@ pub struct Row {
     pub place: LinePlace,
     pub code: Coded,
     pub ghost few: { length stmt.labels ≤ 1000 },
-}
-
-/// A name with its definition, and the value of its `.equ`.
-#[derive(Clone, Copy)]
-pub struct Defined {
-    pub name: &'static str,
-    pub place: DefinitionPlace,
-    pub value: Option<i64>,
 }
 
 /// A text that is written out.

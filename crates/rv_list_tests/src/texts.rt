@@ -1,14 +1,17 @@
 //! Texts of tables against worked ones, and what is written where a call of the writer fails.
 
-use crate::table::{Defined, Row, Table};
+ghost use Rattle.std.specs.Prelude.{◌<◌, ◌-◌, ◌^◌};
+
+use crate::defined::Defined;
+use crate::table::{Row, Table};
 use rv_fix::{AssembleError, Coded, assemble_at};
 use rv_layout::SECTIONS;
 use rv_list::{
     DefinitionPlace, LinePlace, ListError, SectionPlace, View, push_row, section_bytes,
     write_faults, write_image, write_listing, write_symbols,
 };
-use rv_stmt::{Sect, read_line};
-use rv_text::{FailsAt, MemSink, OutputBlock, Tally};
+use rv_stmt::{Sect, Stmt, read_line};
+use rv_text::{FailsAt, MemSink, OutputBlock, Sink, Tally};
 use std::alloc::Global;
 use std::process::Abort;
 use std::test::Fail;
@@ -16,21 +19,39 @@ use std::test::Fail;
 // A line, with its section, its address and its size.
 type Line = (&'static str, Sect, u32, u32);
 
-// The row of a line. A line that uses names of others has no bytes here.
-fn row<T: Abort>(rt: &T, alloc: Global, line: Line) -> Result<Row, Fail> {
+// The statement of a line.
+fn statement(alloc: Global, text: &str) -> Result<Stmt, Fail> {
+    if text.len() > 1000 {
+        return Err(Fail::new("a long line"));
+    }
+    Ok(read_line(alloc, text.as_bytes(), &mut Tally::new())?)
+}
+
+// The code of a line. A line that uses names of others has no bytes here.
+fn code_of(alloc: Global, text: &str, address: u32) -> Result<Coded, Fail> {
+    if text.len() > 1000 {
+        return Err(Fail::new("a long line"));
+    }
+    match assemble_at(alloc, text.as_bytes(), address) {
+        Ok(coded) => Ok(coded),
+        Err(AssembleError::Names) => Ok(Coded::padding(false, 0)),
+        Err(AssembleError::Memory) => Err(Fail::new("no memory")),
+    }
+}
+
+// The row of a line.
+fn row(alloc: Global, line: Line) -> Result<Row, Fail> {
     let (text, section, address, size) = line;
-    assert!(rt; text.len() <= 1000);
-    let stmt = read_line(alloc, text.as_bytes(), &mut Tally::new())?;
-    assert!(rt; stmt.labels.as_slice().len() <= 1000);
-    let code = match assemble_at(alloc, text.as_bytes(), address) {
-        Err(AssembleError::Names) => Coded::padding(false, 0),
-        answer => answer?,
-    };
     let place = LinePlace {
         section,
         address,
         size,
     };
+    let code = code_of(alloc, text, address)?;
+    let stmt = statement(alloc, text)?;
+    if stmt.labels.as_slice().len() > 1000 {
+        return Err(Fail::new("many labels"));
+    }
     Ok(Row {
         text,
         stmt,
@@ -39,19 +60,26 @@ fn row<T: Abort>(rt: &T, alloc: Global, line: Line) -> Result<Row, Fail> {
     })
 }
 
+// The rows of these lines.
+fn rows_of(alloc: Global, lines: &[Line]) -> Result<Vec<Row>, Fail> {
+    let mut rows = Vec::new(alloc);
+    for line in lines {
+        rows.push(row(alloc, *line)?)?;
+    }
+    Ok(rows)
+}
+
 // The table of these lines.
-fn table<T: Abort>(
-    rt: &T,
+fn table(
     alloc: Global,
     lines: &[Line],
     sections: [(u32, u32); SECTIONS],
     names: &'static [Defined],
 ) -> Result<Table, Fail> {
-    let mut rows = Vec::new(alloc);
-    for line in lines {
-        rows.push(row(rt, alloc, *line)?)?;
+    let rows = rows_of(alloc, lines)?;
+    if rows.len() > 16384 {
+        return Err(Fail::new("many lines"));
     }
-    assert!(rt; rows.len() <= 16384);
     let sections = sections.map(|(base, size)| SectionPlace { base, size });
     Ok(Table {
         rows,
@@ -70,6 +98,18 @@ enum Kind {
 
 const KINDS: [Kind; 4] = [Kind::Image, Kind::Listing, Kind::Symbols, Kind::Faults];
 
+// Writes a text of a table.
+fn write<W: Sink>(kind: Kind, table: &Table, sink: &mut W) -> Result<(), ListError>
+    requires { W.failures sink.old < 2 ^ 64 - 1 }
+{
+    match kind {
+        Kind::Image => write_image(table, sink),
+        Kind::Listing => write_listing(table, sink),
+        Kind::Symbols => write_symbols(table, sink),
+        Kind::Faults => write_faults(table, sink),
+    }
+}
+
 // What is written of a table, where call number `m` of the writer fails.
 fn written(
     alloc: Global,
@@ -78,12 +118,7 @@ fn written(
     m: u64,
 ) -> Result<(Result<(), ListError>, MemSink), Fail> {
     let mut sink = FailsAt::new(MemSink::new(alloc, 32768)?, m);
-    let answer = match kind {
-        Kind::Image => write_image(table, &mut sink),
-        Kind::Listing => write_listing(table, &mut sink),
-        Kind::Symbols => write_symbols(table, &mut sink),
-        Kind::Faults => write_faults(table, &mut sink),
-    };
+    let answer = write(kind, table, &mut sink);
     Ok((answer, sink.inner))
 }
 
@@ -303,17 +338,45 @@ const NAMES: Case = Case {
     ],
 };
 
-#[test]
-fn writes_texts(rt: HostRuntime) -> Result<(), Fail> {
-    for case in [EMPTY, ODD, LOADS, DATA, NAMES] {
-        let table = table(&rt, rt.alloc(), case.lines, case.sections, case.names)?;
-        for (kind, want) in case.texts {
-            let (answer, sink) = written(rt.alloc(), *kind, &table, 0)?;
-            assert!(rt; answer.is_ok());
-            assert_eq!(rt; str::from_utf8(sink.bytes()), Ok(*want), "{kind:?}");
-        }
+// The table of a case.
+fn table_of(alloc: Global, case: &Case) -> Result<Table, Fail> {
+    table(alloc, case.lines, case.sections, case.names)
+}
+
+// A table is written so.
+fn text_is<T: Abort>(
+    rt: &T,
+    alloc: Global,
+    table: &Table,
+    kind: Kind,
+    wanted: &str,
+) -> Result<(), Fail> {
+    let (answer, sink) = written(alloc, kind, table, 0)?;
+    assert!(rt; answer.is_ok());
+    assert_eq!(rt; str::from_utf8(sink.bytes()), Ok(wanted), "{kind:?}");
+    Ok(())
+}
+
+// A case has its texts.
+fn texts_are<T: Abort>(rt: &T, alloc: Global, case: &Case) -> Result<(), Fail> {
+    let table = table_of(alloc, case)?;
+    for (kind, wanted) in case.texts {
+        text_is(rt, alloc, &table, *kind, *wanted)?;
     }
     Ok(())
+}
+
+// Each case has its texts.
+fn cases_are<T: Abort>(rt: &T, alloc: Global, cases: &[Case]) -> Result<(), Fail> {
+    for case in cases {
+        texts_are(rt, alloc, case)?;
+    }
+    Ok(())
+}
+
+#[test]
+fn writes_texts(rt: HostRuntime) -> Result<(), Fail> {
+    cases_are(&rt, rt.alloc(), &[EMPTY, ODD, LOADS, DATA, NAMES])
 }
 
 // Code, padding of six bytes, and equal bytes.
@@ -329,65 +392,125 @@ const FILLED: Case = Case {
     texts: &[],
 };
 
+// A case, the number of a section, and the section's bytes.
+type Gathered = (Case, usize, &'static [u8]);
+
 // The bytes of sections by their numbers.
+const GATHERED: [Gathered; 7] = [
+    (EMPTY, 0, b""),
+    (ODD, 0, b"\x01\x13\x05\x15\0\0"),
+    (ODD, 2, b""),
+    (DATA, 0, b""),
+    (
+        DATA,
+        2,
+        b"\x01\xff\x41\x34\x12\x09\0\0\0hi\n\0\x01\0\0\0\x02\0\0\0\x03\0\0\0",
+    ),
+    (FILLED, 0, b"\x01\0\x01\0\x13\0\0\0\0\0\0"),
+    (FILLED, 1, b"\x07"),
+];
+
+// The bytes of a section.
+fn gathered(alloc: Global, case: &Case, section: usize) -> Result<Vec<u8>, Fail> {
+    if section >= SECTIONS {
+        return Err(Fail::new("no section"));
+    }
+    Ok(section_bytes(alloc, &table_of(alloc, case)?, section)?)
+}
+
+// A section has these bytes.
+fn bytes_are<T: Abort>(rt: &T, alloc: Global, row: &Gathered) -> Result<(), Fail> {
+    let found = gathered(alloc, &row.0, row.1)?;
+    assert_eq!(rt; found.as_slice(), row.2);
+    Ok(())
+}
+
+// Each section has its bytes.
+fn sections_are<T: Abort>(rt: &T, alloc: Global, rows: &[Gathered]) -> Result<(), Fail> {
+    for row in rows {
+        bytes_are(rt, alloc, row)?;
+    }
+    Ok(())
+}
+
 #[test]
 fn gathers_bytes_of_sections(rt: HostRuntime) -> Result<(), Fail> {
-    for (case, section, bytes) in [
-        (EMPTY, 0, b"".as_slice()),
-        (ODD, 0, b"\x01\x13\x05\x15\0\0"),
-        (ODD, 2, b""),
-        (DATA, 0, b""),
-        (
-            DATA,
-            2,
-            b"\x01\xff\x41\x34\x12\x09\0\0\0hi\n\0\x01\0\0\0\x02\0\0\0\x03\0\0\0",
-        ),
-        (FILLED, 0, b"\x01\0\x01\0\x13\0\0\0\0\0\0"),
-        (FILLED, 1, b"\x07"),
-    ] {
-        let table = table(&rt, rt.alloc(), case.lines, case.sections, case.names)?;
-        let found = section_bytes(rt.alloc(), &table, section)?;
-        assert_eq!(rt; found.as_slice(), bytes);
+    sections_are(&rt, rt.alloc(), &GATHERED)
+}
+
+// What is written of a row with these columns and a text.
+fn pushed(alloc: Global, text: &[u8]) -> Result<MemSink, Fail> {
+    let mut sink = MemSink::new(alloc, 6000)?;
+    let mut block = OutputBlock::new();
+    push_row(&mut block, &mut sink, b"00001000 ", text)?;
+    block.flush(&mut sink)?;
+    Ok(sink)
+}
+
+// Whether these bytes are the columns, a text and a line feed.
+fn is_row(bytes: &[u8], text: &[u8]) -> bool {
+    match bytes.strip_prefix(b"00001000 ") {
+        Some(rest) => rest.strip_suffix(b"\n") == Some(text),
+        None => false,
     }
+}
+
+// A row is its columns, its text and a line feed.
+fn row_is<T: Abort>(rt: &T, alloc: Global, text: &[u8]) -> Result<(), Fail> {
+    let sink = pushed(alloc, text)?;
+    assert!(rt;
+        is_row(sink.bytes(), text),
+        "a text of {} bytes",
+        text.len()
+    );
     Ok(())
 }
 
 // A row of columns and a text, also of one that is longer than a block.
 #[test]
 fn pushes_rows(rt: HostRuntime) -> Result<(), Fail> {
-    let long = [b'x'; 5000];
-    for text in [b"c.nop".as_slice(), &long] {
-        let mut sink = MemSink::new(rt.alloc(), 6000)?;
-        let mut block = OutputBlock::new();
-        assert!(rt; push_row(&mut block, &mut sink, b"00001000 ", text).is_ok());
-        assert!(rt; block.flush(&mut sink).is_ok());
-        let (columns, rest) = sink.bytes().split_at(9);
-        assert_eq!(rt; columns, b"00001000 ".as_slice());
-        assert_eq!(rt; rest.strip_suffix(b"\n"), Some(text));
-    }
-    Ok(())
+    row_is(&rt, rt.alloc(), b"c.nop")?;
+    row_is(&rt, rt.alloc(), &[b'x'; 5000])
 }
 
 // A line with faults. Many of them take several calls of the writer.
 const LONG: Line = ("x: .byte 1, 2, 3, 4, 5, 6, 7, 300", Sect::Text, 1, 8);
 
+// Whether a writer took the beginning of the whole, and all of it unless it failed.
+fn is_beginning(bytes: &[u8], whole: &[u8], failed: bool) -> bool {
+    whole.starts_with(bytes) && failed == (bytes.len() < whole.len())
+}
+
 // A writer that fails at one call has taken what it took without the failure before that call, and no more.
+fn stops_at<T: Abort>(
+    rt: &T,
+    alloc: Global,
+    kind: Kind,
+    table: &Table,
+    m: u64,
+    whole: &[u8],
+) -> Result<(), Fail> {
+    let (answer, sink) = written(alloc, kind, table, m)?;
+    let stopped = is_beginning(sink.bytes(), whole, answer.is_err());
+    assert!(rt; stopped, "{kind:?} at {m}");
+    Ok(())
+}
+
+// A writer of this text that fails at any of its first calls stops there.
+fn stops<T: Abort>(rt: &T, alloc: Global, table: &Table, kind: Kind) -> Result<(), Fail> {
+    let (_, whole) = written(alloc, kind, table, 0)?;
+    for m in 1..10 {
+        stops_at(rt, alloc, kind, table, m, whole.bytes())?;
+    }
+    Ok(())
+}
+
 #[test]
 fn stops_at_failures(rt: HostRuntime) -> Result<(), Fail> {
     let lines = [LONG; 300];
-    let table = table(&rt, rt.alloc(), &lines, NOWHERE, &[])?;
+    let table = table(rt.alloc(), &lines, NOWHERE, &[])?;
     for kind in KINDS {
-        let (_, whole) = written(rt.alloc(), kind, &table, 0)?;
-        for m in 1..10 {
-            let (answer, sink) = written(rt.alloc(), kind, &table, m)?;
-            let bytes = sink.bytes();
-            assert!(rt; whole.bytes().starts_with(bytes), "{kind:?} at {m}");
-            assert_eq!(rt;
-                answer.is_err(),
-                bytes.len() < whole.bytes().len(),
-                "{kind:?} at {m}"
-            );
-        }
+        stops(&rt, rt.alloc(), &table, kind)?;
     }
     Ok(())
 }
