@@ -15,21 +15,35 @@ fn fault_from(from: u32) -> Fault {
     }
 }
 
+// A count of bytes, and the text of their padding.
+type Padding = (u32, &'static str);
+
+// A count of bytes is padded so.
+fn padding_is<T: Abort>(
+    rt: &T,
+    alloc: Global,
+    in_text: bool,
+    (count, wanted): Padding,
+) -> Result<(), Fail> {
+    let found = text_of(alloc, &Coded::padding(in_text, count))?;
+    assert_eq!(rt; found.as_str(), wanted, "of {count} bytes");
+    Ok(())
+}
+
 // Each count of bytes is padded so.
 fn paddings_are<T: Abort>(
     rt: &T,
     alloc: Global,
     in_text: bool,
-    rows: &[(u32, &'static str)],
+    rows: &[Padding],
 ) -> Result<(), Fail> {
     for row in rows {
-        let found = text_of(alloc, &Coded::padding(in_text, row.0))?;
-        assert_eq!(rt; found.as_str(), row.1, "of {} bytes", row.0);
+        padding_is(rt, alloc, in_text, *row)?;
     }
     Ok(())
 }
 
-const IN_TEXT: [(u32, &str); 7] = [
+const IN_TEXT: [Padding; 7] = [
     (0, "-"),
     (1, "00"),
     (2, "0100"),

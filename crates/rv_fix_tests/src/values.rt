@@ -49,15 +49,29 @@ const GIVEN: Given = Given {
     local: 0x2000,
 };
 
-// The values, each with a space before it: a fault by the name of what is reported.
+// A value after a space.
+fn text_of_number(alloc: Global, value: i64) -> Result<String, Fail> {
+    Ok(format!(in alloc; " {value}")?)
+}
+
+// A fault after a space, by the name of what is reported.
+fn text_of_fault(alloc: Global, fault: ValueFault) -> Result<String, Fail> {
+    Ok(format!(in alloc; " {fault:?}")?)
+}
+
+// A value or a fault, after a space.
+fn text_of_value(alloc: Global, entry: &Result<i64, ValueFault>) -> Result<String, Fail> {
+    match entry {
+        Ok(value) => text_of_number(alloc, *value),
+        Err(fault) => text_of_fault(alloc, *fault),
+    }
+}
+
+// The values, each with a space before it.
 fn text_of_values(alloc: Global, values: &Values) -> Result<String, Fail> {
     let mut text = String::new(alloc);
     for entry in values.entries() {
-        let shown = match entry {
-            Ok(value) => format!(in alloc; " {value}")?,
-            Err(fault) => format!(in alloc; " {fault:?}")?,
-        };
-        text.push_str(shown.as_str())?;
+        text.push_str(text_of_value(alloc, entry)?.as_str())?;
     }
     Ok(text)
 }
@@ -90,20 +104,12 @@ fn encoded(alloc: Global, stmt: &Stmt, values: &Values) -> Result<Coded, Fail> {
     Ok(coded)
 }
 
-// Appends the code with these values.
-fn push_code(alloc: Global, text: &mut String, stmt: &Stmt, values: &Values) -> Result<(), Fail> {
-    let coded = encoded(alloc, stmt, values)?;
-    text.push_str(" => ")?;
-    text.push_str(text_of(alloc, &coded)?.as_str())?;
-    Ok(())
-}
-
 // The values of a statement, and its code.
 fn text_of_statement(alloc: Global, stmt: &Stmt) -> Result<String, Fail> {
     let values = valued(alloc, stmt)?;
-    let mut text = text_of_values(alloc, &values)?;
-    push_code(alloc, &mut text, stmt, &values)?;
-    Ok(text)
+    let shown = text_of_values(alloc, &values)?;
+    let code = text_of(alloc, &encoded(alloc, stmt, &values)?)?;
+    Ok(format!(in alloc; "{} => {}", shown.as_str(), code.as_str())?)
 }
 
 // The values of a line, and its code.
@@ -111,14 +117,20 @@ fn text_of_line(alloc: Global, line: &str) -> Result<String, Fail> {
     text_of_statement(alloc, &statement(alloc, line)?)
 }
 
-// Each line has its values and its code. A row of the table is a line, its values and its code.
+// A row of a table holds: a line, its values and its code.
+fn row_holds<T: Abort>(rt: &T, alloc: Global, row: &str) -> Result<(), Fail> {
+    let Some((line, wanted)) = row.split_once(" =>") else {
+        return Err(Fail::new("a row without values"));
+    };
+    let found = text_of_line(alloc, line)?;
+    assert_eq!(rt; found.as_str(), wanted, "at {line}");
+    Ok(())
+}
+
+// Each line has its values and its code.
 fn values_are<T: Abort>(rt: &T, alloc: Global, table: &str) -> Result<(), Fail> {
     for row in table.lines() {
-        let Some((line, wanted)) = row.split_once(" =>") else {
-            return Err(Fail::new("a row without values"));
-        };
-        let found = text_of_line(alloc, line)?;
-        assert_eq!(rt; found.as_str(), wanted, "at {line}");
+        row_holds(rt, alloc, row)?;
     }
     Ok(())
 }
@@ -154,8 +166,10 @@ fn lines_have_values(rt: HostRuntime) -> Result<(), Fail> {
     values_are(&rt, rt.alloc(), VALUES)
 }
 
-// Pairs of lines, and whether their values are the same.
-const PAIRS: [(&str, &str, bool); 6] = [
+// Two lines, and whether their values are the same.
+type Pair = (&'static str, &'static str, bool);
+
+const PAIRS: [Pair; 6] = [
     ("li a0, 1", ".word 1", true),
     ("li a0, 1", ".word 2", false),
     (".word 1, 1/0", ".half 1, 2/0", true),
@@ -179,15 +193,18 @@ fn have_same_values(alloc: Global, left: &str, right: &str) -> Result<bool, Fail
     has_values(alloc, left, &values_of_line(alloc, right)?)
 }
 
-// Each pair is the same, or is not.
-fn pairs_are<T: Abort>(
-    rt: &T,
-    alloc: Global,
-    rows: &[(&'static str, &'static str, bool)],
-) -> Result<(), Fail> {
-    for row in rows {
-        let found = have_same_values(alloc, row.0, row.1)?;
-        assert_eq!(rt; found, row.2, "of {} and {}", row.0, row.1);
+// A pair has the same values, or has not.
+fn pair_holds<T: Abort>(rt: &T, alloc: Global, pair: Pair) -> Result<(), Fail> {
+    let (left, right, wanted) = pair;
+    let found = have_same_values(alloc, left, right)?;
+    assert_eq!(rt; found, wanted, "of {left} and {right}");
+    Ok(())
+}
+
+// Each pair has the same values, or has not.
+fn pairs_are<T: Abort>(rt: &T, alloc: Global, pairs: &[Pair]) -> Result<(), Fail> {
+    for pair in pairs {
+        pair_holds(rt, alloc, *pair)?;
     }
     Ok(())
 }
