@@ -5,6 +5,7 @@ use crate::counted::cut_blocks;
 use crate::extent::Block;
 use rv_tree::{SumTree, TreeError};
 use std::alloc::Global;
+use std::process::Abort;
 use std::test::Fail;
 
 // Whether these are the sizes of the blocks, and the sums those of the first blocks.
@@ -77,48 +78,91 @@ fn keeps_lists_before_other_edits(rt: HostRuntime) -> Result<(), Fail> {
     Ok(())
 }
 
+// What is refused at a place: the deletion, the replacement and the insertion of a block.
+type Refusals = (Option<TreeError>, Option<TreeError>, Option<TreeError>);
+
+fn refusals_at(tree: &SumTree<Block>, k: u32) -> Refusals {
+    (
+        tree.deleted(k).err(),
+        tree.replaced(k, Block { size: 1 }).err(),
+        tree.inserted(k, Block { size: 1 }).err(),
+    )
+}
+
+const PLACE: Option<TreeError> = Some(TreeError::Place);
+
+// The places before and after two blocks, and what is refused there.
+const REFUSED: [(u32, Refusals); 4] = [
+    (0, (PLACE, PLACE, PLACE)),
+    (3, (PLACE, PLACE, None)),
+    (4, (PLACE, PLACE, PLACE)),
+    (0xFFFF_FFFF, (PLACE, PLACE, PLACE)),
+];
+
+// The list refuses these places, and has no block there.
+fn refuses<T: Abort>(rt: &T, tree: &SumTree<Block>, rows: &[(u32, Refusals)]) {
+    for (k, refusals) in rows {
+        assert_eq!(rt; refusals_at(tree, *k), *refusals, "at {k}");
+        assert_eq!(rt; tree.get(*k), None, "at {k}");
+    }
+}
+
 #[test]
 fn refuses_places(rt: HostRuntime) -> Result<(), Fail> {
     let tree = list_of(rt.alloc(), &[10, 20])?;
-    for k in [0, 3, 4, 0xFFFF_FFFF] {
-        assert_eq!(rt; tree.deleted(k).err(), Some(TreeError::Place), "at {k}");
-        let refusal = tree.replaced(k, Block { size: 1 }).err();
-        assert_eq!(rt; refusal, Some(TreeError::Place), "at {k}");
-        let refusal = tree.inserted(k, Block { size: 1 }).err();
-        let want = if k == 3 { None } else { Some(TreeError::Place) };
-        assert_eq!(rt; refusal, want, "at {k}");
-        let block = if k == 0 { None } else { tree.get(k) };
-        assert_eq!(rt; block, None, "at {k}");
-    }
+    refuses(&rt, &tree, &REFUSED);
     assert!(rt; is_list(&tree, &[10, 20]));
     Ok(())
 }
 
 #[test]
 fn errors_have_numbers(rt: HostRuntime) {
-    for (error, number) in [
-        (TreeError::Place, 1),
-        (TreeError::Full, 2),
-        (TreeError::Memory, 3),
-    ] {
-        assert_eq!(rt; error.number(), number);
-    }
+    let numbers = [
+        TreeError::Place.number(),
+        TreeError::Full.number(),
+        TreeError::Memory.number(),
+    ];
+    assert_eq!(rt; numbers, [1, 2, 3]);
 }
 
-#[test]
-fn grows_like_a_vec(rt: HostRuntime) -> Result<(), Fail> {
-    let mut tree: SumTree<Block> = SumTree::new(rt.alloc());
-    let mut sizes: Vec<u64> = Vec::new(rt.alloc());
+// A list, and the sizes of its blocks.
+#[derive(Drop)]
+struct Grown {
+    tree: SumTree<Block>,
+    sizes: Vec<u64>,
+}
+
+// Puts 1000 blocks in first, one after another.
+fn grown_in_front(alloc: Global) -> Result<Grown, Fail> {
+    let mut tree: SumTree<Block> = SumTree::new(alloc);
+    let mut sizes: Vec<u64> = Vec::new(alloc);
     for size in 0..1000u64 {
         tree = tree.inserted(1, Block { size })?;
         sizes.insert(0, size)?;
     }
-    assert!(rt; is_list(&tree, &sizes));
+    Ok(Grown { tree, sizes })
+}
+
+// Puts 1000 blocks in last, one after another.
+fn grown_behind(grown: Grown) -> Result<Grown, Fail> {
+    let Grown {
+        mut tree,
+        mut sizes,
+    } = grown;
     for size in 1000..2000u64 {
         tree = tree.inserted(tree.len() + 1, Block { size })?;
         sizes.push(size)?;
     }
-    assert!(rt; is_list(&tree, &sizes));
-    assert!(rt; tree.height() <= 15, "height {}", tree.height());
+    Ok(Grown { tree, sizes })
+}
+
+#[test]
+fn grows_like_a_vec(rt: HostRuntime) -> Result<(), Fail> {
+    let grown = grown_in_front(rt.alloc())?;
+    assert!(rt; is_list(&grown.tree, &grown.sizes));
+    let grown = grown_behind(grown)?;
+    assert!(rt; is_list(&grown.tree, &grown.sizes));
+    let height = grown.tree.height();
+    assert!(rt; height <= 15, "height {height}");
     Ok(())
 }
