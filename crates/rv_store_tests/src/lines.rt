@@ -1,12 +1,19 @@
 //! Edits that have to be made.
 
-use rv_store::{EditError, Store};
+use rv_store::{Changed, EditError, Store};
 use rv_text::Tally;
+
+// What changed is not asked.
+fn made(edited: Result<Changed, EditError>) -> Result<(), EditError> {
+    match edited {
+        Ok(_) => Ok(()),
+        Err(refusal) => Err(refusal),
+    }
+}
 
 /// Makes a line the line number `k`.
 pub fn insert(store: &mut Store, k: u32, line: &[u8]) -> Result<(), EditError> {
-    let _ = store.insert(k, line, &mut Tally::new())?;
-    Ok(())
+    made(store.insert(k, line, &mut Tally::new()))
 }
 
 /// Puts a line after the others.
@@ -16,12 +23,10 @@ pub fn append(store: &mut Store, line: &[u8]) -> Result<(), EditError> {
 
 /// Puts a line in the place of line number `k`.
 pub fn replace(store: &mut Store, k: u32, line: &[u8]) -> Result<(), EditError> {
-    let _ = store.replace(k, line, &mut Tally::new())?;
-    Ok(())
+    made(store.replace(k, line, &mut Tally::new()))
 }
 
 /// Takes out line number `k`.
 pub fn delete(store: &mut Store, k: u32) -> Result<(), EditError> {
-    let _ = store.delete(k, &mut Tally::new())?;
-    Ok(())
+    made(store.delete(k, &mut Tally::new()))
 }
