@@ -23,9 +23,17 @@ pub fn make_edit(store: &mut Store, edit: LineEdit<'_>) -> Result<(), EditError>
 {
     let mut tally = Tally::new();
     match edit {
-        LineEdit::Insert(place, line) => store.insert(place, line, &mut tally)?,
-        LineEdit::Delete(place) => store.delete(place, &mut tally)?,
-        LineEdit::Replace(place, line) => store.replace(place, line, &mut tally)?,
-    };
-    Ok(())
+        LineEdit::Insert(place, line) => {
+            store.insert(place, line, &mut tally)?;
+            Ok(())
+        }
+        LineEdit::Delete(place) => {
+            store.delete(place, &mut tally)?;
+            Ok(())
+        }
+        LineEdit::Replace(place, line) => {
+            store.replace(place, line, &mut tally)?;
+            Ok(())
+        }
+    }
 }
