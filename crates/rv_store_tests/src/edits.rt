@@ -1,8 +1,8 @@
 //! Edits: which are refused, and the lines after those that are made.
 
-use crate::lines::{append, delete, insert, replace};
+use crate::lines::{address, append, delete, insert, is_coded, replace, symbol};
 use rv_store::{EditError, Store, SymValue, base_ok};
-use rv_text::{Tally, tokens};
+use rv_text::tokens;
 use std::alloc::Global;
 use std::process::Abort;
 use std::test::Fail;
@@ -55,73 +55,106 @@ fn is_as_before(store: &Store) -> bool {
         && store.line(2).is_none()
 }
 
+// A line is refused at a place, and the text stays.
+fn refuses_line<T: Abort>(
+    rt: &T,
+    store: &mut Store,
+    line: &[u8],
+    row: (u32, EditError, EditError),
+) {
+    let (place, inserted, replaced) = row;
+    let refusals = (insert(store, place, line), replace(store, place, line));
+    assert_eq!(rt; refusals, (Err(inserted), Err(replaced)), "at {place}");
+    assert!(rt; is_as_before(store), "at {place}");
+}
+
 fn refuses_lines<T: Abort>(
     rt: &T,
     store: &mut Store,
     line: &[u8],
     rows: &[(u32, EditError, EditError)],
 ) {
-    for (place, inserted, replaced) in rows {
-        let refusal = store.insert(*place, line, &mut Tally::new()).err();
-        assert_eq!(rt; refusal, Some(*inserted), "at {place}");
-        let refusal = store.replace(*place, line, &mut Tally::new()).err();
-        assert_eq!(rt; refusal, Some(*replaced), "at {place}");
-        assert!(rt; is_as_before(store), "at {place}");
+    for row in rows {
+        refuses_line(rt, store, line, *row);
+    }
+}
+
+fn refuses_texts<T: Abort>(
+    rt: &T,
+    store: &mut Store,
+    texts: &[&[u8]],
+    rows: &[(u32, EditError, EditError)],
+) {
+    for text in texts {
+        refuses_lines(rt, store, *text, rows);
     }
 }
 
 // An empty text has no line to take out or to replace.
 fn refuses_in_empty_text<T: Abort>(rt: &T, store: &mut Store) {
-    let refusal = store.delete(1, &mut Tally::new()).err();
-    assert_eq!(rt; refusal, Some(EditError::Place), "in an empty text");
-    let refusal = store.replace(1, b"nop", &mut Tally::new()).err();
-    assert_eq!(rt; refusal, Some(EditError::Place), "in an empty text");
+    let refusals = (delete(store, 1), replace(store, 1, b"nop"));
+    let place = Err(EditError::Place);
+    assert_eq!(rt; refusals, (place, place), "in an empty text");
 }
 
 // There are no such lines in a text of one line.
-fn refuses_to_take_out<T: Abort>(rt: &T, store: &mut Store) {
-    for place in [0, 2, 0xFFFF_FFFF] {
-        let refusal = store.delete(place, &mut Tally::new()).err();
-        assert_eq!(rt; refusal, Some(EditError::Place), "at {place}");
+fn refuses_to_take_out<T: Abort>(rt: &T, store: &mut Store, places: &[u32]) {
+    for place in places {
+        let refusal = delete(store, *place);
+        assert_eq!(rt; refusal, Err(EditError::Place), "at {place}");
     }
     assert!(rt; is_as_before(store));
 }
 
+// Lines that are too long or hold a line break.
+const REFUSED_TEXTS: [&[u8]; 3] = [&[b'x'; 1001], b"a\nb", b"a\n"];
+
+// Places, and why such a line is refused there, to be put in and in the place of another.
+const REFUSALS: [(u32, EditError, EditError); 4] = [
+    (0, EditError::Place, EditError::Place),
+    (1, EditError::Line, EditError::Line),
+    (2, EditError::Line, EditError::Place),
+    (3, EditError::Place, EditError::Place),
+];
+
 // Edits of an empty text, and of a text of one line, each refused.
-#[test]
-fn refuses_in_order(rt: HostRuntime) -> Result<(), Fail> {
-    let long = [b'x'; 1001];
-    let (place, line) = (EditError::Place, EditError::Line);
-    let rows = [
-        (0, place, place),
-        (1, line, line),
-        (2, line, place),
-        (3, place, place),
-    ];
-    let mut store = Store::new(rt.alloc(), 0)?;
-    refuses_in_empty_text(&rt, &mut store);
-    append(&mut store, b"one: nop")?;
-    for text in [long.as_slice(), b"a\nb", b"a\n"] {
-        refuses_lines(&rt, &mut store, text, &rows);
-    }
-    refuses_to_take_out(&rt, &mut store);
-    assert_eq!(rt; store.symbol(b"one"), Some(SymValue::Label(0)));
+fn refuses_edits<T: Abort>(rt: &T, store: &mut Store) -> Result<(), EditError> {
+    refuses_in_empty_text(rt, store);
+    append(store, b"one: nop")?;
+    refuses_texts(rt, store, &REFUSED_TEXTS, &REFUSALS);
+    refuses_to_take_out(rt, store, &[0, 2, 0xFFFF_FFFF]);
+    assert_eq!(rt; symbol(store, b"one"), Some(SymValue::Label(0)));
     Ok(())
 }
 
+#[test]
+fn refuses_in_order(rt: HostRuntime) -> Result<(), Fail> {
+    let mut store = Store::new(rt.alloc(), 0)?;
+    Ok(refuses_edits(&rt, &mut store)?)
+}
+
 // What there is of lines that are not there.
+fn shows_nothing_at<T: Abort>(rt: &T, store: &Store, places: &[u32]) {
+    for place in places {
+        assert_eq!(rt; store.line(*place), None, "at {place}");
+        assert_eq!(rt; address(store, *place), None, "at {place}");
+        assert!(rt; !is_coded(store, *place), "at {place}");
+    }
+}
+
+// What there is of the line that is there.
+fn shows_one_line<T: Abort>(rt: &T, store: &Store) {
+    assert_eq!(rt; address(store, 1), Some(4096));
+    assert!(rt; is_coded(store, 1));
+    assert_eq!(rt; symbol(store, b""), None);
+}
+
 #[test]
 fn shows_nothing_past_the_ends(rt: HostRuntime) -> Result<(), Fail> {
     let mut store = Store::new(rt.alloc(), 4096)?;
     append(&mut store, b"nop")?;
-    for place in [0, 2, 0xFFFF_FFFF] {
-        assert_eq!(rt; store.line(place), None, "at {place}");
-        assert_eq!(rt; store.address(place), None, "at {place}");
-        assert!(rt; store.coded(place).is_none(), "at {place}");
-    }
-    assert_eq!(rt; store.address(1), Some(4096));
-    assert!(rt; store.coded(1).is_some());
-    assert_eq!(rt; store.symbol(b""), None);
+    shows_nothing_at(&rt, &store, &[0, 2, 0xFFFF_FFFF]);
+    shows_one_line(&rt, &store);
     Ok(())
 }
 
