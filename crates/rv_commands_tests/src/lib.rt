@@ -11,6 +11,8 @@ mod ends;
 #[cfg(test)]
 mod pages;
 #[cfg(test)]
+mod script;
+#[cfg(test)]
 mod sessions;
 #[cfg(test)]
 mod slow;

@@ -2,8 +2,9 @@
 //! are as the pages have them. An independent program of the definitions in Python gave the answers, and GNU objdump the
 //! instructions of the disassemblies.
 
+use crate::script::Script;
 use crate::transcripts::check_output;
-use rv_text::MemSource;
+use rv_text::{MemSource, TextError};
 use std::alloc::Global;
 use std::process::Abort;
 use std::test::Fail;
@@ -406,25 +407,48 @@ faults 1
     ),
 ];
 
-/// The blocks of a session, each together with those before it, have their answers.
-fn check_session<T: Abort>(rt: &T, alloc: Global, blocks: &[(&str, &str)]) -> Result<(), Fail> {
-    let mut input: Vec<u8> = Vec::new(alloc);
-    let mut output: Vec<u8> = Vec::new(alloc);
-    for (commands, answers) in blocks {
-        input.extend_from_slice(commands.as_bytes())?;
-        output.extend_from_slice(answers.as_bytes())?;
-        let source = MemSource::new(input.as_slice());
-        check_output(rt, alloc, commands, source, output.as_slice())?;
+// The commands and the answers, put after those before them, are answered so.
+fn check_block<T: Abort>(
+    rt: &T,
+    alloc: Global,
+    script: &mut Script,
+    block: (&str, &str),
+) -> Result<(), TextError> {
+    let (commands, answers) = block;
+    script.extend(commands.as_bytes(), answers.as_bytes())?;
+    let source = MemSource::new(script.input.as_slice());
+    check_output(rt, alloc, commands, source, script.output.as_slice())
+}
+
+// The blocks of a session, each together with those before it, have their answers.
+fn check_session<T: Abort>(
+    rt: &T,
+    alloc: Global,
+    blocks: &[(&str, &str)],
+) -> Result<(), TextError> {
+    let mut script = Script::new(alloc);
+    for block in blocks {
+        check_block(rt, alloc, &mut script, *block)?;
+    }
+    Ok(())
+}
+
+// Each block is a session.
+fn check_sessions<T: Abort>(
+    rt: &T,
+    alloc: Global,
+    blocks: &[(&str, &str)],
+) -> Result<(), TextError> {
+    for block in blocks {
+        check_block(rt, alloc, &mut Script::new(alloc), *block)?;
     }
     Ok(())
 }
 
 #[test]
 fn pages_show_what_is_answered(rt: HostRuntime) -> Result<(), Fail> {
-    check_session(&rt, rt.alloc(), TUTORIAL.as_slice())?;
-    check_session(&rt, rt.alloc(), SESSION.as_slice())?;
-    for fault in FAULTS {
-        check_session(&rt, rt.alloc(), [fault].as_slice())?;
-    }
+    check_session(&rt, rt.alloc(), &TUTORIAL)?;
+    check_session(&rt, rt.alloc(), &SESSION)?;
+    check_sessions(&rt, rt.alloc(), &FAULTS)?;
     Ok(())
 }

@@ -1,7 +1,9 @@
 //! Sessions with all commands, and their whole output, as an independent program of the definitions in Python has it.
 
 use crate::transcripts::check_output;
-use rv_text::MemSource;
+use rv_text::{MemSource, TextError};
+use std::alloc::Global;
+use std::process::Abort;
 use std::test::Fail;
 
 // Commands, and their answers.
@@ -604,11 +606,17 @@ dis 4
     ),
 ];
 
+fn check_sessions<T: Abort>(rt: &T, alloc: Global, rows: &[(&str, &str)]) -> Result<(), TextError> {
+    for row in rows {
+        let (input, output) = *row;
+        let source = MemSource::new(input.as_bytes());
+        check_output(rt, alloc, input, source, output.as_bytes())?;
+    }
+    Ok(())
+}
+
 #[test]
 fn sessions_are_answered(rt: HostRuntime) -> Result<(), Fail> {
-    for (input, output) in SESSIONS {
-        let source = MemSource::new(input.as_bytes());
-        check_output(&rt, rt.alloc(), input, source, output.as_bytes())?;
-    }
+    check_sessions(&rt, rt.alloc(), &SESSIONS)?;
     Ok(())
 }

@@ -2,9 +2,10 @@
 
 ghost use Rattle.std.specs.Prelude.{◌<◌, ◌-◌, ◌^◌};
 
+use crate::script::Script;
 use crate::slow::{CountedSink, SlowSource};
-use rv_commands::run;
-use rv_text::{MemSink, MemSource, Sink, Source};
+use rv_commands::{RunError, run};
+use rv_text::{MemSink, MemSource, Source, TextError};
 use std::alloc::{AllocError, Global};
 use std::process::Abort;
 use std::test::Fail;
@@ -101,6 +102,18 @@ const TRANSCRIPTS: [(&str, &str, &str); 26] = [
     ),
 ];
 
+/// How a run ends, and what it wrote.
+pub type Ended = (Result<(), RunError>, MemSink);
+
+/// Runs an input whose output takes at most `capacity` bytes.
+pub fn run_of<R: Source>(alloc: Global, source: &mut R, capacity: usize) -> Result<Ended, TextError>
+    requires { R.failures source.old < 2 ^ 64 - 1 }
+{
+    let mut sink = MemSink::new(alloc, capacity)?;
+    let done = run(alloc, source, &mut sink, 0);
+    Ok((done, sink))
+}
+
 /// The input, as this reader gives it, has this output.
 pub fn check_output<T: Abort, R: Source + Drop>(
     rt: &T,
@@ -108,82 +121,129 @@ pub fn check_output<T: Abort, R: Source + Drop>(
     input: &str,
     source: R,
     output: &[u8],
-) -> Result<(), Fail>
+) -> Result<(), TextError>
     requires { R.failures source < 2 ^ 64 - 1 }
 {
     let mut source = source;
-    let mut sink = MemSink::new(alloc, output.len() + 1000)?;
-    let done = run(alloc, &mut source, &mut sink, 0);
+    let capacity = output.len().saturating_add(1000);
+    let (done, sink) = run_of(alloc, &mut source, capacity)?;
     assert_eq!(rt; done, Ok(()), "at {input:?}");
     assert_eq!(rt; sink.bytes(), output, "at {input:?}");
     Ok(())
 }
 
+// The input has this output, also where it comes in small pieces.
+fn is_answered<T: Abort>(
+    rt: &T,
+    alloc: Global,
+    input: &str,
+    output: &[u8],
+) -> Result<(), TextError> {
+    let bytes = MemSource::new(input.as_bytes());
+    check_output(rt, alloc, input, bytes, output)?;
+    let slow = SlowSource {
+        inner: MemSource::new(input.as_bytes()),
+    };
+    check_output(rt, alloc, input, slow, output)
+}
+
+fn are_answered<T: Abort>(
+    rt: &T,
+    alloc: Global,
+    rows: &[(&str, &str, &str)],
+) -> Result<(), TextError> {
+    for row in rows {
+        let (input, front, back) = *row;
+        let output = format!(in alloc; "{front}{back}")?;
+        is_answered(rt, alloc, input, output.as_bytes())?;
+    }
+    Ok(())
+}
+
 #[test]
 fn commands_are_answered(rt: HostRuntime) -> Result<(), Fail> {
-    for (input, front, back) in TRANSCRIPTS {
-        let mut output = Vec::from_slice(rt.alloc(), front.as_bytes())?;
-        output.extend_from_slice(back.as_bytes())?;
-        let bytes = MemSource::new(input.as_bytes());
-        check_output(&rt, rt.alloc(), input, bytes, output.as_slice())?;
-        let slow = SlowSource {
-            inner: MemSource::new(input.as_bytes()),
-        };
-        check_output(&rt, rt.alloc(), input, slow, output.as_slice())?;
+    are_answered(&rt, rt.alloc(), &TRANSCRIPTS)?;
+    Ok(())
+}
+
+// How an input begins, how many bytes `x` follow in its line before the command `d 1`, and the output.
+const LONG_LINES: [(&str, usize, &str); 9] = [
+    ("a ", 1000, "ok 1\nok 0\n"),
+    ("a ", 1001, "refused 3\nrefused 2\n"),
+    ("a ", 2000000, "refused 3\nrefused 2\n"),
+    ("i 1 ", 1000, "ok 1\nok 0\n"),
+    ("i 1 ", 1001, "refused 3\nrefused 2\n"),
+    ("i 2 ", 1001, "refused 2\nrefused 2\n"),
+    ("a x\nr 1 ", 1000, "ok 1\nok 1\nok 0\n"),
+    ("a x\nr 1 ", 1001, "ok 1\nrefused 3\nok 0\n"),
+    ("r 1 ", 1001, "refused 2\nrefused 2\n"),
+];
+
+// The input with a line of this length.
+fn long_line(alloc: Global, start: &str, length: usize) -> Result<Vec<u8>, AllocError> {
+    let mut input = Vec::from_slice(alloc, start.as_bytes())?;
+    let line = vec![in alloc; b'x'; length]?;
+    input.extend_from_slice(line.as_slice())?;
+    input.extend_from_slice(b"\nd 1\n")?;
+    Ok(input)
+}
+
+fn long_line_is_answered<T: Abort>(
+    rt: &T,
+    alloc: Global,
+    row: (&str, usize, &str),
+) -> Result<(), TextError> {
+    let (start, length, output) = row;
+    let input = long_line(alloc, start, length)?;
+    let mut source = MemSource::new(input.as_slice());
+    let (done, sink) = run_of(alloc, &mut source, 1000)?;
+    assert_eq!(rt; done, Ok(()), "at {start} and {length}");
+    assert_eq!(rt; sink.bytes(), output.as_bytes(), "at {start} and {length}");
+    Ok(())
+}
+
+fn long_lines_are_right<T: Abort>(
+    rt: &T,
+    alloc: Global,
+    rows: &[(&str, usize, &str)],
+) -> Result<(), TextError> {
+    for row in rows {
+        long_line_is_answered(rt, alloc, *row)?;
     }
     Ok(())
 }
 
 #[test]
 fn long_lines_are_answered(rt: HostRuntime) -> Result<(), Fail> {
-    for (start, length, output) in [
-        ("a ", 1000usize, "ok 1\nok 0\n"),
-        ("a ", 1001, "refused 3\nrefused 2\n"),
-        ("a ", 2000000, "refused 3\nrefused 2\n"),
-        ("i 1 ", 1000, "ok 1\nok 0\n"),
-        ("i 1 ", 1001, "refused 3\nrefused 2\n"),
-        ("i 2 ", 1001, "refused 2\nrefused 2\n"),
-        ("a x\nr 1 ", 1000, "ok 1\nok 1\nok 0\n"),
-        ("a x\nr 1 ", 1001, "ok 1\nrefused 3\nok 0\n"),
-        ("r 1 ", 1001, "refused 2\nrefused 2\n"),
-    ] {
-        let mut input = Vec::from_slice(rt.alloc(), start.as_bytes())?;
-        let line = vec![in rt.alloc(); b'x'; length]?;
-        input.extend_from_slice(line.as_slice())?;
-        input.extend_from_slice(b"\nd 1\n")?;
-        let mut source = MemSource::new(input.as_slice());
-        let mut sink = MemSink::new(rt.alloc(), 1000)?;
-        let done = run(rt.alloc(), &mut source, &mut sink, 0);
-        assert_eq!(rt; done, Ok(()), "at {start} and {length}");
-        assert_eq!(rt; sink.bytes(), output.as_bytes(), "at {start} and {length}");
-    }
+    long_lines_are_right(&rt, rt.alloc(), &LONG_LINES)?;
     Ok(())
 }
 
+// A command that appends a blank line, and its answer.
+fn add_blank_line(alloc: Global, script: &mut Script, number: u32) -> Result<(), AllocError> {
+    let answer = format!(in alloc; "ok {number}\n")?;
+    script.extend(b"a\n", answer.as_bytes())
+}
+
 // Commands that append as many blank lines as there may be and one more, and their answers.
-fn full_text(alloc: Global) -> Result<(Vec<u8>, Vec<u8>), AllocError> {
-    let mut input = Vec::new(alloc);
-    let mut output = Vec::new(alloc);
+fn full_text(alloc: Global) -> Result<Script, AllocError> {
+    let mut script = Script::new(alloc);
     for number in 1..=16384u32 {
-        input.extend_from_slice(b"a\n")?;
-        let answer = format!(in alloc; "ok {number}\n")?;
-        output.extend_from_slice(answer.as_bytes())?;
+        add_blank_line(alloc, &mut script, number)?;
     }
-    input.extend_from_slice(b"a\ntext\n")?;
-    output.extend_from_slice(b"refused 4\ntext 16384\n")?;
+    script.extend(b"a\ntext\n", b"refused 4\ntext 16384\n")?;
     let lines = vec![in alloc; b'\n'; 16384]?;
-    output.extend_from_slice(lines.as_slice())?;
-    Ok((input, output))
+    script.extend(b"", lines.as_slice())?;
+    Ok(script)
 }
 
 #[test]
 fn a_full_text_refuses_a_line(rt: HostRuntime) -> Result<(), Fail> {
-    let (input, output) = full_text(rt.alloc())?;
-    let mut source = MemSource::new(input.as_slice());
-    let mut sink = MemSink::new(rt.alloc(), 200_000)?;
-    let done = run(rt.alloc(), &mut source, &mut sink, 0);
+    let script = full_text(rt.alloc())?;
+    let mut source = MemSource::new(script.input.as_slice());
+    let (done, sink) = run_of(rt.alloc(), &mut source, 200_000)?;
     assert_eq!(rt; done, Ok(()));
-    assert!(rt; sink.bytes() == output.as_slice());
+    assert!(rt; sink.bytes() == script.output.as_slice());
     Ok(())
 }
 
@@ -198,25 +258,40 @@ fn addresses_begin_at_the_base(rt: HostRuntime) -> Result<(), Fail> {
     Ok(())
 }
 
-#[test]
-fn answers_are_written_in_blocks(rt: HostRuntime) -> Result<(), Fail> {
-    let mut input: Vec<u8> = Vec::new(rt.alloc());
+// A thousand lines, and a command that shows their image.
+fn thousand_lines(alloc: Global) -> Result<Vec<u8>, AllocError> {
+    let mut input: Vec<u8> = Vec::new(alloc);
     for _ in 0..1000 {
         input.extend_from_slice(b"a addi a0, a0, 1\n")?;
     }
     input.extend_from_slice(b"image\n")?;
-    let mut source = MemSource::new(input.as_slice());
+    Ok(input)
+}
+
+// How a run ends, how many bytes it wrote, and in how many calls.
+fn counted_run(
+    alloc: Global,
+    input: &[u8],
+) -> Result<(Result<(), RunError>, usize, u64), TextError> {
+    let mut source = MemSource::new(input);
     let mut sink = CountedSink {
-        inner: MemSink::new(rt.alloc(), 30000)?,
+        inner: MemSink::new(alloc, 30000)?,
         calls: 0,
     };
-    let done = run(rt.alloc(), &mut source, &mut sink, 0);
+    let done = run(alloc, &mut source, &mut sink, 0);
+    Ok((done, sink.inner.bytes().len(), sink.calls))
+}
+
+#[test]
+fn answers_are_written_in_blocks(rt: HostRuntime) -> Result<(), Fail> {
+    let input = thousand_lines(rt.alloc())?;
+    let (done, length, calls) = counted_run(rt.alloc(), input.as_slice())?;
     assert_eq!(rt; done, Ok(()));
     // `ok 1` to `ok 1000`: nine answers of five bytes, ninety of six, nine hundred of seven, and one of eight. The image has
     // 250 rows of 58 bytes, and the rows of the sections: 22, 21, 19 and 18 bytes.
-    assert_eq!(rt; sink.inner.bytes().len(), 6893 + 250 * 58 + 80);
+    assert_eq!(rt; length, 6893 + 250 * 58 + 80);
     // The input is read in three pieces of at most 8 KiB, and the answers to each are written at once. The image takes four
     // blocks of 4 KiB.
-    assert_eq!(rt; sink.calls, 7);
+    assert_eq!(rt; calls, 7);
     Ok(())
 }
