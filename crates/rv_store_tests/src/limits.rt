@@ -240,19 +240,17 @@ const DEEP_WORDS: [(u8, usize, u8, usize, &str); 4] = [
     (b'~', 993, b')', 0, "feffffff"),
 ];
 
-fn push_bytes(line: &mut Vec<u8>, byte: u8, count: usize) -> Result<(), AllocError> {
-    for _ in 0..count {
-        line.push(byte)?;
-    }
-    Ok(())
+fn push_bytes(alloc: Global, line: &mut Vec<u8>, byte: u8, count: usize) -> Result<(), AllocError> {
+    let bytes = vec![in alloc; byte; count]?;
+    line.extend_from_slice(bytes.as_slice())
 }
 
 fn deep_word(alloc: Global, row: (u8, usize, u8, usize, &str)) -> Result<Vec<u8>, AllocError> {
     let (opening, before, closing, after, _) = row;
     let mut line = Vec::from_slice(alloc, b".word ")?;
-    push_bytes(&mut line, opening, before)?;
-    push_bytes(&mut line, b'1', 1)?;
-    push_bytes(&mut line, closing, after)?;
+    push_bytes(alloc, &mut line, opening, before)?;
+    push_bytes(alloc, &mut line, b'1', 1)?;
+    push_bytes(alloc, &mut line, closing, after)?;
     Ok(line)
 }
 
@@ -301,7 +299,6 @@ fn append_byte(store: &mut Store, byte: u8) -> Result<(), EditError> {
     append(store, &[byte])
 }
 
-// All lines of one byte but the line break.
 fn append_bytes(store: &mut Store) -> Result<(), EditError> {
     for byte in 0..=255u8 {
         append_byte(store, byte)?;
@@ -309,10 +306,16 @@ fn append_bytes(store: &mut Store) -> Result<(), EditError> {
     Ok(())
 }
 
-// The faults of a text of all lines of one byte but the line break.
-fn faults_of_bytes(alloc: Global) -> Result<MemSink, Fail> {
+// A text of all lines of one byte but the line break.
+fn lines_of_bytes(alloc: Global) -> Result<Store, EditError> {
     let mut store = Store::new(alloc, 0)?;
     append_bytes(&mut store)?;
+    Ok(store)
+}
+
+// The faults of that text.
+fn faults_of_bytes(alloc: Global) -> Result<MemSink, Fail> {
+    let store = lines_of_bytes(alloc)?;
     faults_of(alloc, &store, 8192)
 }
 
