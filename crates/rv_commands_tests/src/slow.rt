@@ -1,6 +1,6 @@
 //! Readers and writers that need many calls.
 
-ghost use Rattle.std.specs.Prelude.{None};
+ghost use Rattle.std.specs.Prelude.{◌≡◌, ◌<◌, ◌≤◌, ℕ, None, length, take};
 
 use rv_text::{Failed, Sink, Source};
 
@@ -22,6 +22,16 @@ impl<S: Source> Source for SlowSource<S> {
     }
 }
 
+// The first three bytes, or all where there are fewer.
+fn front(bytes: &[u8]) -> &[u8]
+    ensures within { length result.now ≤ length bytes.now }
+    ensures some { 0 < length bytes.now → 0 < length result.now }
+    ensures prefix { (n : ℕ) → n ≤ length result.now → take n result.now ≡ take n bytes.now }
+{
+    let (front, _) = bytes.split_at(bytes.len().min(3));
+    front
+}
+
 /// Takes three bytes at once at most.
 #[derive(Drop)]
 pub struct SlowSink<S> {
@@ -35,8 +45,7 @@ impl<S: Sink> Sink for SlowSink<S> {
     ghost failures = { λ s. S.failures s.inner };
 
     fn write(&mut self, bytes: &[u8]) -> Result<usize, Failed> {
-        let (front, _) = bytes.split_at(bytes.len().min(3));
-        self.inner.write(front)
+        self.inner.write(front(bytes))
     }
 }
 
