@@ -82,25 +82,42 @@ pub struct FilledSource<'a> {
     pub left: usize,
 }
 
+impl<'a> FilledSource<'a> {
+    // Gives as much of the front as there is room for.
+    fn give_front(&mut self, buffer: &mut [u8]) -> usize
+        ensures { result ≤ length buffer.old }
+    {
+        let n = buffer.len().min(self.front.len());
+        let (given, rest) = self.front.split_at(n);
+        let (room, _) = buffer.split_at_mut(n);
+        room.copy_from_slice(given);
+        self.front = rest;
+        n
+    }
+
+    // Gives as many bytes `x` as there is room for.
+    fn give_rest(&mut self, buffer: &mut [u8]) -> usize
+        ensures { result ≤ length buffer.old }
+    {
+        let n = buffer.len().min(self.left);
+        let (room, _) = buffer.split_at_mut(n);
+        room.fill(b'x');
+        self.left -= n;
+        n
+    }
+}
+
 impl<'a> Source for FilledSource<'a> {
     ghost left = { λ _. None };
 
     ghost failures = { λ _. 0 };
 
     fn read(&mut self, buffer: &mut [u8]) -> Result<usize, Failed> {
-        let n = buffer.len().min(self.front.len());
-        if n > 0 {
-            let (given, rest) = self.front.split_at(n);
-            let (room, _) = buffer.split_at_mut(n);
-            room.copy_from_slice(given);
-            self.front = rest;
-            return Ok(n);
+        if self.front.is_empty() {
+            Ok(self.give_rest(buffer))
+        } else {
+            Ok(self.give_front(buffer))
         }
-        let n = buffer.len().min(self.left);
-        let (room, _) = buffer.split_at_mut(n);
-        room.fill(b'x');
-        self.left -= n;
-        Ok(n)
     }
 }
 

@@ -127,8 +127,7 @@ pub fn check_output<T: Abort, R: Source + Drop>(
     let mut source = source;
     let capacity = output.len().saturating_add(1000);
     let (done, sink) = run_of(alloc, &mut source, capacity)?;
-    assert_eq!(rt; done, Ok(()), "at {input:?}");
-    assert_eq!(rt; sink.bytes(), output, "at {input:?}");
+    assert_eq!(rt; (done, sink.bytes()), (Ok(()), output), "at {input:?}");
     Ok(())
 }
 
@@ -197,8 +196,8 @@ fn long_line_is_answered<T: Abort>(
     let input = long_line(alloc, start, length)?;
     let mut source = MemSource::new(input.as_slice());
     let (done, sink) = run_of(alloc, &mut source, 1000)?;
-    assert_eq!(rt; done, Ok(()), "at {start} and {length}");
-    assert_eq!(rt; sink.bytes(), output.as_bytes(), "at {start} and {length}");
+    let wanted = (Ok(()), output.as_bytes());
+    assert_eq!(rt; (done, sink.bytes()), wanted, "at {start} and {length}");
     Ok(())
 }
 
