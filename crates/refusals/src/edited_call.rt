@@ -31,28 +31,22 @@ listing 2
 faults 0
 ";
 
-// And without the first edit, the second or the third.
+// What is shown of a text that only defines the symbol.
+const SYMBOL_ALONE: &str = ".text 0x00000000 0
+.rodata 0x00000000 0
+.data 0x00000000 0
+.bss 0x00000000 0
+symbols 1
+1 equ 2 N
+listing 1
+    1 00000000                   .equ N, 2
+faults 0
+";
+
+// What is shown without the first edit, the second or the third.
 const EDITED_WITHOUT: [&str; 3] = [
-    ".text 0x00000000 0
-.rodata 0x00000000 0
-.data 0x00000000 0
-.bss 0x00000000 0
-symbols 1
-1 equ 2 N
-listing 1
-    1 00000000                   .equ N, 2
-faults 0
-",
-    ".text 0x00000000 0
-.rodata 0x00000000 0
-.data 0x00000000 0
-.bss 0x00000000 0
-symbols 1
-1 equ 2 N
-listing 1
-    1 00000000                   .equ N, 2
-faults 0
-",
+    SYMBOL_ALONE,
+    SYMBOL_ALONE,
     ".text 0x00000000 4
 00000000: 13 05 15 00
 .rodata 0x00001000 0
