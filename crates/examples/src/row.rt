@@ -1,7 +1,8 @@
-//! The parts of a row.
+//! The parts of a row, and the texts of answers.
 
 use rv_text::{digits, number};
 use std::alloc::Global;
+use std::fmt::{Debug, Display};
 use std::test::Fail;
 
 /// The first word of a text, and what stands behind the space after it.
@@ -27,4 +28,60 @@ pub fn bytes_of(alloc: Global, pairs: &str) -> Result<Vec<u8>, Fail> {
         bytes.push(u8::try_from(byte)?)?;
     }
     Ok(bytes)
+}
+
+/// The pairs of hexadecimal digits of bytes.
+pub fn pairs_of(alloc: Global, bytes: &[u8]) -> Result<String, Fail> {
+    let mut pairs = String::new(alloc);
+    for byte in bytes {
+        pairs.push_str(format!(in alloc; "{byte:02x}")?.as_str())?;
+    }
+    Ok(pairs)
+}
+
+/// The text of bytes.
+pub fn text_of(alloc: Global, bytes: &[u8]) -> Result<String, Fail> {
+    Ok(String::from_str(alloc, str::from_utf8(bytes)?)?)
+}
+
+/// A text without the quotes around it. One that is empty, or has spaces at its ends, stands in quotes in a row.
+pub fn unquoted(text: &str) -> &str {
+    text.trim_matches('"')
+}
+
+// Appends what comes up to the next `{`: `3 ab}c` is `abababc`, and a text without `}` is itself.
+fn push_part(whole: &mut String, part: &str) -> Result<(), Fail> {
+    let Some((repeated, plain)) = part.split_once("}") else {
+        return Ok(whole.push_str(part)?);
+    };
+    let (times, text) = parts_of(repeated);
+    for _ in 0..number_of(times)? {
+        whole.push_str(text)?;
+    }
+    Ok(whole.push_str(plain)?)
+}
+
+/// A text in which `{3 ab}` stands for `ababab`.
+pub fn unfolded(alloc: Global, text: &str) -> Result<String, Fail> {
+    let mut whole = String::new(alloc);
+    for part in text.split("{") {
+        push_part(&mut whole, part)?;
+    }
+    Ok(whole)
+}
+
+/// What there is, or `none`.
+pub fn shown<T: Display + Drop>(alloc: Global, value: Option<T>) -> Result<String, Fail> {
+    match value {
+        Some(value) => Ok(format!(in alloc; "{value}")?),
+        None => Ok(String::from_str(alloc, "none")?),
+    }
+}
+
+/// The name of what there is, or `none`.
+pub fn named<T: Debug + Drop>(alloc: Global, value: Option<T>) -> Result<String, Fail> {
+    match value {
+        Some(value) => Ok(format!(in alloc; "{value:?}")?),
+        None => Ok(String::from_str(alloc, "none")?),
+    }
 }

@@ -1,0 +1,273 @@
+//! Instructions and their encodings.
+
+use crate::operations::operation_of;
+use crate::row::{pairs_of, parts_of, shown};
+use rv_code::{Fields, Ins, Word, decode16, decode32, encode, in_class, word_of};
+use rv_ops::{
+    Op, Reg, RegisterClass, Shape, TABLE, TableRow, first_named, fixed, is_full, mask, name_of,
+    shape,
+};
+use rv_text::digits;
+use std::alloc::{AllocError, Global};
+use std::test::Fail;
+
+fn register_of(number: &str) -> Result<Reg, Fail> {
+    let Some(register) = Reg::new(number.parse::<u8>()?) else {
+        return Err(Fail::new("a number of no register"));
+    };
+    Ok(register)
+}
+
+// The operation and the fields of a row: a name, rd, rs1, rs2 and the value.
+fn operation_with_fields(arguments: &str) -> Result<(Op, Fields), Fail> {
+    let (name, rest) = parts_of(arguments);
+    let (rd, rest) = parts_of(rest);
+    let (rs1, rest) = parts_of(rest);
+    let (rs2, value) = parts_of(rest);
+    let fields = Fields {
+        rd: register_of(rd)?,
+        rs1: register_of(rs1)?,
+        rs2: register_of(rs2)?,
+        value: value.parse::<i32>()?,
+    };
+    Ok((operation_of(name)?, fields))
+}
+
+// Whether the constructor of the operation's shape, where there is one, makes this instruction.
+fn is_made(ins: &Ins, op: Op, fields: &Fields) -> bool {
+    let (rd, rs1, rs2) = (fields.rd, fields.rs1, fields.rs2);
+    match shape(op) {
+        Shape::Register => Ins::register(op, rd, rs1, rs2) == *ins,
+        Shape::Immediate => Ins::immediate(op, rd, rs1, i64::from(fields.value)) == Some(*ins),
+        _ => true,
+    }
+}
+
+fn decode(word: Word) -> Option<Ins> {
+    match word {
+        Word::Half(number) => decode16(number),
+        Word::Full(number) => decode32(number),
+    }
+}
+
+// Whether a word has the operation's length and its fixed bits.
+fn is_of_operation(word: Word, op: Op) -> bool {
+    match word {
+        Word::Half(number) => !is_full(op) && u32::from(number) & mask(op) == fixed(op),
+        Word::Full(number) => is_full(op) && number & mask(op) == fixed(op),
+    }
+}
+
+// Whether each other way leads from the fields to the word and back.
+fn is_both_ways(ins: &Ins, op: Op, fields: &Fields, word: Word) -> bool {
+    is_made(ins, op, fields)
+        && word_of(op, fields) == word
+        && is_of_operation(word, op)
+        && decode(word) == Some(*ins)
+        && (ins.op(), *ins.fields()) == (op, *fields)
+}
+
+fn word_text(alloc: Global, word: Word) -> Result<String, Fail> {
+    match word {
+        Word::Half(number) => Ok(format!(in alloc; "{number:04x}")?),
+        Word::Full(number) => Ok(format!(in alloc; "{number:08x}")?),
+    }
+}
+
+/// The word of an operation with fields that it takes, which is the same on each way to it, and decodes to them.
+pub fn encoding(alloc: Global, arguments: &str) -> Result<String, Fail> {
+    let (op, fields) = operation_with_fields(arguments)?;
+    let Some(ins) = Ins::try_new(op, fields) else {
+        return Ok(String::from_str(alloc, "no instruction")?);
+    };
+    let word = encode(&ins);
+    if !is_both_ways(&ins, op, &fields, word) {
+        return Ok(String::from_str(alloc, "another word on another way")?);
+    }
+    word_text(alloc, word)
+}
+
+/// Whether an operation takes fields.
+pub fn is_taken(alloc: Global, arguments: &str) -> Result<String, Fail> {
+    let (op, fields) = operation_with_fields(arguments)?;
+    let is_taken = Ins::try_new(op, fields).is_some();
+    Ok(format!(in alloc; "{is_taken}")?)
+}
+
+/// Whether an operation of the shape `rd, rs1, value` takes a value, where a register stands for both.
+pub fn is_taken_immediate(alloc: Global, arguments: &str) -> Result<String, Fail> {
+    let (name, rest) = parts_of(arguments);
+    let (register, value) = parts_of(rest);
+    let (op, register) = (operation_of(name)?, register_of(register)?);
+    let value = value.parse::<i64>()?;
+    match shape(op) {
+        Shape::Immediate => {
+            let is_taken = Ins::immediate(op, register, register, value).is_some();
+            Ok(format!(in alloc; "{is_taken}")?)
+        }
+        _ => Err(Fail::new("an operation of another shape")),
+    }
+}
+
+// The word that four or eight hexadecimal digits spell.
+fn word_of_digits(text: &str) -> Result<Word, Fail> {
+    let Some(number) = digits(16, text.as_bytes()) else {
+        return Err(Fail::new("a word that is no hexadecimal digits"));
+    };
+    if text.len() == 4 {
+        Ok(Word::Half(u16::try_from(number)?))
+    } else {
+        Ok(Word::Full(u32::try_from(number)?))
+    }
+}
+
+fn instruction_text(alloc: Global, ins: &Ins) -> Result<String, AllocError> {
+    let name = name_of(ins.op());
+    let fields = ins.fields();
+    let (rd, rs1, rs2) = (fields.rd.number(), fields.rs1.number(), fields.rs2.number());
+    let value = fields.value;
+    format!(in alloc; "{name} {rd} {rs1} {rs2} {value}")
+}
+
+/// The instruction of a word, behind which a row may say what it is: its name, rd, rs1, rs2 and the value.
+pub fn decoding(alloc: Global, arguments: &str) -> Result<String, Fail> {
+    let (word, _remark) = parts_of(arguments);
+    match decode(word_of_digits(word)?) {
+        Some(ins) => Ok(instruction_text(alloc, &ins)?),
+        None => Ok(String::from_str(alloc, "none")?),
+    }
+}
+
+/// The bytes of a word as they stand in memory.
+pub fn bytes_in_memory(alloc: Global, arguments: &str) -> Result<String, Fail> {
+    pairs_of(alloc, word_of_digits(arguments)?.bytes().as_slice())
+}
+
+// The classes of registers by their names.
+const CLASSES: [(RegisterClass, &str); 6] = [
+    (RegisterClass::Absent, "Absent"),
+    (RegisterClass::Any, "Any"),
+    (RegisterClass::NotZero, "NotZero"),
+    (RegisterClass::NotSp, "NotSp"),
+    (RegisterClass::Prime, "Prime"),
+    (RegisterClass::Set, "Set"),
+];
+
+fn has_number(class: RegisterClass, number: u8) -> bool {
+    Reg::new(number).is_some_and(|register| in_class(class, register))
+}
+
+/// The registers of a class, as bits.
+pub fn registers_of_class(alloc: Global, arguments: &str) -> Result<String, Fail> {
+    let Some(class) = first_named(&CLASSES, arguments.as_bytes()) else {
+        return Err(Fail::new("a name of no class"));
+    };
+    let mut bits: u32 = 0;
+    for number in 0..32u8 {
+        bits |= u32::from(has_number(class, number)).wrapping_shl(u32::from(number));
+    }
+    Ok(format!(in alloc; "{bits:08x}")?)
+}
+
+// Whether a row of a script encodes the operation of a name.
+fn is_encoded(script: &str, name: &str) -> bool {
+    script.lines().any(|row| {
+        let (call, arguments) = parts_of(row);
+        call == "encode" && parts_of(arguments).0 == name
+    })
+}
+
+// The name of the first operation that no row of a script encodes.
+fn first_not_encoded(script: &str, table: &[TableRow]) -> Option<&'static str> {
+    for entry in table {
+        if !is_encoded(script, entry.1) {
+            return Some(entry.1);
+        }
+    }
+    None
+}
+
+/// The first operation that no row of the script encodes.
+pub fn operation_not_encoded(alloc: Global, script: &str) -> Result<String, Fail> {
+    shown(alloc, first_not_encoded(script, &TABLE))
+}
+
+// FNV-1a, of 64 bits.
+fn digest(from: u64, text: &[u8]) -> u64 {
+    let mut hash = from;
+    for byte in text {
+        hash = (hash ^ u64::from(*byte)).wrapping_mul(0x0000_0100_0000_01b3);
+    }
+    hash
+}
+
+// How many words decode and encode back, and the digest of a line for each word that decodes.
+#[derive(Clone, Copy)]
+struct Sum {
+    count: u32,
+    hash: u64,
+}
+
+// No words yet.
+const NO_WORDS: Sum = Sum {
+    count: 0,
+    hash: 0xcbf2_9ce4_8422_2325,
+};
+
+// The sum goes on with a word and its bytes, if it decodes.
+fn add_word(alloc: Global, sum: Sum, word: Word) -> Result<Sum, AllocError> {
+    let Some(ins) = decode(word) else {
+        return Ok(sum);
+    };
+    let is_same = encode(&ins) == word;
+    let text = instruction_text(alloc, &ins)?;
+    let hash = digest(sum.hash, word.bytes().as_slice());
+    let hash = digest(hash, text.as_str().as_bytes());
+    Ok(Sum {
+        count: sum.count.wrapping_add(u32::from(is_same)),
+        hash: digest(hash, b"\n"),
+    })
+}
+
+fn sum_text(alloc: Global, sum: Sum) -> Result<String, Fail> {
+    Ok(format!(in alloc; "{} {:016x}", sum.count, sum.hash)?)
+}
+
+/// How many of the 65,536 half words decode and encode back, and the digest of their lines.
+pub fn half_words(alloc: Global, _arguments: &str) -> Result<String, Fail> {
+    let mut sum = NO_WORDS;
+    for number in 0..=u16::MAX {
+        sum = add_word(alloc, sum, Word::Half(number))?;
+    }
+    sum_text(alloc, sum)
+}
+
+// The opcodes of the words of 32 bits, and that of the atomic operations, which are none of ours.
+const OPCODES: [u32; 12] = [
+    0x37, 0x17, 0x6f, 0x67, 0x63, 0x03, 0x23, 0x13, 0x33, 0x73, 0x0f, 0x2f,
+];
+
+// A word whose opcode goes through all of them, and whose top seven bits go through the three that operations have
+// and what the number has there.
+fn scattered_word(count: u32, number: u32) -> u32 {
+    let opcode = OPCODES[(count % 12) as usize];
+    let top = match count / 12 % 4 {
+        0 => 0,
+        1 => 0x4000_0000,
+        2 => 0x0200_0000,
+        _ => number & 0xfe00_0000,
+    };
+    number & 0x01ff_ff80 | top | opcode
+}
+
+/// How many of 48,000 scattered words of 32 bits decode and encode back, and the digest of their lines.
+pub fn scattered_words(alloc: Global, _arguments: &str) -> Result<String, Fail> {
+    let mut sum = NO_WORDS;
+    let mut state: u32 = 1;
+    for count in 0..48000 {
+        state = state.wrapping_mul(1664525).wrapping_add(1013904223);
+        let word = scattered_word(count, state ^ (state >> 16));
+        sum = add_word(alloc, sum, Word::Full(word))?;
+    }
+    sum_text(alloc, sum)
+}
