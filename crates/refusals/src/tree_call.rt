@@ -2,8 +2,8 @@
 
 use crate::call::Answer;
 use rv_tree::{Pass, SumTree, TreeError};
-use rv_tree_tests::extent::{Block, Extent};
 use std::alloc::{AllocError, Global};
+use tree_example::extent::{Block, Extent};
 
 /// A call on a tree.
 #[derive(Clone, Copy, Debug, PartialEq, Eq)]

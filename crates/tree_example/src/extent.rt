@@ -1,6 +1,6 @@
 //! Blocks, and how many there are and how long they are together.
 
-ghost use Rattle.rv_tree_tests.specs.Extents.{IsExtent, no_extent, both_extents, extent_laws, extent_of};
+ghost use Rattle.tree_example.specs.Extents.{IsExtent, no_extent, both_extents, extent_laws, extent_of};
 
 use rv_tree::{Joined, Summed};
 

@@ -1,6 +1,6 @@
 -- The pass that cuts blocks.
 use Rattle.std.specs.Prelude.{ℕ, nat_lt, if◌then◌else◌}
-use Rattle.rv_tree_tests.specs.declared.extent.Block.{Block}
+use Rattle.tree_example.specs.declared.extent.Block.{Block}
 
 -- a block of at most so many bytes
 abbrev pub limited : ℕ → Block → Block

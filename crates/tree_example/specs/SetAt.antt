@@ -4,9 +4,9 @@ use Rattle.std.proofs.Common.{arith, inl, inr, refl}
 use Rattle.rv_tree.specs.Sums.{total, AllSums}
 use Rattle.rv_tree.specs.Passes.{Runs}
 use Rattle.rv_tree.specs.PassLaws.{kept_by_parts}
-use Rattle.rv_tree_tests.specs.Extents.{IsExtent, no_extent, both_extents, extent_of, extent_laws}
-use Rattle.rv_tree_tests.specs.declared.extent.Extent.{Extent}
-use Rattle.rv_tree_tests.specs.declared.extent.Block.{Block}
+use Rattle.tree_example.specs.Extents.{IsExtent, no_extent, both_extents, extent_of, extent_laws}
+use Rattle.tree_example.specs.declared.extent.Extent.{Extent}
+use Rattle.tree_example.specs.declared.extent.Block.{Block}
 
 -- the block x behind b becomes y: at the place one of that size, and elsewhere the block itself
 pub record IsSet (place size : ℕ) (b : Extent) (x y : Block) : Type 0 where

@@ -2,8 +2,8 @@
 use Rattle.std.specs.Prelude.{◌≡◌, ℕ, ◌+◌, ◌-◌, ◌%◌, ◌<◌, ◌^◌, min}
 use Rattle.std.proofs.Common.{arith}
 use Rattle.rv_tree.specs.Sums.{JoinLaws}
-use Rattle.rv_tree_tests.specs.declared.extent.Extent.{Extent}
-use Rattle.rv_tree_tests.specs.declared.extent.Block.{Block}
+use Rattle.tree_example.specs.declared.extent.Extent.{Extent}
+use Rattle.tree_example.specs.declared.extent.Block.{Block}
 
 abbrev pub extent : ℕ → ℕ → Extent
 extent count size = record { count = count; size = size }

@@ -1,8 +1,8 @@
 use Rattle.std.proofs.Common.{arith}
 use Rattle.std.proofs.lemmas.Result.{IfOk-weaker, on_err_weaker}
-use Rattle.rv_tree_tests.specs.Counted.{limited}
-use Rattle.rv_tree_tests.proofs.CountedRuns.{counted_run, counted_stop}
-use Rattle.rv_tree_tests.proofs.counted.cut_blocks.Goals as goal
+use Rattle.tree_example.specs.Counted.{limited}
+use Rattle.tree_example.proofs.CountedRuns.{counted_run, counted_stop}
+use Rattle.tree_example.proofs.counted.cut_blocks.Goals as goal
 
 pub returns-clause-items : goal.returns-clause-items
 returns-clause-items c =

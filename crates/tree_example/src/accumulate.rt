@@ -1,7 +1,7 @@
 //! A pass that replaces every block.
 
 ghost use Rattle.std.specs.Prelude.{◌≡◌};
-ghost use Rattle.rv_tree_tests.specs.Accumulate.{with_before};
+ghost use Rattle.tree_example.specs.Accumulate.{with_before};
 
 use crate::extent::{Block, Extent};
 use rv_tree::Pass;

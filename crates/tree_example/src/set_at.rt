@@ -1,7 +1,7 @@
 //! A pass that replaces one block, and skips every part without it.
 
 ghost use Rattle.std.specs.Prelude.{◌≡◌, ◌+◌};
-ghost use Rattle.rv_tree_tests.specs.SetAt.{IsSet, IsApart, set_at_kept};
+ghost use Rattle.tree_example.specs.SetAt.{IsSet, IsApart, set_at_kept};
 
 use crate::extent::{Block, Extent};
 use rv_tree::Pass;

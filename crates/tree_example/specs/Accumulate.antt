@@ -1,7 +1,7 @@
 -- The pass that adds what stands before.
 use Rattle.std.specs.Prelude.{◌+◌, ◌%◌, ◌^◌}
-use Rattle.rv_tree_tests.specs.declared.extent.Extent.{Extent}
-use Rattle.rv_tree_tests.specs.declared.extent.Block.{Block}
+use Rattle.tree_example.specs.declared.extent.Extent.{Extent}
+use Rattle.tree_example.specs.declared.extent.Block.{Block}
 
 -- a block with the bytes before it added
 abbrev pub with_before : Extent → Block → Block

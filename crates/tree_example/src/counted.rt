@@ -1,7 +1,7 @@
 //! A pass that counts on a counter of its caller.
 
 ghost use Rattle.std.specs.Prelude.{◌≡◌, ◌+◌, ◌<◌, ◌^◌, length, map, IfOk, OnErr, ◌≤◌};
-ghost use Rattle.rv_tree_tests.specs.Counted.{limited};
+ghost use Rattle.tree_example.specs.Counted.{limited};
 
 use crate::extent::{Block, Extent};
 use rv_tree::{Pass, SumTree, TreeError};
