@@ -5,12 +5,18 @@
 //! A row that is empty or begins with `#` says nothing.
 #![tactic(auto)]
 
+mod defined;
+mod disassembly;
 mod encodings;
 mod expressions;
 mod lines;
 mod operations;
 mod row;
+mod shown;
 mod streams;
+mod table;
+mod table_items;
+mod trees;
 
 use row::parts_of;
 use std::alloc::Global;
@@ -22,6 +28,7 @@ fn answer_of(alloc: Global, script: &str, row: &str) -> Result<String, Fail> {
     let (call, arguments) = parts_of(row);
     match call {
         "operation_not_encoded" => encodings::operation_not_encoded(alloc, script),
+        "operation_without_text" => disassembly::operation_without_text(alloc, script),
         _ => answer_of_line(alloc, call, arguments),
     }
 }
@@ -108,6 +115,41 @@ fn answer_of_encoding(alloc: Global, call: &str, arguments: &str) -> Result<Stri
         "class" => encodings::registers_of_class(alloc, arguments),
         "half_words" => encodings::half_words(alloc, arguments),
         "scattered_words" => encodings::scattered_words(alloc, arguments),
+        _ => answer_of_disassembly(alloc, call, arguments),
+    }
+}
+
+// Of disassembled words.
+fn answer_of_disassembly(alloc: Global, call: &str, arguments: &str) -> Result<String, Fail> {
+    match call {
+        "instruction" => disassembly::instruction(alloc, arguments),
+        "rows" => disassembly::rows(alloc, arguments),
+        "disassembly_error_numbers" => disassembly::error_numbers(alloc),
+        _ => answer_of_shown(alloc, call, arguments),
+    }
+}
+
+// Of what is shown of a table of lines.
+fn answer_of_shown(alloc: Global, call: &str, arguments: &str) -> Result<String, Fail> {
+    match call {
+        "shown" => shown::text(alloc, arguments),
+        "section_bytes" => shown::bytes_of_section(alloc, arguments),
+        "pushed_row" => shown::pushed_row(alloc, arguments),
+        "failing_writer" => shown::failing_writer(alloc, arguments),
+        _ => answer_of_tree(alloc, call, arguments),
+    }
+}
+
+// Of trees.
+fn answer_of_tree(alloc: Global, call: &str, arguments: &str) -> Result<String, Fail> {
+    match call {
+        "tree" => trees::lists(alloc, arguments),
+        "tree_refusals" => trees::refusals(alloc, arguments),
+        "tree_error_numbers" => trees::error_numbers(alloc),
+        "grown_tree" => trees::grown(alloc, arguments),
+        "full_tree" => trees::full(alloc, arguments),
+        "full_tree_length" => trees::full_length(alloc),
+        "skipping_pass" => trees::skipping(alloc, arguments),
         _ => Err(Fail::new("a row that names no call")),
     }
 }

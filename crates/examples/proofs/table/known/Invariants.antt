@@ -1,6 +1,6 @@
 use Rattle.std.proofs.Common.{◌≡◌, length}
-use Rattle.rv_list_tests.specs.Tables.{known}
-use Rattle.rv_list_tests.proofs.table.known.Given as goal
+use Rattle.examples.specs.Tables.{known}
+use Rattle.examples.proofs.table.known.Given as goal
 
 -- the names so far are others
 abbrev pub invariant-names : goal.invariant-names

@@ -1,9 +1,9 @@
-//! Texts that are written out, as views.
+//! Texts whose lines, sections and names are given, as views.
 
 ghost use Rattle.std.specs.Prelude.{◌≡◌, ◌≤◌, ◌<◌, ◌-◌, length, map, get_or};
 ghost use Rattle.rv_layout.specs.Sections.{sections};
 ghost use Rattle.rv_list.specs.Shown.{Shown, shown_line};
-ghost use Rattle.rv_list_tests.specs.Tables.{no_line, no_section, known};
+ghost use Rattle.examples.specs.Tables.{no_line, no_section, known};
 
 use crate::defined::Defined;
 use rv_fix::Coded;
@@ -13,25 +13,25 @@ use rv_stmt::Stmt;
 
 /// A line with what is shown of it.
 #[derive(Drop)]
-pub struct Row {
-    pub text: &'static str,
+pub struct Row<'a> {
+    pub text: &'a str,
     pub stmt: Stmt,
     pub place: LinePlace,
     pub code: Coded,
     pub ghost few: { length stmt.labels ≤ 1000 },
 }
 
-/// A text that is written out.
+/// A text whose lines, sections and names are given.
 #[derive(Drop)]
-pub struct Table {
-    pub rows: Vec<Row>,
+pub struct Table<'a> {
+    pub rows: Vec<Row<'a>>,
     pub sections: [SectionPlace; SECTIONS],
-    pub names: &'static [Defined],
+    pub names: Vec<Defined<'a>>,
     pub ghost few: { length rows.items ≤ 16384 },
 }
 
 // Where a name is defined, and its value.
-fn known(mut names: &[Defined], name: &[u8]) -> (DefinitionPlace, Option<i64>)
+fn known(mut names: &[Defined<'_>], name: &[u8]) -> (DefinitionPlace, Option<i64>)
     ensures { result ≡ known names.entry.now name.now }
 {
     'names: while let [first, later @ ..] = names {
@@ -43,13 +43,13 @@ fn known(mut names: &[Defined], name: &[u8]) -> (DefinitionPlace, Option<i64>)
     (DefinitionPlace::Nowhere, None)
 }
 
-impl View for Table {
+impl<'a> View for Table<'a> {
     ghost shown = { λ t. record {
       count = length t.rows.items;
       line = λ k. get_or (map (λ r. record { text = r.text.now; stmt = r.stmt; place = r.place; code = r.code }) t.rows.items) (k - 1) no_line;
       section = λ s. get_or t.sections s no_section;
-      definition = λ name. (known t.names.now name).0;
-      value = λ name. (known t.names.now name).1;
+      definition = λ name. (known t.names.items name).0;
+      value = λ name. (known t.names.items name).1;
     } };
 
     fn line_count(&self) -> u32 {
@@ -71,10 +71,10 @@ impl View for Table {
     }
 
     fn definition(&self, name: &[u8]) -> DefinitionPlace {
-        known(self.names, name).0
+        known(self.names.as_slice(), name).0
     }
 
     fn value(&self, name: &[u8]) -> Option<i64> {
-        known(self.names, name).1
+        known(self.names.as_slice(), name).1
     }
 }

@@ -6,7 +6,7 @@ use Rattle.rv_list.specs.declared.view.DefinitionPlace.{DefinitionPlace}
 use Rattle.rv_list.specs.declared.view.DefinitionPlace.TheVariants.{Nowhere}
 use Rattle.rv_list.specs.declared.view.SectionPlace.{SectionPlace}
 use Rattle.rv_list.specs.Shown.{ShownLine}
-use Rattle.rv_list_tests.specs.declared.defined.Defined.{Defined}
+use Rattle.examples.specs.declared.defined.Defined.{Defined}
 
 -- what stands past the end
 abbrev pub no_line : ShownLine
