@@ -5,14 +5,18 @@
 //! A row that is empty or begins with `#` says nothing.
 #![tactic(auto)]
 
+mod codes;
 mod defined;
 mod disassembly;
 mod encodings;
 mod expressions;
+mod layouts;
 mod lines;
 mod operations;
 mod row;
 mod shown;
+mod statement_text;
+mod statements;
 mod streams;
 mod table;
 mod table_items;
@@ -115,6 +119,43 @@ fn answer_of_encoding(alloc: Global, call: &str, arguments: &str) -> Result<Stri
         "class" => encodings::registers_of_class(alloc, arguments),
         "half_words" => encodings::half_words(alloc, arguments),
         "scattered_words" => encodings::scattered_words(alloc, arguments),
+        _ => answer_of_statement(alloc, call, arguments),
+    }
+}
+
+// Of statements and what they stand for.
+fn answer_of_statement(alloc: Global, call: &str, arguments: &str) -> Result<String, Fail> {
+    match call {
+        "statement" => statements::statement(alloc, arguments),
+        "statement_of_bytes" => statements::statement_of_bytes(alloc, arguments),
+        "words" => statements::words(alloc, arguments),
+        "expansion" => statements::expansion(alloc, arguments),
+        "value_parts" => statements::value_parts(alloc, arguments),
+        _ => answer_of_layout(alloc, call, arguments),
+    }
+}
+
+// Of the shapes and places of lines.
+fn answer_of_layout(alloc: Global, call: &str, arguments: &str) -> Result<String, Fail> {
+    match call {
+        "shape" => layouts::shape(alloc, arguments),
+        "end" => layouts::end(alloc, arguments),
+        "filled_end" => layouts::filled_end(alloc, arguments),
+        "bases" => layouts::bases(alloc, arguments),
+        "joined" => layouts::joined(alloc, arguments),
+        _ => answer_of_code(alloc, call, arguments),
+    }
+}
+
+// Of the values and codes of lines.
+fn answer_of_code(alloc: Global, call: &str, arguments: &str) -> Result<String, Fail> {
+    match call {
+        "assemble" => codes::assemble(alloc, arguments),
+        "values" => codes::values(alloc, arguments),
+        "same_values" => codes::same_values(alloc, arguments),
+        "code" => codes::code(alloc, arguments),
+        "same_codes" => codes::same_codes(alloc, arguments),
+        "error_number" => codes::error_number(alloc, arguments),
         _ => answer_of_disassembly(alloc, call, arguments),
     }
 }

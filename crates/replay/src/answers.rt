@@ -1,6 +1,6 @@
 //! What the questions of a script are answered.
 
-use rv_fix_tests::code_text::text_of;
+use code_text::text_of;
 use rv_store::{Changed, EditError, Store, SymValue};
 use rv_text::number;
 use std::alloc::{AllocError, Global};

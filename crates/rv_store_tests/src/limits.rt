@@ -4,7 +4,7 @@
 ghost use Rattle.std.specs.Prelude.{◌≡◌};
 
 use crate::lines::{address, append, delete, insert, replace, symbol};
-use rv_fix_tests::code_text::text_of;
+use code_text::text_of;
 use rv_list::write_faults;
 use rv_store::{Changed, EditError, MAX_LINES, Store, SymValue};
 use rv_text::{MemSink, Tally};

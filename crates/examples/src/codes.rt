@@ -1,0 +1,168 @@
+//! The values of operands, and the bytes and the fault of lines.
+
+ghost use Rattle.std.specs.Prelude.{Ok, pos};
+
+use crate::row::{number_of, parts_of};
+use crate::statements::statement_of_line;
+use code_text::text_of;
+use rv_expr::{Direction, LabelReference, Names, ValueFault};
+use rv_fix::{AssembleError, Coded, FixError, Values, assemble_at, encode_line, operand_values};
+use rv_stmt::{Stmt, StmtError};
+use rv_text::{Fault, FaultNumber, Span, Tally};
+use std::alloc::Global;
+use std::test::Fail;
+
+/// `assemble ADDRESS LINE`: the bytes and the fault of the line by itself, or why it has none.
+pub fn assemble(alloc: Global, arguments: &str) -> Result<String, Fail> {
+    let (address, line) = parts_of(arguments);
+    let address = number_of(address)?;
+    if line.len() > 1000 {
+        return Err(Fail::new("a line that is too long"));
+    }
+    match assemble_at(alloc, line.as_bytes(), address) {
+        Ok(coded) => text_of(alloc, &coded),
+        Err(error) => Ok(format!(in alloc; "{error:?}")?),
+    }
+}
+
+// What each symbol, each local label and the label of `%pcrel_lo` gives. `.` is the line's address.
+#[derive(Drop)]
+struct Given {
+    symbol: i64,
+    local: i64,
+    paired_high: i64,
+}
+
+impl Names for Given {
+    ghost environment = { λ n here. record {
+      symbol = λ name. Ok n.symbol;
+      local = λ number direction. Ok n.local;
+      here = Ok (pos here);
+      paired_high = λ label. Ok n.paired_high;
+    } };
+
+    fn symbol(&self, _here: u32, _name: &[u8]) -> Result<i64, ValueFault> {
+        Ok(self.symbol)
+    }
+
+    fn local(&self, _here: u32, _number: u16, _direction: Direction) -> Result<i64, ValueFault> {
+        Ok(self.local)
+    }
+
+    fn here(&self, here: u32) -> Result<i64, ValueFault> {
+        Ok(i64::from(here))
+    }
+
+    fn paired_high(&self, _here: u32, _label: &LabelReference) -> Result<i64, ValueFault> {
+        Ok(self.paired_high)
+    }
+}
+
+const GIVEN: Given = Given {
+    symbol: 5000,
+    local: 0x2000,
+    paired_high: 0x12345FFF,
+};
+
+// The values of a statement on a line at an address. At most one is counted for each operand.
+fn values_of(alloc: Global, stmt: &Stmt, address: u32) -> Result<Values, Fail> {
+    let mut tally = Tally::new();
+    let values = operand_values(alloc, stmt, &GIVEN, address, &mut tally)?;
+    if tally.valued_calls() as usize > stmt.body.operands().len() {
+        return Err(Fail::new("more values counted than there are"));
+    }
+    Ok(values)
+}
+
+// The code with these values. One line encoded is counted, and nothing else.
+fn encoded(alloc: Global, stmt: &Stmt, values: &Values) -> Result<Coded, Fail> {
+    let mut tally = Tally::new();
+    let coded = encode_line(alloc, stmt, values, &mut tally)?;
+    if tally.encoded_calls() != 1 || tally.valued_calls() != 0 || tally.parsed_calls() != 0 {
+        return Err(Fail::new("another count than one line encoded"));
+    }
+    Ok(coded)
+}
+
+/// `values ADDRESS LINE`: the values of the operands, and the code with these values.
+pub fn values(alloc: Global, arguments: &str) -> Result<String, Fail> {
+    let (address, line) = parts_of(arguments);
+    let stmt = statement_of_line(alloc, line.as_bytes())?;
+    let values = values_of(alloc, &stmt, number_of(address)?)?;
+    let coded = encoded(alloc, &stmt, &values)?;
+    let code = text_of(alloc, &coded)?;
+    let entries = values.entries();
+    Ok(format!(in alloc; "{entries:?} {code}")?)
+}
+
+// The values of a line at 0x1002.
+fn values_of_line(alloc: Global, line: &str) -> Result<Values, Fail> {
+    let stmt = statement_of_line(alloc, line.as_bytes())?;
+    values_of(alloc, &stmt, 0x1002)
+}
+
+/// `same_values LINE; LINE`: whether two lines have the same values.
+pub fn same_values(alloc: Global, lines: &str) -> Result<String, Fail> {
+    let Some((left, right)) = lines.split_once("; ") else {
+        return Err(Fail::new("a row without two lines"));
+    };
+    let left = values_of_line(alloc, left)?;
+    let right = values_of_line(alloc, right)?;
+    let same = left.is_same(&right);
+    Ok(format!(in alloc; "{same}")?)
+}
+
+// A fault from a place on.
+fn fault_from(from: u32) -> Fault {
+    Fault {
+        number: FaultNumber::Range,
+        span: Span { from, to: 9 },
+    }
+}
+
+// The code of `nop`, of a count of bytes of padding in `.text` or elsewhere, or of a fault from a place on.
+fn code_of(alloc: Global, arguments: &str) -> Result<Coded, Fail> {
+    let (form, argument) = parts_of(arguments);
+    match form {
+        "nop" => Ok(assemble_at(alloc, b"nop", 0)?),
+        "text_padding" => Ok(Coded::padding(true, number_of(argument)?)),
+        "zero_padding" => Ok(Coded::padding(false, number_of(argument)?)),
+        "fault" => Ok(Coded::faulty(fault_from(number_of(argument)?))),
+        _ => Err(Fail::new("a word that names no code")),
+    }
+}
+
+/// `code CODE`: its bytes and its fault.
+pub fn code(alloc: Global, arguments: &str) -> Result<String, Fail> {
+    let coded = code_of(alloc, arguments)?;
+    text_of(alloc, &coded)
+}
+
+// Whether the first is the same as the second, and the second as the first.
+fn text_of_sameness(alloc: Global, left: &Coded, right: &Coded) -> Result<String, Fail> {
+    let same = left.is_same(right);
+    let same_back = right.is_same(left);
+    Ok(format!(in alloc; "{same} {same_back}")?)
+}
+
+/// `same_codes CODE; CODE`: whether the first is the same as the second, and the second as the first.
+pub fn same_codes(alloc: Global, codes: &str) -> Result<String, Fail> {
+    let Some((left, right)) = codes.split_once("; ") else {
+        return Err(Fail::new("a row without two codes"));
+    };
+    let left = code_of(alloc, left)?;
+    let right = code_of(alloc, right)?;
+    text_of_sameness(alloc, &left, &right)
+}
+
+/// `error_number ERROR`: the number of a refusal.
+pub fn error_number(alloc: Global, error: &str) -> Result<String, Fail> {
+    let number = match error {
+        "StmtError::Memory" => StmtError::Memory.number(),
+        "FixError::Memory" => FixError::Memory.number(),
+        "AssembleError::Names" => AssembleError::Names.number(),
+        "AssembleError::Memory" => AssembleError::Memory.number(),
+        _ => return Err(Fail::new("a word that names no error")),
+    };
+    Ok(format!(in alloc; "{number}")?)
+}
