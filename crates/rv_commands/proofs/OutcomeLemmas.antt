@@ -1,5 +1,5 @@
 -- From one read to the next, and how a run ends.
-use Rattle.std.proofs.Common.{◌≡◌, ℕ, ◌+◌, ◌-◌, ◌<◌, ◌≤◌, List, [], ◌∷◌, ◌++◌, length, take, Option, refl, ap, sym, ◌∙◌, append_assoc, arith, inl, inr, length-append, Result, Ok, Err}
+use Rattle.std.proofs.Common.{◌≡◌, ℕ, ◌+◌, ◌-◌, ◌<◌, ◌≤◌, List, [], ◌∷◌, ◌++◌, length, take, Option, refl, ap, sym, ◌∙◌, append_assoc, arith, inl, inr, subst, length-append, Result, Ok, Err}
 use Rattle.std.proofs.lemmas.List.{append-nil, length-take-le}
 use Rattle.rv_text.specs.Streams.{before, after, WritesPrefix}
 use Rattle.rv_text.specs.StreamLaws.{after_after, after_none, before_before, before_none}
@@ -40,6 +40,11 @@ whole_answered old new bytes rest t0 t1 a u = ap commands_of a.cut ∙ commands_
 
 pub progress_start : (base : ℕ) (left taken : Option (List ℕ)) → Progress base left left taken taken [] (empty_text base) 0
 progress_start base left taken = record { input = []; read = sym (before_none left); size = refl; answered = answered_none (empty_text base) [] taken; unbroken = refl }
+
+-- the text is empty at first
+pub progress_begin : (text : Text) (left taken : Option (List ℕ)) → text.lines ≡ [] → Progress text.base left left taken taken [] text 0
+progress_begin text left taken none =
+    subst (λ start. Progress text.base left left taken taken [] start 0) (sym (ap (λ lines. record { base = text.base; lines = lines }) none)) (progress_start text.base left taken)
 
 -- a chunk more is read, and its commands are answered
 pub progress_more : (base : ℕ) (l0 l1 l2 t0 t1 t2 : Option (List ℕ)) (p p1 buffer chunk : List ℕ) (text new : Text) (total most n : ℕ) → chunk ≡ take n buffer → Progress base l0 l1 t0 t1 p text total → ReadsChunk l1 l2 buffer most n → Answered text (p ++ chunk) p1 t1 t2 new → IsUnbroken p1 → Progress base l0 l2 t0 t2 p1 new (total + n)

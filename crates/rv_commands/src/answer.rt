@@ -48,7 +48,8 @@ fn answer_change<W: Sink>(
     ensures count { W.failures sink.new ≡ failures_after (W.failures sink.old) result }
 {
     let edited = make_edit(store, edit);
-    answer_edit(block, sink, store.len(), &edited)
+    let len = store.len();
+    answer_edit(block, sink, len, &edited)
 }
 
 // Writes a page after the answers before it.
