@@ -2,22 +2,34 @@
 
 ghost use Rattle.std.specs.Prelude.{◌≡◌};
 
-use crate::answers::place_of;
 use rv_store::{Changed, EditError, Store};
 use rv_text::Tally;
+use script::{number_of, parts_of};
 
-/// An edit of a text.
+/// What an edit does with its line.
 #[derive(Clone, Copy)]
-pub enum Edit<'a> {
-    Append(&'a str),
-    Insert(u32, &'a str),
-    Replace(u32, &'a str),
+pub enum EditKind {
+    Append,
+    Insert(u32),
+    Replace(u32),
     Delete(u32),
 }
 
-/// The first word of a text, and what stands behind the space after it.
-pub fn parts_of(text: &str) -> (&str, &str) {
-    text.split_once(" ").unwrap_or((text, ""))
+/// An edit of a text.
+#[derive(Clone, Copy)]
+pub struct Edit<'a> {
+    pub kind: EditKind,
+    pub line: &'a str,
+}
+
+// What an edit of this name does at a place.
+fn kind_at(name: &str, place: u32) -> Option<EditKind> {
+    match name {
+        "i" => Some(EditKind::Insert(place)),
+        "r" => Some(EditKind::Replace(place)),
+        "d" => Some(EditKind::Delete(place)),
+        _ => None,
+    }
 }
 
 impl<'a> Edit<'a> {
@@ -25,27 +37,30 @@ impl<'a> Edit<'a> {
     pub fn of_row(row: &'a str) -> Option<Edit<'a>> {
         let (name, rest) = parts_of(row);
         if name == "a" {
-            return Some(Edit::Append(rest));
+            let kind = EditKind::Append;
+            return Some(Edit { kind, line: rest });
         }
         let (place, line) = parts_of(rest);
-        let place = place_of(place)?;
-        match name {
-            "i" => Some(Edit::Insert(place, line)),
-            "r" => Some(Edit::Replace(place, line)),
-            "d" => Some(Edit::Delete(place)),
-            _ => None,
-        }
+        let kind = kind_at(name, number_of(place)?)?;
+        Some(Edit { kind, line })
     }
+}
 
-    /// Makes it.
-    pub fn make(self, store: &mut Store, tally: &mut Tally) -> Result<Changed, EditError>
+impl EditKind {
+    /// Makes the edit with this line.
+    pub fn make(
+        self,
+        store: &mut Store,
+        line: &[u8],
+        tally: &mut Tally,
+    ) -> Result<Changed, EditError>
         requires { tally.old ≡ record { parsed = 0; valued = 0; encoded = 0 } }
     {
         match self {
-            Edit::Append(line) => store.insert(store.len() as u32 + 1, line.as_bytes(), tally),
-            Edit::Insert(place, line) => store.insert(place, line.as_bytes(), tally),
-            Edit::Replace(place, line) => store.replace(place, line.as_bytes(), tally),
-            Edit::Delete(place) => store.delete(place, tally),
+            EditKind::Append => store.insert(store.len() as u32 + 1, line, tally),
+            EditKind::Insert(place) => store.insert(place, line, tally),
+            EditKind::Replace(place) => store.replace(place, line, tally),
+            EditKind::Delete(place) => store.delete(place, tally),
         }
     }
 }

@@ -2,12 +2,16 @@
 
 ghost use Rattle.std.specs.Prelude.{◌≡◌};
 
-use crate::answers::{address_text, code_text, place_of, print_answer, symbol_text};
-use crate::edits::{Edit, parts_of};
+use crate::answers::{
+    address_text, base_text, code_text, fault_hash, line_text, print_answer, refusal_numbers,
+    symbol_text, token_count,
+};
+use crate::edits::{Edit, EditKind};
 use rv_list::{ListError, write_faults, write_image, write_listing, write_symbols};
 use rv_store::{EditError, Store};
 use rv_text::{StdSink, Tally};
-use std::alloc::Global;
+use script::{number_in, number_of, parts_of, spelled_bytes};
+use std::alloc::{AllocError, Global};
 use std::io::{self, Write};
 use std::test::Fail;
 
@@ -22,17 +26,10 @@ pub struct Session<'a> {
 // The three numbers of a row.
 fn counts_of(row: &str) -> Option<[u64; 3]> {
     let mut words = row.split_ascii_whitespace();
-    let parsed = place_of(words.next()?)?;
-    let valued = place_of(words.next()?)?;
-    let encoded = place_of(words.next()?)?;
+    let parsed = number_of(words.next()?)?;
+    let valued = number_of(words.next()?)?;
+    let encoded = number_of(words.next()?)?;
     Some([u64::from(parsed), u64::from(valued), u64::from(encoded)])
-}
-
-fn place_in(text: &str) -> Result<u32, Fail> {
-    match place_of(text) {
-        Some(place) => Ok(place),
-        None => Err(Fail::new("a row with a place that is no number")),
-    }
 }
 
 // Writes the image, the symbols, the listing and the faults.
@@ -68,6 +65,27 @@ fn show(rt: &HostRuntime, store: &Store) -> Result<(), Fail> {
     Ok(())
 }
 
+// Prints the faults.
+fn show_faults(rt: &HostRuntime, store: &Store) -> Result<(), Fail> {
+    let mut sink = StdSink::new(io::writer(rt));
+    write_faults(store, &mut sink)?;
+    Ok(())
+}
+
+// A line of the chain, whose symbol is one more than that of the line before.
+fn chain_line(alloc: Global, place: u32) -> Result<String, AllocError> {
+    match place.checked_sub(1) {
+        None => format!(in alloc; ".equ n0, 1"),
+        Some(before) => format!(in alloc; ".equ n{place}, n{before} + 1"),
+    }
+}
+
+// Puts a line behind the others.
+fn append(store: &mut Store, line: &str) -> Result<(), EditError> {
+    let _ = EditKind::Append.make(store, line.as_bytes(), &mut Tally::new())?;
+    Ok(())
+}
+
 impl<'a> Session<'a> {
     /// A text without lines.
     pub fn new(alloc: Global, base: u32) -> Result<Session<'a>, EditError> {
@@ -79,24 +97,66 @@ impl<'a> Session<'a> {
         })
     }
 
+    /// Begins a text without lines, and prints the row, with the refusal of its base if that is none.
+    pub fn begin(&mut self, rt: &HostRuntime, row: &str, base: u32) -> Result<(), Fail> {
+        match Session::new(rt.alloc(), base) {
+            Ok(session) => {
+                *self = session;
+                println!(rt; "{row}")?;
+            }
+            Err(error) => println!(rt; "{row} => refused {}", error.number())?,
+        }
+        Ok(())
+    }
+
+    // Makes an edit with this line, and prints what it answers. Whether it found no memory.
+    fn make(
+        &mut self,
+        rt: &HostRuntime,
+        row: &str,
+        kind: EditKind,
+        line: &[u8],
+    ) -> Result<bool, Fail> {
+        let mut tally = Tally::new();
+        let answer = kind.make(&mut self.store, line, &mut tally);
+        self.tally = tally;
+        print!(rt; "{row} => ")?;
+        print_answer(rt, &answer)?;
+        Ok(matches!(answer, Err(EditError::Memory)))
+    }
+
     // Makes an edit, and prints what it answers.
     fn edit(&mut self, rt: &HostRuntime, row: &str, edit: Edit<'a>) -> Result<(), Fail> {
-        let mut tally = Tally::new();
-        let answer = edit.make(&mut self.store, &mut tally);
-        self.tally = tally;
-        self.without_memory = match answer {
-            Err(EditError::Memory) => Some(edit),
-            _ => None,
+        let is_without_memory = self.make(rt, row, edit.kind, edit.line.as_bytes())?;
+        self.without_memory = is_without_memory.then_some(edit);
+        Ok(())
+    }
+
+    // Makes an edit whose line is spelled, and prints what it answers.
+    fn edit_spelled(&mut self, rt: &HostRuntime, row: &str, edit: &str) -> Result<(), Fail> {
+        let Some(edit) = Edit::of_row(edit) else {
+            return Err(Fail::new("a spelled row that is no edit"));
         };
-        print!(rt; "{row} => ")?;
-        print_answer(rt, &answer)
+        let line = spelled_bytes(rt.alloc(), edit.line)?;
+        let _ = self.make(rt, row, edit.kind, line.as_slice())?;
+        Ok(())
     }
 
     // Puts a line behind the others so many times, and prints how many lines there are then.
     fn repeat(&mut self, rt: &HostRuntime, row: &str, repeated: &str) -> Result<(), Fail> {
         let (count, line) = parts_of(repeated);
-        for _ in 0..place_in(count)? {
-            let _ = Edit::Append(line).make(&mut self.store, &mut Tally::new())?;
+        for _ in 0..number_in(count)? {
+            append(&mut self.store, line)?;
+        }
+        println!(rt; "{row} => lines {}", self.store.len())?;
+        Ok(())
+    }
+
+    // Puts a chain of symbols behind the others, and prints how many lines there are then.
+    fn chain(&mut self, rt: &HostRuntime, row: &str, count: &str) -> Result<(), Fail> {
+        for place in 0..number_in(count)? {
+            let line = chain_line(rt.alloc(), place)?;
+            append(&mut self.store, line.as_str())?;
         }
         println!(rt; "{row} => lines {}", self.store.len())?;
         Ok(())
@@ -135,15 +195,28 @@ impl<'a> Session<'a> {
         )?)
     }
 
+    // The answer of a question about a line.
+    fn answer_at(&self, alloc: Global, name: &str, place: u32) -> Result<String, Fail> {
+        match name {
+            "code" => code_text(alloc, &self.store, place),
+            "address" => Ok(address_text(alloc, &self.store, place)?),
+            "line" => Ok(line_text(alloc, &self.store, place)?),
+            "tokens" => token_count(alloc, &self.store, place),
+            _ => Err(Fail::new("a row that is no edit and no question")),
+        }
+    }
+
     // The answer of a question.
     fn answer_text(&self, alloc: Global, question: &str) -> Result<String, Fail> {
         let (name, rest) = parts_of(question);
         match name {
             "counts" => self.counts_text(alloc, rest),
-            "code" => code_text(alloc, &self.store, place_in(rest)?),
-            "address" => Ok(address_text(alloc, &self.store, place_in(rest)?)?),
             "symbol" => Ok(symbol_text(alloc, &self.store, rest)?),
-            _ => Err(Fail::new("a row that is no edit and no question")),
+            "length" => Ok(format!(in alloc; "{}", self.store.len())?),
+            "hash" => fault_hash(alloc, &self.store),
+            "base_ok" => base_text(alloc, rest),
+            "errors" => Ok(refusal_numbers(alloc)?),
+            _ => self.answer_at(alloc, name, number_in(rest)?),
         }
     }
 
@@ -160,9 +233,12 @@ impl<'a> Session<'a> {
             return self.edit(rt, row, edit);
         }
         match parts_of(row) {
+            ("spelled", edit) => self.edit_spelled(rt, row, edit),
             ("repeat", repeated) => self.repeat(rt, row, repeated),
+            ("chain", count) => self.chain(rt, row, count),
             ("again", _) => self.edit_again(rt, row),
             ("show", _) => show(rt, &self.store),
+            ("faults", _) => show_faults(rt, &self.store),
             _ => self.ask(rt, row),
         }
     }
