@@ -6,8 +6,6 @@ ghost use Rattle.rv_store.specs.Text.{is_base};
 ghost use Rattle.rv_commands.specs.Faults.{run_status};
 
 pub mod arguments;
-#[cfg(test)]
-mod tests;
 
 use arguments::{ArgFault, arguments};
 use rv_commands::{RunError, message, run, status};
