@@ -1,1 +1,2 @@
+pub mod GivenNames
 pub mod Tables

@@ -1,6 +1,6 @@
 //! The values of operands, and the bytes and the fault of lines.
 
-ghost use Rattle.std.specs.Prelude.{Ok, pos};
+ghost use Rattle.examples.specs.GivenNames.{given};
 
 use crate::row::{number_of, parts_of};
 use crate::statements::statement_of_line;
@@ -34,12 +34,7 @@ struct Given {
 }
 
 impl Names for Given {
-    ghost environment = { λ n here. record {
-      symbol = λ name. Ok n.symbol;
-      local = λ number direction. Ok n.local;
-      here = Ok (pos here);
-      paired_high = λ label. Ok n.paired_high;
-    } };
+    ghost environment = { λ n. given n.symbol n.local n.paired_high };
 
     fn symbol(&self, _here: u32, _name: &[u8]) -> Result<i64, ValueFault> {
         Ok(self.symbol)
