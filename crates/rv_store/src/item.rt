@@ -46,4 +46,25 @@ impl Item {
             code: Rc::new(alloc, Coded::padding(false, 0))?,
         })
     }
+
+    /// A line with what was made of it.
+    pub fn made(
+        alloc: Global,
+        line: &Line,
+        shape: Measured,
+        values: LineValues,
+        code: Coded,
+    ) -> Result<Item, AllocError>
+        ensures line { IfOk result (λ item. item.line ≡ line.now) }
+        ensures shape { IfOk result (λ item. item.shape ≡ shape) }
+        ensures values { IfOk result (λ item. item.values.value ≡ values) }
+        ensures code { IfOk result (λ item. item.code.value ≡ code) }
+    {
+        Ok(Item {
+            line: line.share()?,
+            shape,
+            values: Rc::new(alloc, values)?,
+            code: Rc::new(alloc, code)?,
+        })
+    }
 }

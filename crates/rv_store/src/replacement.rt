@@ -19,7 +19,6 @@ use crate::value_rows::{ValueRows, shape_on};
 use rv_text::Count;
 use rv_tree::SumTree;
 use std::alloc::Global;
-use std::rc::Rc;
 
 /// A line with all that is kept of it, by the rows of its text.
 pub fn item_of_line<C: Count>(
@@ -46,12 +45,9 @@ pub fn item_of_line<C: Count>(
     operands_are_few_on(&rows.symbols.text, line);
     let values = rows.values(alloc, line, counter)?;
     let code = rows.code(alloc, line, &values, counter)?;
-    Ok(Item {
-        line: rows.symbols.text.lines.line(line).share()?,
-        shape: shape_on(rows, line),
-        values: Rc::new(alloc, values)?,
-        code: Rc::new(alloc, code)?,
-    })
+    let shape = shape_on(rows, line);
+    let line = rows.symbols.text.lines.line(line);
+    Ok(Item::made(alloc, line, shape, values, code)?)
 }
 
 /// The items of a text with that of line `k` made anew, by the survey of the text, and the report that this line is new.

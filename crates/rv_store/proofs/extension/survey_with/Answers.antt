@@ -1,11 +1,19 @@
 use Rattle.std.proofs.Common.{arith, subst, sym}
 use Rattle.rv_layout.specs.Places.{AreLimited}
-use Rattle.rv_store.proofs.LongerTexts.{count, few-shapes, constants-longer, shapes-longer, counted-longer, counted-few}
+use Rattle.rv_store.proofs.LongerTexts.{count, edited, few-shapes, constants-longer, shapes-longer, counted-longer, counted-few}
 use Rattle.rv_store.proofs.ShapeRows.{limited-push}
 use Rattle.rv_store.proofs.extension.survey_with.Goals as goal
 
+pub constants_with-requires-clause-some : goal.constants_with-requires-clause-some
+constants_with-requires-clause-some g c =
+    omega (arith, count c.args.before.now c.args.lines.now c.requires.before c.requires.longer)
+
 pub constants_with-requires-clause-before : goal.constants_with-requires-clause-before
 constants_with-requires-clause-before g c = constants-longer c.args.before.now c.args.lines.now c.requires.before c.requires.longer
+
+pub returns-in_err-constants-clause-most : goal.returns-in_err-constants-clause-most
+returns-in_err-constants-clause-most g c =
+    omega (arith, count c.args.before.now c.args.lines.now c.requires.before c.requires.longer, c.constants_with.ensures.most)
 
 pub returns-in_err-constants-clause-work : goal.returns-in_err-constants-clause-work
 returns-in_err-constants-clause-work g c =
@@ -17,13 +25,24 @@ shapes_with-requires g c =
     let lines = count c.args.before.now c.args.lines.now c.requires.before c.requires.longer in
     omega (arith, shapes, lines, c.requires.few)
 
+pub returns-in_err-shapes-clause-most : goal.returns-in_err-shapes-clause-most
+returns-in_err-shapes-clause-most g c =
+    omega (arith, count c.args.before.now c.args.lines.now c.requires.before c.requires.longer, c.constants_with.ensures.most)
+
 pub returns-in_err-shapes-clause-work : goal.returns-in_err-shapes-clause-work
 returns-in_err-shapes-clause-work g c =
     counted-few c.args.before.now c.args.lines.now c.requires.before c.requires.longer _ _ c.constants_with.ensures.operands
 
+pub returns-in_err-locals-clause-most : goal.returns-in_err-locals-clause-most
+returns-in_err-locals-clause-most g c =
+    omega (arith, count c.args.before.now c.args.lines.now c.requires.before c.requires.longer, c.constants_with.ensures.most)
+
 pub returns-in_err-locals-clause-work : goal.returns-in_err-locals-clause-work
 returns-in_err-locals-clause-work g c =
     counted-few c.args.before.now c.args.lines.now c.requires.before c.requires.longer _ _ c.constants_with.ensures.operands
+
+pub by_rows-requires-clause-edited : goal.by_rows-requires-clause-edited
+by_rows-requires-clause-edited g c = edited c.args.before.now c.args.lines.now c.requires.before c.requires.longer
 
 pub by_rows-requires-clause-shapes : goal.by_rows-requires-clause-shapes
 by_rows-requires-clause-shapes g c =
@@ -32,6 +51,10 @@ by_rows-requires-clause-shapes g c =
 pub by_rows-requires-clause-limited : goal.by_rows-requires-clause-limited
 by_rows-requires-clause-limited g c =
     subst AreLimited (sym c.in_ok-shapes.ensures) (limited-push c.args.before.now.shapes.now c.args.shape c.requires.limited c.requires.limited_shape)
+
+pub returns-clause-most : goal.returns-clause-most
+returns-clause-most g c =
+    omega (arith, count c.args.before.now c.args.lines.now c.requires.before c.requires.longer, c.constants_with.ensures.most, c.by_rows.ensures.most)
 
 pub returns-clause-work : goal.returns-clause-work
 returns-clause-work g c =

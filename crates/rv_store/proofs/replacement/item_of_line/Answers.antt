@@ -1,0 +1,20 @@
+use Rattle.std.proofs.Common.{arith}
+use Rattle.rv_store.specs.ValueRows.{body_in}
+use Rattle.rv_store.proofs.CountedLines.{value_operands-few}
+use Rattle.rv_store.proofs.replacement.item_of_line.Goals as goal
+
+pub returns-in_err-values-clause-valued_few : goal.returns-in_err-values-clause-valued_few
+returns-in_err-values-clause-valued_few g c =
+    omega (arith, c.values.ensures.most, c.operands_are_few_on.ensures, value_operands-few (body_in c.args.rows.now c.args.line))
+
+pub returns-in_err-code-clause-valued_few : goal.returns-in_err-code-clause-valued_few
+returns-in_err-code-clause-valued_few g c =
+    omega (arith, c.values.ensures.most, c.code.ensures.valued, c.operands_are_few_on.ensures, value_operands-few (body_in c.args.rows.now c.args.line))
+
+pub returns-in_err-made-clause-valued_few : goal.returns-in_err-made-clause-valued_few
+returns-in_err-made-clause-valued_few g c =
+    omega (arith, c.values.ensures.most, c.code.ensures.valued, c.operands_are_few_on.ensures, value_operands-few (body_in c.args.rows.now c.args.line))
+
+pub returns-clause-valued_few : goal.returns-clause-valued_few
+returns-clause-valued_few g c =
+    omega (arith, c.values.ensures.most, c.code.ensures.valued, c.operands_are_few_on.ensures, value_operands-few (body_in c.args.rows.now c.args.line))
