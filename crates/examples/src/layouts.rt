@@ -2,11 +2,11 @@
 
 ghost use Rattle.std.specs.Prelude.{◌≡◌, ◌≤◌, ◌^◌, true};
 ghost use Rattle.rv_layout.specs.Effects.{offset_reached};
-ghost use Rattle.rv_layout.specs.Places.{sum_below, IsBase};
+ghost use Rattle.rv_layout.specs.Places.{sum_below};
 ghost use Rattle.rv_layout.specs.Sections.{sections};
 
 use crate::row::{number_of, parts_of};
-use rv_layout::{Consts, Layout, Measured, bases as bases_of, measure, place};
+use rv_layout::{Consts, Layout, Measured, base_ok, bases as bases_of, measure, place};
 use rv_stmt::{data_are_few, read_line};
 use rv_text::Tally;
 use rv_tree::Joined;
@@ -98,17 +98,10 @@ fn ends_fit(layout: &Layout) -> bool
         && text + rodata + data + bss <= most
 }
 
-// Whether a text can begin there.
-fn is_base(base: u32) -> bool
-    ensures { result ≡ true → IsBase base }
-{
-    base % 4096 == 0 && base <= 0x8000_0000
-}
-
 // The section and the address of what comes after some lines.
 fn text_of_end(alloc: Global, layout: &Layout, base: &str) -> Result<String, Fail> {
     let base = number_of(base)?;
-    if !ends_fit(layout) || !is_base(base) {
+    if !ends_fit(layout) || !base_ok(base) {
         return Err(Fail::new("a text that is too long, or a base that is none"));
     }
     let section = layout.section();
@@ -146,7 +139,7 @@ pub fn bases(alloc: Global, arguments: &str) -> Result<String, Fail> {
     let (base, text) = parts_of(arguments);
     let base = number_of(base)?;
     let layout = layout_of(alloc, &NONE, text)?;
-    if !ends_fit(&layout) || !is_base(base) {
+    if !ends_fit(&layout) || !base_ok(base) {
         return Err(Fail::new("a text that is too long, or a base that is none"));
     }
     let bases = bases_of(&layout, base);

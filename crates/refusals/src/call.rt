@@ -15,6 +15,8 @@ pub enum Call {
     Values,
     Code,
     LineAlone,
+    LineRead,
+    LineWithNames,
     PayloadBytes,
     InstructionText,
     Rows,
@@ -24,7 +26,7 @@ pub enum Call {
 }
 
 /// The calls, by the names that the input gives them.
-pub const CALLS: [(&str, Call); 19] = [
+pub const CALLS: [(&str, Call); 21] = [
     ("tokens", Call::Tokens),
     ("sink", Call::Sink),
     ("items", Call::Items),
@@ -35,6 +37,8 @@ pub const CALLS: [(&str, Call); 19] = [
     ("values", Call::Values),
     ("code", Call::Code),
     ("line_alone", Call::LineAlone),
+    ("line_read", Call::LineRead),
+    ("line_with_names", Call::LineWithNames),
     ("payload_bytes", Call::PayloadBytes),
     ("instruction_text", Call::InstructionText),
     ("rows", Call::Rows),

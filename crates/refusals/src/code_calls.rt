@@ -6,7 +6,7 @@ ghost use Rattle.rv_expr.specs.declared.faults.ValueFault.TheVariants.{Undefined
 use crate::call::Answer;
 use rv_expr::{Direction, LabelReference, Names, ValueFault};
 use rv_fix::{AssembleError, Coded, FixError, Payload, assemble_at, encode_line, operand_values};
-use rv_stmt::read_line;
+use rv_stmt::{StmtError, read_line};
 use rv_text::Tally;
 use std::alloc::Global;
 
@@ -80,6 +80,26 @@ pub fn line_alone(alloc: Global) -> Answer {
         Ok(coded) => Answer::of(is_code(&coded)),
         Err(AssembleError::Memory) => Answer::Refused,
         Err(AssembleError::Names) => Answer::Wrong,
+    }
+}
+
+// A line that uses a name.
+const CALL: &[u8] = b"call f";
+
+/// `read_line` of a line that uses a name.
+pub fn line_read(alloc: Global) -> Answer {
+    match read_line(alloc, CALL, &mut Tally::new()) {
+        Ok(stmt) => Answer::of(stmt.body.operands().len() == 1),
+        Err(StmtError::Memory) => Answer::Refused,
+    }
+}
+
+/// `assemble_at` of it, which makes no request but those to read it.
+pub fn line_with_names(alloc: Global) -> Answer {
+    match assemble_at(alloc, CALL, 0) {
+        Ok(_) => Answer::Wrong,
+        Err(AssembleError::Memory) => Answer::Refused,
+        Err(AssembleError::Names) => Answer::Right,
     }
 }
 

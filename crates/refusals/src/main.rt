@@ -15,7 +15,7 @@ mod text_calls;
 mod tree_call;
 
 use call::{Answer, CALLS, Call};
-use code_calls::{code, line_alone, payload_bytes, values};
+use code_calls::{code, line_alone, line_read, line_with_names, payload_bytes, values};
 use dis_calls::{rows, text_of_instruction};
 use edited_call::edited;
 use list_call::bytes_of_section;
@@ -39,6 +39,8 @@ fn make(alloc: Global, call: Call) -> Answer {
         Call::Values => values(alloc),
         Call::Code => code(alloc),
         Call::LineAlone => line_alone(alloc),
+        Call::LineRead => line_read(alloc),
+        Call::LineWithNames => line_with_names(alloc),
         Call::PayloadBytes => payload_bytes(alloc),
         Call::InstructionText => text_of_instruction(alloc, 0x00b5_0463),
         Call::Rows => rows(alloc),

@@ -5,8 +5,8 @@ use Rattle.rv_text.specs.Streams.{after, Writes, WritesPrefix}
 use Rattle.rv_text.specs.StreamLaws.{after_after, prefix_first, prefix_last}
 use Rattle.rv_store.specs.declared.edit_error.EditError.{EditError}
 use Rattle.rv_store.specs.Text.{Text, Edit, Edits}
-use Rattle.rv_commands.specs.declared.edits.LineEdit.{LineEdit}
-use Rattle.rv_commands.specs.Commands.{edit_of}
+use Rattle.rv_store.specs.declared.edit.LineEdit.{LineEdit}
+use Rattle.rv_store.specs.Edits.{edit_of}
 use Rattle.rv_commands.specs.Edited.{AreEdits}
 
 -- one more edit

@@ -82,7 +82,7 @@ tried_again =
       ),
     )
 
--- the second edit is refused for its place, and the third for want of memory
+-- the second edit is refused for its place, and the third since there is no memory
 edits : AreEdits (empty_text 0) (Insert 1 (codes "x") ∷ Delete 2 ∷ Insert 1 [] ∷ Replace 1 (codes "y") ∷ []) (Ok tt ∷ Err Place ∷ Err Memory ∷ Ok tt ∷ []) (text (codes "y" ∷ []))
 edits =
     let before = text (codes "x" ∷ []) in

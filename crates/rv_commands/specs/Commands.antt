@@ -3,11 +3,10 @@ use Rattle.std.specs.Prelude.{ℕ, nat_le, Bool, ◌==◌, List, length, codes, 
 use Rattle.std.specs.List.{before_first, after_first}
 use Rattle.std.specs.Option.{option_map, option_or}
 use Rattle.rv_text.specs.Numbers.{digits_number}
+use Rattle.rv_store.specs.Edits.{edit_of}
 use Rattle.rv_store.specs.Text.{Edit, Insert, Delete, Replace}
 use Rattle.rv_commands.specs.declared.command.Command.{Command}
 use Rattle.rv_commands.specs.declared.command.Command.TheVariants as command
-use Rattle.rv_commands.specs.declared.edits.LineEdit.{LineEdit}
-use Rattle.rv_commands.specs.declared.edits.LineEdit.TheVariants as edit
 use Rattle.rv_commands.specs.declared.pages.Page.{Page}
 use Rattle.rv_commands.specs.declared.pages.Page.TheVariants.{Image, Listing, Symbols, Faults, Lines}
 
@@ -17,12 +16,6 @@ pub data Request : Type 0 where
   Change : (edit : Edit) → Request
   Show : (page : Page) → Request
   Disassemble : Request
-
--- an edit without where its line lies in memory
-abbrev pub edit_of : LineEdit → Edit
-edit_of (edit.Insert place line) = Insert place line.now
-edit_of (edit.Delete place) = Delete place
-edit_of (edit.Replace place line) = Replace place line.now
 
 -- what a command that was read asks for
 abbrev pub request : Command → Request

@@ -83,7 +83,7 @@ pub record LosesAnswers (old : Text) (bytes : List ℕ) (taken_before : Option (
   pub answers : AreAnswers old commands output new
   pub taken : WritesPrefix taken_before (waiting ++ output) taken_after
 
--- Where gathering stops early: after a whole answer for want of memory, and within one where a write failed.
+-- Where gathering stops early: after a whole answer where memory runs out, and within one where a write failed.
 abbrev pub StopsGathering : AnswerError → Text → List ℕ → Option (List ℕ) → List ℕ → Option (List ℕ) → List ℕ → Type 0
 StopsGathering Write old bytes taken_before waiting_before taken_after waiting_after = LosesAnswers old bytes taken_before waiting_before taken_after
 StopsGathering Memory old bytes taken_before waiting_before taken_after waiting_after =
@@ -110,7 +110,7 @@ pub record StopsAtWrite (old : Text) (bytes : List ℕ) (taken_before taken_afte
   pub answers : AreAnswers old commands (output ++ lost) new
   pub taken : taken_after ≡ after taken_before output
 
--- Where answering stops early: after a whole answer for want of memory, and within one where a write failed.
+-- Where answering stops early: after a whole answer where memory runs out, and within one where a write failed.
 abbrev pub StopsBy : AnswerError → Text → List ℕ → Option (List ℕ) → Option (List ℕ) → Type 0
 StopsBy Write old bytes taken_before taken_after = StopsAtWrite old bytes taken_before taken_after
 StopsBy Memory old bytes taken_before taken_after =

@@ -17,7 +17,7 @@ abbrev pub refused : EditError → List ℕ
 refused reason = numbered (codes "refused ") (refusal_number reason)
 
 -- The answer to an edit and the text afterwards, by the reason that the edit has to be refused, if it has one. Where
--- it has none, want of memory alone may refuse it.
+-- it has none, it is refused only where there is no memory.
 abbrev pub IsEditAnswerBy : Option EditError → Text → Edit → List ℕ → Text → Type 0
 IsEditAnswerBy (Some reason) old edit answer new = (answer ≡ refused reason) × (new ≡ old)
 IsEditAnswerBy None old edit answer new =

@@ -3,7 +3,7 @@
 ghost use Rattle.std.specs.Prelude.{◌≡◌, ◌-◌, ◌^◌, ◌<◌, ◌≤◌};
 ghost use Rattle.rv_text.specs.Streams.{failures_after};
 ghost use Rattle.rv_text.specs.Blocks.{Gathers};
-ghost use Rattle.rv_commands.specs.Commands.{edit_of};
+ghost use Rattle.rv_store.specs.Edits.{edit_of};
 ghost use Rattle.rv_commands.specs.Disassembly.{IsDisassembly};
 ghost use Rattle.rv_commands.specs.Pages.{page_text};
 ghost use Rattle.rv_commands.specs.Steps.{edit_answer, AnswersCommand, GathersAnswer, GathersEditAnswer, GathersOne, failures_by_answer};
@@ -11,10 +11,10 @@ ghost use Rattle.rv_commands.specs.Steps.{edit_answer, AnswersCommand, GathersAn
 use crate::answer_error::AnswerError;
 use crate::command::{Command, read_command};
 use crate::disassembly::{code_rows, push_disassembly};
-use crate::edits::{LineEdit, make_edit};
+use crate::edits::make_edit;
 use crate::numbered::push_numbered;
 use crate::pages::{Page, write_page};
-use rv_store::{EditError, Store};
+use rv_store::{EditError, LineEdit, Store};
 use rv_text::{Failed, OutputBlock, Sink};
 use std::alloc::Global;
 

@@ -4,9 +4,9 @@ ghost use Rattle.std.specs.Prelude.{◌≡◌};
 ghost use Rattle.std.specs.Option.{option_map};
 ghost use Rattle.rv_commands.specs.Commands.{first_word, after_word, place_of, page_of, request_named, change_of, request, request_of};
 
-use crate::edits::LineEdit;
 use crate::pages::Page;
 use memchr::memchr;
+use rv_store::LineEdit;
 use rv_text::digits;
 
 /// What a command asks for.

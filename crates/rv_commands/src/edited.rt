@@ -4,15 +4,15 @@ ghost use Rattle.std.specs.Prelude.{◌≡◌, ◌-◌, ◌^◌, ◌<◌, true, 
 ghost use Rattle.rv_text.specs.Streams.{failures_after, Writes};
 ghost use Rattle.rv_dis.specs.Assembling.{GiveBytes};
 ghost use Rattle.rv_dis.specs.Rows.{Shows};
-ghost use Rattle.rv_store.specs.Text.{is_base};
-ghost use Rattle.rv_commands.specs.Commands.{edit_of};
+ghost use Rattle.rv_layout.specs.Places.{is_base};
+ghost use Rattle.rv_store.specs.Edits.{edit_of};
 ghost use Rattle.rv_commands.specs.Edited.{AreEdits, shown_texts, ShowsEdited};
 
-use crate::edits::{LineEdit, make_edit};
+use crate::edits::make_edit;
 use crate::pages::{Page, write_page};
 use rv_dis::{DisError, DisRow, disassemble};
 use rv_list::ListError;
-use rv_store::{EditError, Store};
+use rv_store::{EditError, LineEdit, Store};
 use rv_text::Sink;
 use std::alloc::Global;
 

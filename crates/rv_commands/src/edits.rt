@@ -1,21 +1,10 @@
 //! Edits of a text.
 
+ghost use Rattle.rv_store.specs.Edits.{edit_of};
 ghost use Rattle.rv_store.specs.Text.{Edits};
-ghost use Rattle.rv_commands.specs.Commands.{edit_of};
 
-use rv_store::{EditError, Store};
+use rv_store::{EditError, LineEdit, Store};
 use rv_text::Tally;
-
-/// A change of a text, at the line of a number from 1 on.
-#[derive(Clone, Copy, Debug)]
-pub enum LineEdit<'a> {
-    /// Make this the line of that number; the lines from there on move down by one.
-    Insert(u32, &'a [u8]),
-    /// Take the line of this number out.
-    Delete(u32),
-    /// Put this in the place of the line of that number.
-    Replace(u32, &'a [u8]),
-}
 
 /// Makes an edit, or says why not.
 pub fn make_edit(store: &mut Store, edit: LineEdit<'_>) -> Result<(), EditError>

@@ -15,6 +15,6 @@ mod run_error;
 mod running;
 
 pub use edited::live_assembler_is_exact;
-pub use edits::LineEdit;
 pub use run_error::{RunError, message, status};
 pub use running::{MAX_INPUT, run};
+pub use rv_store::LineEdit;

@@ -1,7 +1,7 @@
 //! The loop over the input.
 
 ghost use Rattle.std.specs.Prelude.{◌≡◌, ◌-◌, ◌^◌, ◌<◌, true, [], length, OnOk, IfErr};
-ghost use Rattle.rv_store.specs.Text.{is_base};
+ghost use Rattle.rv_layout.specs.Places.{is_base};
 ghost use Rattle.rv_commands.specs.Outcomes.{EndsWell, EndsEarly, IsReadCount, failures_by_write};
 ghost use Rattle.rv_commands.specs.Steps.{Finishes, failures_by_answer};
 

@@ -13,9 +13,9 @@ use Rattle.rv_stmt.specs.declared.operand.Operand.{Operand}
 use Rattle.rv_stmt.specs.declared.operand.Role.TheVariants.{Immediate, SourceImmediate}
 use Rattle.rv_stmt.specs.Draft.{fields}
 use Rattle.rv_stmt.specs.Readings.{Reading}
-use Rattle.rv_stmt.specs.ValueParts.{word_bits}
+use Rattle.rv_stmt.specs.ValueParts.{word_bits, signed_word}
 use Rattle.rv_fix.specs.Alone.{has_names}
-use Rattle.rv_fix.specs.Displacements.{signed_word, displacement}
+use Rattle.rv_fix.specs.Displacements.{displacement}
 use Rattle.rv_fix.specs.Filling.{with_number, filled}
 use Rattle.rv_fix.specs.Values.{Entry}
 use Rattle.rv_dis.specs.Text.{target_of}

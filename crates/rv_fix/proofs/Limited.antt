@@ -1,6 +1,6 @@
 -- The code of a line has at most 65,536 bytes.
-use Rattle.std.proofs.Common.{◌≡◌, ℕ, ℤ, ◌+◌, ◌≤◌, Bool, true, false, List, [], ◌∷◌, ◌++◌, length, Result, Ok, Err, leb, if◌then◌else◌, arith, refl}
-use Rattle.std.specs.Prelude.{pos, negsuc, ◌&&◌, int_le, unsigned_abs}
+use Rattle.std.proofs.Common.{◌≡◌, ℕ, ℤ, ◌+◌, ◌≤◌, Bool, true, false, List, [], ◌∷◌, ◌++◌, length, Option, Some, None, Result, Ok, Err, leb, if◌then◌else◌, arith, refl}
+use Rattle.std.specs.Prelude.{pos, negsuc, ◌&&◌, ok_or}
 use Rattle.std.proofs.lemmas.Bool.{leb-true, and_parts, true≢false}
 use Rattle.std.proofs.lemmas.List.{length-append, length-replicate}
 use Rattle.rv_text.specs.declared.faults.Fault.{Fault}
@@ -10,6 +10,7 @@ use Rattle.rv_ops.specs.Table.{is_full, shape_of, limits_of}
 use Rattle.rv_code.specs.declared.instruction.Fields.{Fields}
 use Rattle.rv_layout.specs.declared.measured.Measured.{Measured}
 use Rattle.rv_layout.specs.declared.measured.Measured.TheVariants.{Bytes, Align, Switch, Nothing, Faulty}
+use Rattle.rv_layout.specs.Shapes.{fill_size, value_at}
 use Rattle.rv_stmt.specs.declared.directive.DataContent.{DataContent}
 use Rattle.rv_stmt.specs.declared.directive.DataContent.TheVariants as content
 use Rattle.rv_stmt.specs.declared.expansion.Instructions.{Instructions}
@@ -26,7 +27,7 @@ use Rattle.rv_fix.specs.Code.{faulty_size, bytes_of_fields, code_or_zeros, code_
 use Rattle.rv_fix.specs.Data.{in_width, low_bytes, with_values, fill_count, fill_byte}
 use Rattle.rv_fix.specs.Filling.{filled}
 use Rattle.rv_fix.specs.Limits.{is_alignment}
-use Rattle.rv_fix.specs.Reports.{value_at, at_span, made_of}
+use Rattle.rv_fix.specs.Reports.{at_span, made_of}
 use Rattle.rv_fix.specs.Values.{Entry}
 use Rattle.rv_fix.proofs.Sizes.{length_instructions, length_low}
 
@@ -76,12 +77,12 @@ abbrev IsCount : Result ℕ Fault → Type 0
 IsCount (Ok n) = n ≤ 65536
 IsCount (Err fault) = Unit {0}
 
-range_small : (within : Bool) (span : Span) (v : ℤ) → (within ≡ true → unsigned_abs v ≤ 65536) → IsCount (at_span span (and_then (if within then Ok v else Err Range) (λ v. Ok (unsigned_abs v))))
-range_small true span v h = h refl
-range_small false span v h = tt
+size_small : (within : Bool) (span : Span) (n : ℕ) → (within ≡ true → n ≤ 65536) → IsCount (at_span span (ok_or (if within then Some n else None) Range))
+size_small true span n h = h refl
+size_small false span n h = tt
 
-counted : (span : Span) (v : ℤ) → IsCount (at_span span (and_then (if int_le (pos 0) v && int_le v (pos 65536) then Ok v else Err Range) (λ v. Ok (unsigned_abs v))))
-counted span (pos n) = range_small (leb 0 n && leb n 65536) span (pos n) (λ h. leb-true n 65536 (and_parts (leb 0 n) (leb n 65536) h).1)
+counted : (span : Span) (v : ℤ) → IsCount (at_span span (ok_or (fill_size v) Range))
+counted span (pos n) = size_small (leb 0 n && leb n 65536) span n (λ h. leb-true n 65536 (and_parts (leb 0 n) (leb n 65536) h).1)
 counted span (negsuc n) = tt
 
 count_small : (o : Operand) (e : Entry) → IsCount (fill_count o e)

@@ -19,11 +19,11 @@ use Rattle.rv_stmt.specs.Readings.{and_then}
 use Rattle.rv_stmt.specs.ValueParts.{word_bits}
 use Rattle.rv_layout.specs.declared.measured.Measured.{Measured}
 use Rattle.rv_layout.specs.declared.measured.Measured.TheVariants.{Faulty}
+use Rattle.rv_layout.specs.Shapes.{value_at}
 use Rattle.rv_fix.specs.declared.coded.Coded.{Coded}
 use Rattle.rv_fix.specs.Data.{with_values, fill_count, fill_byte}
 use Rattle.rv_fix.specs.Filling.{filled}
 use Rattle.rv_fix.specs.Padding.{padding}
-use Rattle.rv_fix.specs.Reports.{value_at}
 use Rattle.rv_fix.specs.Values.{Entry}
 
 -- bytes without a fault

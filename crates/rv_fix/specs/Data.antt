@@ -1,13 +1,15 @@
 -- The bytes of data. (docs/LANGUAGE.md, Values of operands)
-use Rattle.std.specs.Prelude.{ℕ, ℤ, pos, negsuc, ◌-◌, ◌*◌, ◌^◌, ◌%◌, List, [], ◌∷◌, ◌++◌, take, unsigned_abs, Result, Ok}
+use Rattle.std.specs.Prelude.{ℕ, ℤ, pos, negsuc, ◌-◌, ◌*◌, ◌^◌, ◌%◌, List, [], ◌∷◌, ◌++◌, take, Result, Ok, ok_or}
 use Rattle.std.specs.Int.{to_le_bytes, w32}
 use Rattle.rv_text.specs.declared.faults.Fault.{Fault}
+use Rattle.rv_text.specs.declared.faults.FaultNumber.TheVariants.{Range}
 use Rattle.rv_stmt.specs.declared.operand.Operand.{Operand}
 use Rattle.rv_stmt.specs.declared.operand.Role.{Role}
 use Rattle.rv_stmt.specs.declared.operand.Role.TheVariants as role
 use Rattle.rv_stmt.specs.Data.{width_bytes, data_width}
 use Rattle.rv_stmt.specs.Readings.{Reading, and_then}
 use Rattle.rv_stmt.specs.ValueParts.{word_bits}
+use Rattle.rv_layout.specs.Shapes.{fill_size}
 use Rattle.rv_fix.specs.Reports.{ranged, made_of}
 use Rattle.rv_fix.specs.Values.{Entry}
 
@@ -27,9 +29,9 @@ with_values (o ∷ os) [] bs = Ok bs
 with_values (o ∷ os) (e ∷ es) bs =
     and_then (made_of o e (in_width o.role)) (λ v. with_values os es (bs ++ low_bytes (data_width o.role) v))
 
--- how many bytes are filled: 0 to 65,536
+-- how many bytes are filled
 abbrev pub fill_count : Operand → Entry → Result ℕ Fault
-fill_count o e = made_of o e (λ v. and_then (ranged (pos 0) (pos 65536) v) (λ v. Ok (unsigned_abs v)))
+fill_count o e = made_of o e (λ v. ok_or (fill_size v) Range)
 
 -- the byte that they are filled with, -128 to 255; 0 where it is absent
 abbrev pub fill_byte : List Operand → List Entry → Result ℕ Fault

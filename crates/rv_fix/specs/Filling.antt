@@ -1,5 +1,5 @@
 -- The fields of an instruction with the values of its operands. (docs/LANGUAGE.md, Values of operands)
-use Rattle.std.specs.Prelude.{ℤ, pos, negsuc, ◌-◌, ◌^◌, unsigned_abs, List, [], ◌∷◌, Option, Some, None, Result, Ok, Err}
+use Rattle.std.specs.Prelude.{ℤ, pos, unsigned_abs, List, [], ◌∷◌, Option, Some, None, Result, Ok, Err, if◌then◌else◌}
 use Rattle.rv_text.specs.declared.faults.Fault.{Fault}
 use Rattle.rv_text.specs.declared.faults.FaultNumber.TheVariants as fault
 use Rattle.rv_ops.specs.declared.value_limits.LimitFault.{LimitFault}
@@ -12,7 +12,8 @@ use Rattle.rv_stmt.specs.declared.operand.Role.{Role}
 use Rattle.rv_stmt.specs.declared.operand.Role.TheVariants.{Immediate, SourceImmediate, Target, PairTarget, Constant}
 use Rattle.rv_stmt.specs.Draft.{fields}
 use Rattle.rv_stmt.specs.Readings.{Reading, and_then}
-use Rattle.rv_fix.specs.Displacements.{signed_word}
+use Rattle.rv_stmt.specs.ValueParts.{signed_word}
+use Rattle.rv_layout.specs.Shapes.{is_loadable}
 use Rattle.rv_fix.specs.Reports.{ranged, made_of}
 use Rattle.rv_fix.specs.Values.{Entry}
 
@@ -40,8 +41,7 @@ with_number l Immediate v f = and_then (limited l v) (λ v. Ok (with_value v f))
 with_number l Target v f = and_then (limited l v) (λ v. Ok (with_value v f))
 with_number l SourceImmediate v f = and_then (ranged (pos 0) (pos 31) v) (λ v. Ok (with_source v f))
 with_number l PairTarget v f = Ok (with_value v f)
-with_number l Constant v f =
-    and_then (ranged (negsuc (2 ^ 31 - 1)) (pos (2 ^ 32 - 1)) v) (λ v. Ok (with_value v f))
+with_number l Constant v f = if is_loadable v then Ok (with_value v f) else Err fault.Range
 with_number l role v f = Ok f
 
 -- the fields with the values of all operands, or the first fault from the left

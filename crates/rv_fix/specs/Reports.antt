@@ -3,9 +3,9 @@ use Rattle.std.specs.Prelude.{ℤ, ◌&&◌, int_le, Result, Ok, Err, if◌then�
 use Rattle.rv_text.specs.declared.faults.Fault.{Fault}
 use Rattle.rv_text.specs.declared.faults.FaultNumber.TheVariants.{Range}
 use Rattle.rv_text.specs.declared.lexeme.Span.{Span}
-use Rattle.rv_expr.specs.Faults.{line_fault}
 use Rattle.rv_stmt.specs.declared.operand.Operand.{Operand}
 use Rattle.rv_stmt.specs.Readings.{Reading, and_then}
+use Rattle.rv_layout.specs.Shapes.{value_at}
 use Rattle.rv_fix.specs.Values.{Entry}
 
 -- a value from the least to the greatest
@@ -16,11 +16,6 @@ ranged least greatest v = if int_le least v && int_le v greatest then Ok v else 
 abbrev pub at_span : {A : Type 0} → Span → Reading A → Result A Fault
 at_span span (Ok x) = Ok x
 at_span span (Err number) = Err (record { number = number; span = span })
-
--- the value of an operand, or its fault
-abbrev pub value_at : Span → Entry → Result ℤ Fault
-value_at span (Ok v) = Ok v
-value_at span (Err fault) = Err (record { number = line_fault fault; span = span })
 
 -- what is made of an operand's value: its own fault counts first
 abbrev pub made_of : {A : Type 0} → Operand → Entry → (ℤ → Reading A) → Result A Fault

@@ -3,7 +3,7 @@
 ghost use Rattle.std.specs.Prelude.{◌≡◌, ◌≤◌, ◌^◌, false, length, IfOk, IfErr};
 ghost use Rattle.rv_stmt.specs.Statement.{statement_of, data_size_of, operands_of};
 ghost use Rattle.rv_fix.specs.Alone.{nothing_defined, no_constants, uses_names, code_of_body_at, code_at};
-ghost use Rattle.rv_fix.specs.Refusals.{Refuses};
+ghost use Rattle.rv_fix.specs.Refusals.{Refuses, RefusesBody};
 
 use crate::coded::Coded;
 use crate::encoding::encode_line;
@@ -62,13 +62,27 @@ fn code_of_body_at(alloc: Global, stmt: &Stmt, address: u32) -> Result<Coded, Fi
     encode_line(alloc, stmt, &values, &mut tally)
 }
 
+// The code of a statement at an address, if it uses no names. Whether it does is found out before any memory is allocated.
+fn code_without_names(alloc: Global, stmt: &Stmt, address: u32) -> Result<Coded, AssembleError>
+    requires data { data_size_of stmt.now.body ≤ 2 ^ 16 }
+    requires operands { length (operands_of stmt.now.body) ≤ 1000 }
+    ensures code { IfOk result (λ c. c ≡ code_of_body_at address stmt.now.body) }
+    ensures nameless { IfOk result (λ _. uses_names stmt.now.body ≡ false) }
+    ensures refused { IfErr result (λ e. RefusesBody e stmt.now.body) }
+{
+    if uses_names(&stmt.body) {
+        return Err(AssembleError::Names);
+    }
+    Ok(code_of_body_at(alloc, stmt, address)?)
+}
+
 /// The code of a line by itself at an address, which is what `.` is there. Its labels have no effect, and an alignment is
 /// padded as in `.text`. The line has at most 1,000 bytes.
 ///
 /// # Errors
 ///
-/// `Names` if the line is without a fault of its statement and uses a symbol, a local label or `%pcrel_lo`. `Memory` says
-/// only that there was no memory.
+/// `Names` if the line is without a fault of its statement and uses a symbol, a local label or `%pcrel_lo`. That is found out
+/// before any memory is allocated for its code. `Memory` says only that there was no memory.
 pub fn assemble_at(alloc: Global, line: &[u8], address: u32) -> Result<Coded, AssembleError>
     requires { length line.now ≤ 1000 }
     ensures code { IfOk result (λ c. c ≡ code_at address line.now) }
@@ -77,10 +91,7 @@ pub fn assemble_at(alloc: Global, line: &[u8], address: u32) -> Result<Coded, As
 {
     let mut tally = Tally::new();
     let stmt = read_line(alloc, line, &mut tally)?;
-    if uses_names(&stmt.body) {
-        return Err(AssembleError::Names);
-    }
     data_are_few();
     operands_are_few();
-    Ok(code_of_body_at(alloc, &stmt, address)?)
+    code_without_names(alloc, &stmt, address)
 }

@@ -6,8 +6,9 @@ ghost use Rattle.rv_fix.specs.Data.{in_width, low_bytes, with_values};
 ghost use Rattle.rv_fix.specs.Reports.{made_of};
 
 use crate::line_bytes::LineBytes;
-use crate::reports::{at_span, ranged, value_at};
+use crate::reports::{at_span, ranged};
 use crate::values::Entry;
+use rv_layout::value_at;
 use rv_stmt::{DataWidth, Operand, Role};
 use rv_text::{Fault, FaultNumber};
 use std::alloc::{AllocError, Global};

@@ -1,16 +1,9 @@
 //! How far addresses lie from the line that names them.
 
 ghost use Rattle.std.specs.Prelude.{◌≡◌};
-ghost use Rattle.rv_fix.specs.Displacements.{signed_word, displacement};
+ghost use Rattle.rv_fix.specs.Displacements.{displacement};
 
 use rv_stmt::word_bits;
-
-/// A value modulo 2^32, with a sign.
-pub fn signed_word(value: i64) -> i32
-    ensures { result ≡ signed_word value }
-{
-    word_bits(value).cast_signed()
-}
 
 /// How far an address is from that of the line, modulo 2^32, with a sign.
 pub fn displacement(here: u32, address: i64) -> i32

@@ -1,17 +1,19 @@
 //! Fills the fields of an instruction with the values of its operands.
 
-ghost use Rattle.std.specs.Prelude.{◌≡◌, ◌<◌, ◌-◌, ◌^◌, pos, negsuc, Ok};
+ghost use Rattle.std.specs.Prelude.{◌≡◌, ◌<◌, pos, Ok, Err, if◌then◌else◌};
+ghost use Rattle.rv_text.specs.declared.faults.FaultNumber.TheVariants as fault;
 ghost use Rattle.rv_ops.specs.Limits.{limit_fault};
 ghost use Rattle.rv_stmt.specs.Readings.{and_then};
+ghost use Rattle.rv_layout.specs.Shapes.{is_loadable};
 ghost use Rattle.rv_fix.specs.Filling.{unless_fault, limited, with_value, with_source, with_number, filled};
 ghost use Rattle.rv_fix.specs.Reports.{ranged, made_of};
 
-use crate::displacements::signed_word;
-use crate::reports::{at_span, ranged, value_at};
+use crate::reports::at_span;
 use crate::values::Entry;
 use rv_code::Fields;
+use rv_layout::{is_loadable, value_at};
 use rv_ops::{LimitFault, Limits, Reg};
-use rv_stmt::{Operand, Role};
+use rv_stmt::{Operand, Role, signed_word};
 use rv_text::{Fault, FaultNumber};
 
 // A value within the limits of an operation.
@@ -65,10 +67,13 @@ fn with_source(value: i64, fields: &Fields) -> Result<Fields, FaultNumber>
 
 // The fields with the constant of a constant load.
 fn with_constant(value: i64, fields: &Fields) -> Result<Fields, FaultNumber>
-    ensures { result ≡ and_then (ranged (negsuc (2 ^ 31 - 1)) (pos (2 ^ 32 - 1)) value) (λ v. Ok (with_value v fields.now)) }
+    ensures { result ≡ (if is_loadable value then Ok (with_value value fields.now) else Err fault.Range) }
 {
-    let value = ranged(-0x8000_0000, 0xffff_ffff, value)?;
-    Ok(with_value(value, fields))
+    if is_loadable(value) {
+        Ok(with_value(value, fields))
+    } else {
+        Err(FaultNumber::Range)
+    }
 }
 
 // The fields with the value of an operand in its role.

@@ -3,18 +3,18 @@
 ghost use Rattle.std.specs.Prelude.{◌≡◌};
 ghost use Rattle.rv_fix.specs.Data.{fill_count, fill_byte};
 
-use crate::reports::{at_span, ranged, value_at};
+use crate::reports::{at_span, ranged};
 use crate::values::Entry;
+use rv_layout::{fill_size, value_at};
 use rv_stmt::{Operand, word_bits};
-use rv_text::Fault;
+use rv_text::{Fault, FaultNumber};
 
 /// How many bytes are filled, or the fault of the size.
 pub fn fill_count(operand: &Operand, entry: Entry) -> Result<u32, Fault>
     ensures { result ≡ fill_count operand.now entry }
 {
     let value = value_at(operand.span, entry)?;
-    let count = at_span(operand.span, ranged(0, 65536, value))?;
-    Ok(count as u32)
+    at_span(operand.span, fill_size(value).ok_or(FaultNumber::Range))
 }
 
 /// The byte that they are filled with, or the fault of the operand that says it.

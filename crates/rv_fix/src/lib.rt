@@ -27,4 +27,4 @@ pub use error::{AssembleError, FixError};
 pub use laws::{codes_are_limited, faults_keep_sizes};
 pub use payload::Payload;
 pub use valuation::operand_values;
-pub use values::{Entry, Values};
+pub use values::{Entry, Values, is_same_entry};

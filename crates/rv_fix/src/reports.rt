@@ -1,9 +1,8 @@
 //! What is wrong with a value, reported at its operand.
 
 ghost use Rattle.std.specs.Prelude.{◌≡◌};
-ghost use Rattle.rv_fix.specs.Reports.{ranged, at_span, value_at};
+ghost use Rattle.rv_fix.specs.Reports.{ranged, at_span};
 
-use crate::values::Entry;
 use rv_text::{Fault, FaultNumber, Span};
 
 /// A value from the least to the greatest.
@@ -24,18 +23,5 @@ pub fn at_span<T>(span: Span, made: Result<T, FaultNumber>) -> Result<T, Fault>
     match made {
         Ok(made) => Ok(made),
         Err(number) => Err(Fault { number, span }),
-    }
-}
-
-/// The value of an operand at a span, or its fault.
-pub fn value_at(span: Span, entry: Entry) -> Result<i64, Fault>
-    ensures { result ≡ value_at span entry }
-{
-    match entry {
-        Ok(value) => Ok(value),
-        Err(fault) => Err(Fault {
-            number: fault.line_fault(),
-            span,
-        }),
     }
 }

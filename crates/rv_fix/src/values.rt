@@ -47,8 +47,8 @@ impl Values {
     }
 }
 
-// Whether two operands have the same value or the same fault.
-fn is_same(left: Entry, right: Entry) -> bool
+/// Whether two operands have the same value or the same fault.
+pub fn is_same_entry(left: Entry, right: Entry) -> bool
     ensures { IsTrue result ↔ (left ≡ right) }
 {
     match left {
@@ -71,7 +71,7 @@ fn are_same(mut left: &[Entry], mut right: &[Entry]) -> bool
         let [y, more_right @ ..] = right else {
             return false;
         };
-        if !is_same(*x, *y) {
+        if !is_same_entry(*x, *y) {
             return false;
         }
         left = more_left;

@@ -1,6 +1,6 @@
 -- Worked texts: the shapes of their lines, and where the lines lie, computed on the definitions and on layouts.
 use Rattle.std.proofs.Common.{◌≡◌, refl}
-use Rattle.std.specs.Prelude.{ℕ, pos, List, [], ◌∷◌, map, codes}
+use Rattle.std.specs.Prelude.{ℕ, pos, true, false, List, [], ◌∷◌, map, codes}
 use Rattle.rv_text.specs.declared.faults.FaultNumber.TheVariants.{NotConstant, UnknownName, BadOperand}
 use Rattle.rv_ops.specs.Registers.{register_named, register_names}
 use Rattle.rv_ops.specs.Table.{operation_named, operation_names, row_of, layout_of as operand_layout_of}
@@ -14,11 +14,27 @@ use Rattle.rv_layout.specs.declared.measured.Measured.{Measured}
 use Rattle.rv_layout.specs.declared.measured.Measured.TheVariants.{Bytes, Align, Switch, Nothing}
 use Rattle.rv_layout.specs.Advances.{advance_of, no_advance}
 use Rattle.rv_layout.specs.Effects.{layout_of, base_by_layout}
-use Rattle.rv_layout.specs.Places.{section_of, section_end_of, line_size_of, section_base_of, address_of}
+use Rattle.rv_layout.specs.Places.{is_base, section_of, section_end_of, line_size_of, section_base_of, address_of}
 use Rattle.rv_layout.proofs.ShapeExamples.{shapes_of, faulty}
 
 abbrev all_sections : List ℕ
 all_sections = 0 ∷ 1 ∷ 2 ∷ 3 ∷ []
+
+-- bases
+zero : is_base 0 ≡ true
+zero = refl
+
+page : is_base 4096 ≡ true
+page = refl
+
+last : is_base 0x80000000 ≡ true
+last = refl
+
+within_page : is_base 1 ≡ false
+within_page = refl
+
+beyond : is_base 0x80001000 ≡ false
+beyond = refl
 
 -- alignments, from the base 0
 

@@ -1,8 +1,9 @@
 -- Where sections begin, and within which bounds.
-use Rattle.std.proofs.Common.{◌≡◌, ℕ, zero, suc, ◌+◌, ◌-◌, ◌*◌, ◌^◌, ◌<◌, ◌≤◌, ◌⊎◌, inl, inr, List, length, slice_index, slice_set, arith, ap, sym, ◌∙◌}
-use Rattle.std.proofs.lemmas.Bool.{cases_eq}
+use Rattle.std.proofs.Common.{◌≡◌, ◌==◌, ◌%◌, ℕ, true, zero, suc, ◌+◌, ◌-◌, ◌*◌, ◌^◌, ◌<◌, ◌≤◌, ◌⊎◌, inl, inr, List, length, slice_index, slice_set, arith, ap, sym, ◌∙◌}
+use Rattle.std.specs.Prelude.{nat_le}
+use Rattle.std.proofs.lemmas.Bool.{cases_eq, leb-true, and_parts}
 use Rattle.std.proofs.lemmas.List.{get_or-set_same, get_or-set_other}
-use Rattle.rv_layout.specs.Places.{base_from, sum_below}
+use Rattle.rv_layout.specs.Places.{base_from, is_base, sum_below}
 use Rattle.rv_layout.specs.RoundingLaws.{round_up-below}
 
 pub base_from-bound : (base : ℕ) (end : ℕ → ℕ) (t : ℕ) → base_from base end t ≤ base + sum_below end t + 4096 * t
@@ -18,6 +19,9 @@ sum_below-more f k (suc d) =
 
 pub sum_below-grows : (f : ℕ → ℕ) (k n : ℕ) → k ≤ n → sum_below f k ≤ sum_below f n
 sum_below-grows f k n h = let same : n ≡ k + (n - k) = omega arith in rw same (sum_below-more f k (n - k))
+
+pub base-bound : (base : ℕ) → is_base base ≡ true → base ≤ 0x80000000
+base-bound base e = leb-true base 0x80000000 (and_parts (base % 4096 == 0) (nat_le base 0x80000000) e).1
 
 -- a section ends within 32 bits
 pub base_from-fits : (base : ℕ) (end : ℕ → ℕ) (t n : ℕ) → t < n → n ≤ 16 → base ≤ 0x80000000 → sum_below end n ≤ 2 ^ 30 → base_from base end t + end t ≤ 2 ^ 32 - 4096

@@ -1,5 +1,5 @@
 -- Where the lines of a text lie, by their shapes. (docs/LANGUAGE.md, Layout)
-use Rattle.std.specs.Prelude.{◌≡◌, ◌%◌, ℕ, zero, suc, ◌+◌, ◌-◌, ◌^◌, ◌≤◌, ◌==◌, List, [], ◌∷◌, take, get_or, if◌then◌else◌}
+use Rattle.std.specs.Prelude.{◌≡◌, ◌%◌, ℕ, zero, suc, ◌+◌, ◌-◌, ◌^◌, ◌≤◌, ◌==◌, ◌&&◌, nat_le, Bool, List, [], ◌∷◌, take, get_or, if◌then◌else◌}
 use Rattle.rv_stmt.specs.declared.section.Sect.{Sect}
 use Rattle.rv_stmt.specs.declared.section.Sect.TheVariants.{Text}
 use Rattle.rv_layout.specs.declared.measured.Measured.{Measured}
@@ -76,9 +76,8 @@ sum_below f zero = 0
 sum_below f (suc n) = sum_below f n + f n
 
 -- a base is a multiple of 4096, at most 0x80000000
-pub record IsBase (base : ℕ) : Type 0 where
-  pub aligned : base % 4096 ≡ 0
-  pub bound : base ≤ 0x80000000
+abbrev pub is_base : ℕ → Bool
+is_base base = base % 4096 == 0 && nat_le base 0x80000000
 
 -- a shape is within the limits: at most 65,536 bytes, or a multiple of at most 4096
 abbrev pub IsLimited : Measured → Type 0

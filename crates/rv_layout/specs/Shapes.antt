@@ -1,5 +1,5 @@
 -- The shapes of lines, by their statements and the constants that they see. (docs/LANGUAGE.md, Layout)
-use Rattle.std.specs.Prelude.{ℕ, ℤ, pos, negsuc, ◌-ℤ◌, ◌^◌, unsigned_abs, ◌&&◌, int_le, Bool, true, false, List, [], ◌∷◌, Option, Some, None, Result, Ok, Err, if◌then◌else◌}
+use Rattle.std.specs.Prelude.{ℕ, ℤ, pos, negsuc, ◌^◌, unsigned_abs, ◌&&◌, int_le, Bool, true, false, List, [], ◌∷◌, Option, Some, None, Result, Ok, Err, if◌then◌else◌}
 use Rattle.std.specs.Ordering.{int_eq}
 use Rattle.rv_text.specs.declared.faults.Fault.{Fault}
 use Rattle.rv_text.specs.declared.faults.FaultNumber.TheVariants.{Range}
@@ -22,6 +22,7 @@ use Rattle.rv_stmt.specs.declared.statement.Instruction.{Instruction}
 use Rattle.rv_stmt.specs.Data.{data_size}
 use Rattle.rv_stmt.specs.Draft.{fields}
 use Rattle.rv_stmt.specs.Expansion.{instructions_of, size_of_instructions}
+use Rattle.rv_stmt.specs.ValueParts.{signed_word}
 use Rattle.rv_layout.specs.declared.measured.Measured.{Measured}
 use Rattle.rv_layout.specs.declared.measured.Measured.TheVariants.{Bytes, Align, Switch, Nothing, Faulty}
 
@@ -56,27 +57,28 @@ abbrev pub value_of_constant : Environment → OperandValue → Result ℤ Value
 value_of_constant given (Plain e) = value_of given e
 value_of_constant given v = Err NotConstant
 
-abbrev pub at_span : Span → Result ℤ ValueFault → Result ℤ Fault
-at_span span (Ok z) = Ok z
-at_span span (Err fault) = Err (record { number = line_fault fault; span = span })
+-- the value of an operand, or its fault
+abbrev pub value_at : Span → Result ℤ ValueFault → Result ℤ Fault
+value_at span (Ok z) = Ok z
+value_at span (Err fault) = Err (record { number = line_fault fault; span = span })
 
 -- the constant that an operand is, or the first fault of its value, at the operand
 abbrev pub constant_of_operand : Environment → Operand → Result ℤ Fault
-constant_of_operand given o = at_span o.span (value_of_constant given o.value)
+constant_of_operand given o = value_at o.span (value_of_constant given o.value)
 
 -- Sizes
 
--- a number from -2 ^ 31 to 2 ^ 32 - 1, modulo 2 ^ 32 as a number with a sign
-abbrev pub signed_word : ℤ → ℤ
-signed_word z = if int_le z (pos 0x7FFFFFFF) then z else z -ℤ pos 0x100000000
+-- a register can be loaded with a number from -2 ^ 31 to 2 ^ 32 - 1
+abbrev pub is_loadable : ℤ → Bool
+is_loadable z = int_le (negsuc 0x7FFFFFFF) z && int_le z (pos 0xFFFFFFFF)
 
 abbrev pub with_value : Fields → ℤ → Fields
 with_value f v = fields f.rd f.rs1 f.rs2 v
 
--- how many bytes load a constant, which is from -2 ^ 31 to 2 ^ 32 - 1
+-- how many bytes load a constant
 abbrev pub load_size : Instruction → ℤ → Option ℕ
 load_size i z =
-    if int_le (negsuc 0x7FFFFFFF) z && int_le z (pos 0xFFFFFFFF)
+    if is_loadable z
     then Some (size_of_instructions (instructions_of i (with_value i.fields (signed_word z))))
     else None
 

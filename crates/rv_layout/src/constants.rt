@@ -1,7 +1,7 @@
 //! The operands that have to be constants.
 
 ghost use Rattle.std.specs.Prelude.{◌≡◌, ◌-◌, ◌<◌, ◌≤◌, ◌+◌, ◌^◌, Some, None, IfSome};
-ghost use Rattle.rv_layout.specs.Shapes.{constants, is_size, size_operand, value_of_constant, at_span, constant_of_operand, count_of_value};
+ghost use Rattle.rv_layout.specs.Shapes.{constants, is_size, size_operand, value_of_constant, value_at, constant_of_operand, count_of_value};
 
 use crate::consts::Consts;
 use rv_expr::{Direction, LabelReference, Names, ValueFault, value};
@@ -86,9 +86,9 @@ fn value_of_constant<C: Consts, N: Count>(
     }
 }
 
-// The value, or the fault at the operand.
-fn at_span(span: Span, value: Result<i64, ValueFault>) -> Result<i64, Fault>
-    ensures { result ≡ at_span span value }
+/// The value of an operand at a span, or its fault.
+pub fn value_at(span: Span, value: Result<i64, ValueFault>) -> Result<i64, Fault>
+    ensures { result ≡ value_at span value }
 {
     match value {
         Ok(value) => Ok(value),
@@ -112,7 +112,7 @@ pub(crate) fn constant_of_operand<C: Consts, N: Count>(
     ensures parsed { N.parsed_count count.new ≡ N.parsed_count count.old }
     ensures encoded { N.encoded_count count.new ≡ N.encoded_count count.old }
 {
-    at_span(
+    value_at(
         operand.span,
         value_of_constant(&operand.value, consts, count),
     )

@@ -3,6 +3,7 @@
 
 mod advance;
 mod alignment;
+mod base;
 mod constants;
 mod consts;
 mod effect;
@@ -15,6 +16,8 @@ mod shapes;
 mod sizes;
 
 pub use alignment::Alignment;
+pub use base::base_ok;
+pub use constants::value_at;
 pub use consts::Consts;
 pub use laws::{layouts_join, layouts_tell_places, shapes_are_limited, size_operands_are_few};
 pub use layout::Layout;
@@ -22,4 +25,4 @@ pub use measured::Measured;
 pub use places::{bases, place};
 pub use sections::{SECTIONS, section_number};
 pub use shapes::measure;
-pub use sizes::alignment_by_role;
+pub use sizes::{alignment_by_role, fill_size, is_loadable};

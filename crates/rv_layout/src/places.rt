@@ -1,8 +1,8 @@
 //! Where sections begin, and where a line lies.
 
-ghost use Rattle.std.specs.Prelude.{◌≡◌, ℕ, ◌+◌, ◌-◌, ◌<◌, ◌≤◌, ◌^◌, slice_index};
+ghost use Rattle.std.specs.Prelude.{◌≡◌, ℕ, ◌+◌, ◌-◌, ◌<◌, ◌≤◌, ◌^◌, slice_index, true};
 ghost use Rattle.rv_layout.specs.Effects.{section_reached, offset_reached, base_by_layout};
-ghost use Rattle.rv_layout.specs.Places.{sum_below, IsBase};
+ghost use Rattle.rv_layout.specs.Places.{sum_below, is_base};
 ghost use Rattle.rv_layout.specs.Rounding.{round_up as rounded_up};
 ghost use Rattle.rv_layout.specs.Sections.{sections, section_number};
 
@@ -20,7 +20,7 @@ fn next_base(base: u32, end: u64) -> u32
 
 /// The address at which each section begins, where the first begins at `base`. `total` is the layout of all lines.
 pub fn bases(total: &Layout, base: u32) -> [u32; SECTIONS]
-    requires base { IsBase base }
+    requires base { is_base base ≡ true }
     requires ends { sum_below (offset_reached total.now) sections ≤ 2 ^ 30 }
     ensures { (t : ℕ) → t < sections → slice_index result t ≡ base_by_layout base total.now t }
 {
@@ -35,7 +35,7 @@ pub fn bases(total: &Layout, base: u32) -> [u32; SECTIONS]
 
 /// The address of a line: `before` is the layout of the lines before it, and `total` that of all lines.
 pub fn place(before: &Layout, base: u32, total: &Layout) -> u32
-    requires base { IsBase base }
+    requires base { is_base base ≡ true }
     requires ends { sum_below (offset_reached total.now) sections ≤ 2 ^ 30 }
     requires within { (t : ℕ) → t < sections → offset_reached before.now t ≤ offset_reached total.now t }
     ensures { let t = section_number (section_reached before.now) in

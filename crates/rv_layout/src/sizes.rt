@@ -1,30 +1,24 @@
 //! The sizes that constants give.
 
-ghost use Rattle.std.specs.Prelude.{◌≡◌, ◌≤◌, negsuc, pos, ◌≤ℤ◌};
-ghost use Rattle.rv_layout.specs.Shapes.{signed_word, load_size, fill_size, exponents, exponent_among, alignment_exponent, exponent_by_role};
+ghost use Rattle.std.specs.Prelude.{◌≡◌, ◌≤◌};
+ghost use Rattle.rv_layout.specs.Shapes.{is_loadable, load_size, fill_size, exponents, exponent_among, alignment_exponent, exponent_by_role};
 
 use crate::alignment::Alignment;
 use rv_code::Fields;
-use rv_stmt::{AlignmentUnit, Instruction, Role, instructions_of};
+use rv_stmt::{AlignmentUnit, Instruction, Role, instructions_of, signed_word};
 
-// A number modulo 2^32, as a number with a sign.
-fn signed_word(value: i64) -> i32
-    requires least { negsuc 0x7FFFFFFF ≤ℤ value }
-    requires greatest { value ≤ℤ pos 0xFFFFFFFF }
-    ensures { result ≡ signed_word value }
+/// Whether a register can be loaded with a number: it is from -2^31 to 2^32 - 1.
+pub fn is_loadable(value: i64) -> bool
+    ensures { result ≡ is_loadable value }
 {
-    if value <= 0x7FFF_FFFF {
-        value as i32
-    } else {
-        (value - 0x1_0000_0000) as i32
-    }
+    -0x8000_0000 <= value && value <= 0xFFFF_FFFF
 }
 
-/// How many bytes load a constant, if it is from -2^31 to 2^32 - 1.
+/// How many bytes load a constant, if a register can be loaded with it.
 pub(crate) fn load_size(instruction: &Instruction, value: i64) -> Option<u32>
     ensures { result ≡ load_size instruction.now value }
 {
-    if !(-0x8000_0000 <= value && value <= 0xFFFF_FFFF) {
+    if !is_loadable(value) {
         return None;
     }
     let fields = Fields {
@@ -37,7 +31,7 @@ pub(crate) fn load_size(instruction: &Instruction, value: i64) -> Option<u32>
 }
 
 /// How many bytes are filled, if they are 0 to 65,536.
-pub(crate) fn fill_size(value: i64) -> Option<u32>
+pub fn fill_size(value: i64) -> Option<u32>
     ensures { result ≡ fill_size value }
 {
     if 0 <= value && value <= 65536 {

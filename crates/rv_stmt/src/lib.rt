@@ -44,4 +44,4 @@ pub use section::Sect;
 pub use sets::set_name;
 pub use slots::Slot;
 pub use statement::{Body, Instruction, Stmt};
-pub use value_parts::{high_part, low_part, word_bits};
+pub use value_parts::{high_part, low_part, signed_word, word_bits};

@@ -1,13 +1,20 @@
 //! The parts of values that instructions hold.
 
 ghost use Rattle.std.specs.Prelude.{◌≡◌, ◌+ℤ◌, pos};
-ghost use Rattle.rv_stmt.specs.ValueParts.{word_bits, high_part, low_part};
+ghost use Rattle.rv_stmt.specs.ValueParts.{word_bits, signed_word, high_part, low_part};
 
 /// The lowest 32 bits of a value.
 pub fn word_bits(value: i64) -> u32
     ensures { result ≡ word_bits value }
 {
     (value.cast_unsigned() % 0x1_0000_0000) as u32
+}
+
+/// A value modulo 2^32, with a sign.
+pub fn signed_word(value: i64) -> i32
+    ensures { result ≡ signed_word value }
+{
+    word_bits(value).cast_signed()
 }
 
 // The lowest 32 bits, rounded to the upper part: half of what twelve bits hold is added.

@@ -82,7 +82,7 @@ constants-none program names count within = record {
   within = omega (arith, length-replicate {A = Option ℤ}, within);
 }
 
-constant-here : (program : Program) (i : ℕ) (name : List ℕ) → is_equ_on (suc i) (definition_of program name) ≡ true → constant_through program (suc i) name ≡ result_ok (defined_value (constants (constant_through program i)) (body_at program (suc i)))
+pub constant-here : (program : Program) (i : ℕ) (name : List ℕ) → is_equ_on (suc i) (definition_of program name) ≡ true → constant_through program (suc i) name ≡ result_ok (defined_value (constants (constant_through program i)) (body_at program (suc i)))
 constant-here program i name e =
     ap (λ t. if t then result_ok (defined_value (constants (constant_through program i)) (body_at program (suc i))) else constant_through program i name) e
 

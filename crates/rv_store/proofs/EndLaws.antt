@@ -1,5 +1,5 @@
 -- Going through the lines one by one gives where they lie.
-use Rattle.std.proofs.Common.{◌≡◌, ℕ, zero, suc, ◌+◌, ◌-◌, ◌^◌, ◌%◌, ◌<◌, ◌≤◌, ◌==◌, List, [], ◌∷◌, ◌++◌, length, take, get_or, slice_index, if◌then◌else◌, arith, ap, sym, ◌∙◌, refl, subst}
+use Rattle.std.proofs.Common.{◌≡◌, ℕ, zero, suc, ◌+◌, ◌-◌, ◌^◌, ◌%◌, ◌<◌, ◌≤◌, ◌==◌, true, List, [], ◌∷◌, ◌++◌, length, take, get_or, slice_index, if◌then◌else◌, arith, ap, sym, ◌∙◌, refl, subst}
 use Rattle.std.proofs.Math.Nat.{pow-le-pow_right}
 use Rattle.std.proofs.lemmas.Nat.{mod_below, pow_pos}
 use Rattle.std.specs.List.{All}
@@ -10,9 +10,9 @@ use Rattle.rv_layout.specs.declared.effect.Effect.{Effect}
 use Rattle.rv_layout.specs.declared.measured.Measured.{Measured}
 use Rattle.rv_layout.specs.declared.measured.Measured.TheVariants.{Bytes, Align, Switch, Nothing, Faulty}
 use Rattle.rv_layout.specs.Effects.{layout_of, base_by_layout}
-use Rattle.rv_layout.specs.Places.{section_after, offset_after, section_through, offset_through, size_at, offset_of, section_end_of, section_base_of, sum_below, IsBase, IsLimited, AreLimited}
+use Rattle.rv_layout.specs.Places.{section_after, offset_after, section_through, offset_through, size_at, offset_of, section_end_of, section_base_of, sum_below, is_base, IsLimited, AreLimited}
 use Rattle.rv_layout.specs.Sections.{sections, section_number}
-use Rattle.rv_layout.specs.BaseLaws.{base_from-fits, sum_below-grows}
+use Rattle.rv_layout.specs.BaseLaws.{base-bound, base_from-fits, sum_below-grows}
 use Rattle.rv_layout.specs.PlaceLaws.{part_within, ends_together, number_below, base-layout}
 use Rattle.rv_store.specs.declared.ends.Ends.{Ends}
 use Rattle.rv_list.specs.declared.view.LinePlace.{LinePlace}
@@ -136,7 +136,7 @@ pub record PlaceFits (bases : List ℕ) (ends : Ends) : Type 0 where
   pub address : slice_index bases (section_number ends.section) + next_offset ends < 2 ^ 32
   pub short : next_offset ends ≤ 2 ^ 30
 
-pub next_place-fits : (base : ℕ) (ms : List Measured) (i : ℕ) (bases : List ℕ) → IsBase base → length ms ≤ 16384 → AreLimited ms → AreBases base ms bases → PlaceFits bases (ends_of (take i ms))
+pub next_place-fits : (base : ℕ) (ms : List Measured) (i : ℕ) (bases : List ℕ) → is_base base ≡ true → length ms ≤ 16384 → AreLimited ms → AreBases base ms bases → PlaceFits bases (ends_of (take i ms))
 next_place-fits base ms i bases based few limited are =
     let s = section_through Text (take i ms) in
     let t = section_number s in
@@ -144,7 +144,7 @@ next_place-fits base ms i bases based few limited are =
     let part = part_within t Text 0 i ms in
     let together = ends_together ms limited in
     let enough : sum_below (section_end_of ms) sections ≤ 2 ^ 30 = omega (arith, together, few) in
-    let fits = base_from-fits base (section_end_of ms) t sections (number_below s) (omega arith) based.bound enough in
+    let fits = base_from-fits base (section_end_of ms) t sections (number_below s) (omega arith) (base-bound base based) enough in
     let begins = are t (number_below s) in
     let one = sum_below-grows (section_end_of ms) (suc t) sections (number_below s) in
     record {

@@ -1,5 +1,5 @@
 -- A line at the end of some lines: where it lies.
-use Rattle.std.proofs.Common.{◌≡◌, ℕ, suc, ◌+◌, ◌^◌, ◌<◌, ◌≤◌, List, [], ◌∷◌, ◌++◌, length, take, slice_index, arith, ap, sym, subst, ◌∙◌}
+use Rattle.std.proofs.Common.{◌≡◌, ℕ, suc, ◌+◌, ◌^◌, ◌<◌, ◌≤◌, true, List, [], ◌∷◌, ◌++◌, length, take, slice_index, arith, ap, sym, subst, ◌∙◌}
 use Rattle.std.proofs.lemmas.List.{length-append}
 use Rattle.std.proofs.Math.Seq.{get_or-append_seam, take-append_seam}
 use Rattle.rv_stmt.specs.declared.statement.Stmt.{Stmt}
@@ -9,7 +9,7 @@ use Rattle.rv_layout.specs.declared.measured.Measured.TheVariants.{Nothing}
 use Rattle.rv_layout.specs.BaseLaws.{sum_below-grows}
 use Rattle.rv_layout.specs.Effects.{layout_of, offset_reached, base_by_layout}
 use Rattle.rv_layout.specs.PlaceLaws.{reached-end, reached-section, reached_together, base-layout}
-use Rattle.rv_layout.specs.Places.{sum_below, section_base_of, IsBase, IsLimited, AreLimited}
+use Rattle.rv_layout.specs.Places.{sum_below, section_base_of, is_base, IsLimited, AreLimited}
 use Rattle.rv_layout.specs.Sections.{sections, section_number}
 use Rattle.rv_store.specs.declared.ending.Ending.{Ending}
 use Rattle.rv_store.specs.declared.ends.Ends.{Ends}
@@ -54,7 +54,7 @@ module _ (ms : List Measured) (m : Measured) (few : length ms < 16384) (limited 
         ∙ ap ends_of (sym (take-append_seam ms (m ∷ [])))
 
     -- the bases of the sections with it
-    module _ (base : ℕ) (based : IsBase base) (total : Effect) (all : total ≡ layout_of (ms ++ m ∷ [])) (bases : List ℕ) (begin : (t : ℕ) → t < sections → slice_index bases t ≡ base_by_layout base total t) (ends : Ends) (reached : ends ≡ ends_reached before) where
+    module _ (base : ℕ) (based : is_base base ≡ true) (total : Effect) (all : total ≡ layout_of (ms ++ m ∷ [])) (bases : List ℕ) (begin : (t : ℕ) → t < sections → slice_index bases t ≡ base_by_layout base total t) (ends : Ends) (reached : ends ≡ ends_reached before) where
       pub place-fits : slice_index bases (section_number ends.section) + next_offset ends < 2 ^ 32
       place-fits =
           let are = bases-AreBases base (ms ++ m ∷ []) total bases all few-all limited begin in

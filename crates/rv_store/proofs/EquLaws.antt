@@ -19,13 +19,13 @@ use Rattle.rv_store.proofs.DefinitionLaws.{is_equ_on-true}
 use Rattle.rv_store.proofs.NameRows.{row-set, row-empty}
 
 -- what names give in the expressions of line i + 1, where the `.equ`s of the first i lines may be used
-abbrev references_after : (base : ℕ) → Program → (i : ℕ) → Environment
+abbrev pub references_after : (base : ℕ) → Program → (i : ℕ) → Environment
 references_after base program i = names_on base program (suc i) (symbol_through base program i) no_pairs
 
 -- The value of one `.equ`
 
 -- on the line that defines the name
-equ_value-here : (base : ℕ) (program : Program) (i : ℕ) (name : List ℕ) → is_equ_on (suc i) (definition_of program name) ≡ true → equ_value base program (suc i) name ≡ defined_value (references_after base program i) (body_at program (suc i))
+pub equ_value-here : (base : ℕ) (program : Program) (i : ℕ) (name : List ℕ) → is_equ_on (suc i) (definition_of program name) ≡ true → equ_value base program (suc i) name ≡ defined_value (references_after base program i) (body_at program (suc i))
 equ_value-here base program i name e =
     ap (λ t. if t then defined_value (references_after base program i) (body_at program (suc i)) else equ_value base program i name) e
 

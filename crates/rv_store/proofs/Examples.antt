@@ -1,23 +1,7 @@
 -- Worked examples of the definitions, computed. The words are those of the assembler of LLVM 14.0.6.
-use Rattle.std.specs.Prelude.{◌≡◌, [], ◌∷◌, true, false, None, Some, codes, refl, replicate}
+use Rattle.std.specs.Prelude.{◌≡◌, [], ◌∷◌, None, Some, codes, refl, replicate}
 use Rattle.rv_store.specs.declared.edit_error.EditError.TheVariants.{Place, Line, TooMany}
-use Rattle.rv_store.specs.Text.{Insert, Delete, is_base, refusal_of, lines_after}
-
--- bases
-zero : is_base 0 ≡ true
-zero = refl
-
-page : is_base 4096 ≡ true
-page = refl
-
-last : is_base 0x80000000 ≡ true
-last = refl
-
-within_page : is_base 1 ≡ false
-within_page = refl
-
-beyond : is_base 0x80001000 ≡ false
-beyond = refl
+use Rattle.rv_store.specs.Text.{Insert, Delete, refusal_of, lines_after}
 
 -- why edits are refused
 insert_nowhere : refusal_of [] (Insert 0 []) ≡ Some Place

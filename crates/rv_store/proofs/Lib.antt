@@ -10,6 +10,7 @@ pub mod ChangeLaws
 pub mod Columns
 pub mod ConstantLaws
 pub mod ConstantRows
+pub mod ConstantValues
 pub mod CountedEdits
 pub mod CountedLines
 pub mod DefinitionLaws

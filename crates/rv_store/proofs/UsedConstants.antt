@@ -9,7 +9,7 @@ use Rattle.rv_stmt.specs.declared.operand.OperandValue.TheVariants.{Plain}
 use Rattle.rv_stmt.specs.declared.statement.Body.{Body}
 use Rattle.rv_stmt.specs.declared.statement.Body.TheVariants as body
 use Rattle.rv_stmt.specs.declared.statement.Instruction.{Instruction}
-use Rattle.rv_layout.specs.Shapes.{constants, is_size, size_operand, or_not_constant, value_of_constant, at_span, constant_of_operand, load_size, fill_size, exponent_by_role, bytes_or_range, align_or_range, shape_by, shape_of_instructions, shape_of_fill, shape_of_alignment, shape_of}
+use Rattle.rv_layout.specs.Shapes.{constants, is_size, size_operand, or_not_constant, value_of_constant, value_at, constant_of_operand, load_size, fill_size, exponent_by_role, bytes_or_range, align_or_range, shape_by, shape_of_instructions, shape_of_fill, shape_of_alignment, shape_of}
 use Rattle.rv_store.specs.Uses.{names_in, expression_of, names_used, is_sized, uses_symbols}
 use Rattle.rv_store.proofs.UsedValues.{value-follows}
 
@@ -65,7 +65,7 @@ module _ (differs : List ℕ → Bool) (f g : List ℕ → Option ℤ) (same : (
       let first = names_in (expression_of o.value) in
       let more = flat_map (λ o. names_in (expression_of o.value)) os in
       let parts = or_parts (list_any differs first) (list_any differs more) (sym (list_any-append differs first more) ∙ names) in
-      either-follows (is_size o.role) o (size_operand os) (ap (at_span o.span) (constant-follows o.value parts.0)) (size_operand-follows os parts.1)
+      either-follows (is_size o.role) o (size_operand os) (ap (value_at o.span) (constant-follows o.value parts.0)) (size_operand-follows os parts.1)
 
   instructions-follow : (i : Instruction) (o : Option Operand) → Follows o → shape_of_instructions (constants f) i o ≡ shape_of_instructions (constants g) i o
   instructions-follow i None h = refl

@@ -2,17 +2,19 @@
 use Rattle.std.specs.Prelude.{◌≡◌, ℕ, ◌≤◌, true, List, length}
 use Rattle.std.specs.List.{AllPass}
 use Rattle.rv_store.specs.declared.item.Item.{Item}
+use Rattle.rv_store.specs.declared.limits.TheConstants.{MAX_LINES}
 use Rattle.rv_store.specs.declared.survey.Survey.{Survey}
+use Rattle.rv_layout.specs.Places.{is_base}
 use Rattle.rv_store.specs.Items.{AreItems}
 use Rattle.rv_store.specs.Program.{program_of}
 use Rattle.rv_store.specs.Surveys.{IsSurvey}
-use Rattle.rv_store.specs.Text.{is_base, is_line}
+use Rattle.rv_store.specs.Text.{is_line}
 
 -- the base is a right one, the lines are few and each is one, and what is kept is what the definitions give for them
 pub record IsStored (base : ℕ) (lines names : List (List ℕ)) (survey : Survey) (items : List Item) : Type 0 where
   pub based : is_base base ≡ true
   pub lined : AllPass is_line lines
-  pub few : length lines ≤ 16384
+  pub few : length lines ≤ MAX_LINES
   pub listed : survey.lines.items ≡ lines
   pub surveyed : IsSurvey base (program_of lines) names survey
   pub assembled : AreItems base lines items

@@ -1,7 +1,7 @@
 //! What is kept of a text after an edit is made, by what was kept of it before.
 
-ghost use Rattle.std.specs.Prelude.{◌≡◌, ◌≤◌, ◌^◌, None, length, IfOk, IfErr};
-ghost use Rattle.rv_layout.specs.Places.{IsBase};
+ghost use Rattle.std.specs.Prelude.{◌≡◌, ◌≤◌, ◌^◌, None, length, true, IfOk, IfErr};
+ghost use Rattle.rv_layout.specs.Places.{is_base};
 ghost use Rattle.rv_store.specs.Assembled.{AreCountedAfter};
 ghost use Rattle.rv_store.specs.Changes.{changed_lines};
 ghost use Rattle.rv_store.specs.Counted.{counts_of};
@@ -39,7 +39,7 @@ fn assembled_by_lines<C: Count>(
     items: SumTree<Item>,
     counter: &mut C,
 ) -> Result<(Survey, SumTree<Item>, Changed), EditError>
-    requires base { IsBase base }
+    requires base { is_base base ≡ true }
     requires survey { IsSurvey base (program_of old.now) names.old survey.now }
     requires old_few { length old.now ≤ MAX_LINES }
     requires allowed { refusal_of old.now (edit_of edit.now) ≡ None }
@@ -96,7 +96,7 @@ pub fn assembled<C: Count>(
     items: SumTree<Item>,
     counter: &mut C,
 ) -> Result<(Survey, SumTree<Item>, Changed), EditError>
-    requires base { IsBase base }
+    requires base { is_base base ≡ true }
     requires survey { IsSurvey base (program_of (lines_of former.now.items)) names.old survey.now }
     requires old_few { length (lines_of former.now.items) ≤ MAX_LINES }
     requires allowed { refusal_of (lines_of former.now.items) (edit_of edit.now) ≡ None }

@@ -7,10 +7,10 @@ ghost use Rattle.rv_store.specs.Rows.{number_of, IsNumber};
 ghost use Rattle.rv_store.specs.SymbolRows.{AreSymbolRows};
 
 use crate::before::Before;
-use crate::line_values::is_same_entry;
 use crate::name_set::NameSet;
 use crate::names::entry_at;
 use crate::symbol_rows::SymbolRows;
+use rv_fix::is_same_entry;
 
 // Whether the symbol of this number is the same constant on each line as on the line that it was before the edit: no `.equ`
 // defines it, or one that stayed and still gives the same constant. Other symbols may be so, too.

@@ -8,11 +8,14 @@ use crate::edit_error::EditError;
 use crate::line::Line;
 use crate::refusals::{delete_refused, insert_refused, replace_refused};
 
-/// An edit of a text: the number of the line, from 1 on, and the line that is put in.
-#[derive(Clone, Copy)]
+/// A change of a text, at the line of a number from 1 on.
+#[derive(Clone, Copy, Debug)]
 pub enum LineEdit<'a> {
+    /// Make this the line of that number; the lines from there on move down by one.
     Insert(u32, &'a [u8]),
+    /// Take the line of this number out.
     Delete(u32),
+    /// Put this in the place of the line of that number.
     Replace(u32, &'a [u8]),
 }
 

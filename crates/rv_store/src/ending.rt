@@ -1,8 +1,8 @@
 //! A line at the end of a text with which no other line has to do.
 
-ghost use Rattle.std.specs.Prelude.{◌≡◌, ℕ, ◌≤◌, ◌<◌, ◌+◌, ◌-◌, ◌*◌, ◌^◌, suc, [], ◌∷◌, ◌++◌, length, IfOk, IfErr, IfSome, OnOk, OnErr, IsTrue};
+ghost use Rattle.std.specs.Prelude.{◌≡◌, ℕ, ◌≤◌, ◌<◌, ◌+◌, ◌-◌, ◌*◌, ◌^◌, suc, [], ◌∷◌, ◌++◌, length, true, IfOk, IfErr, IfSome, OnOk, OnErr, IsTrue};
 ghost use Rattle.rv_layout.specs.Effects.{layout_of, offset_reached, base_by_layout};
-ghost use Rattle.rv_layout.specs.Places.{sum_below, IsLimited, AreLimited, IsBase};
+ghost use Rattle.rv_layout.specs.Places.{sum_below, IsLimited, AreLimited, is_base};
 ghost use Rattle.rv_layout.specs.Sections.{sections};
 ghost use Rattle.rv_layout.specs.Shapes.{size_operands};
 ghost use Rattle.rv_stmt.specs.Statement.{statement_of};
@@ -72,7 +72,7 @@ pub fn shape_at_end<'a, C: Count>(
 
 // Whether all sections begin where they began before lines were added.
 fn stay_sections(base: u32, before: &Layout, total: &Layout) -> bool
-    requires base { IsBase base }
+    requires base { is_base base ≡ true }
     requires ends_before { sum_below (offset_reached before.now) sections ≤ 2 ^ 30 }
     requires ends { sum_below (offset_reached total.now) sections ≤ 2 ^ 30 }
     ensures { IsTrue result → (t : ℕ) → t < sections → base_by_layout base total.now t ≡ base_by_layout base before.now t }
@@ -82,7 +82,7 @@ fn stay_sections(base: u32, before: &Layout, total: &Layout) -> bool
 
 // Where the line lies.
 fn place_at_end(base: u32, survey: &Survey, total: &Layout, shape: &Measured) -> LinePlace
-    requires base { IsBase base }
+    requires base { is_base base ≡ true }
     requires few { length survey.now.shapes.items < MAX_LINES }
     requires limited { AreLimited (survey.now.shapes.items ++ shape.now ∷ []) }
     requires before { survey.now.total ≡ layout_of survey.now.shapes.items }
@@ -102,7 +102,7 @@ pub fn apart_ending(
     line: &Line,
     shape: Measured,
 ) -> Option<Ending>
-    requires base { IsBase base }
+    requires base { is_base base ≡ true }
     requires definitions { AreDefinitions (program_of survey.now.lines.items) names.now survey.now.definitions.items }
     requires shapes { AreShapes (program_of survey.now.lines.items) survey.now.shapes.items }
     requires limited { AreLimited survey.now.shapes.items }

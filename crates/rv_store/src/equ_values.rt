@@ -69,7 +69,7 @@ pub fn settle_equ<C: Count>(text: &TextRows<'_>, i: usize, row: &mut Vec<Entry>,
 }
 
 /// The values of the `.equ`s, by the numbers of their names. The counter's number of expressions computed rises by at most
-/// the operands of the `.equ`s. Fails only for want of memory, before anything is computed.
+/// the operands of the `.equ`s. Fails only where there is no memory, before anything is computed.
 pub fn equ_values<C: Count>(
     alloc: Global,
     text: &TextRows<'_>,

@@ -1,8 +1,8 @@
 //! A line at the end of a text with which other lines may have to do: what is kept of the text is extended by it.
 
-ghost use Rattle.std.specs.Prelude.{◌≡◌, ◌≤◌, ◌<◌, ◌+◌, ◌-◌, ◌*◌, ◌^◌, [], ◌∷◌, ◌++◌, None, length, insert, IfOk, IfErr, OnOk};
+ghost use Rattle.std.specs.Prelude.{◌≡◌, ◌≤◌, ◌<◌, ◌+◌, ◌-◌, ◌*◌, ◌^◌, [], ◌∷◌, ◌++◌, None, length, insert, true, IfOk, IfErr, OnOk};
 ghost use Rattle.rv_stmt.specs.Statement.{statement_of};
-ghost use Rattle.rv_layout.specs.Places.{IsLimited, AreLimited, IsBase};
+ghost use Rattle.rv_layout.specs.Places.{IsLimited, AreLimited, is_base};
 ghost use Rattle.rv_layout.specs.Shapes.{size_operands};
 ghost use Rattle.rv_store.specs.declared.limits.TheConstants.{MAX_LINES};
 ghost use Rattle.rv_store.specs.declared.item.Item.{Item};
@@ -67,7 +67,7 @@ fn survey_with<C: Count>(
     shape: Measured,
     counter: &mut C,
 ) -> Result<Survey, AllocError>
-    requires base { IsBase (base_before before.now) }
+    requires base { is_base (base_before before.now) ≡ true }
     requires before { IsBefore before.now }
     requires longer { IsLonger before.now lines.now }
     requires few { length lines.now ≤ MAX_LINES }
@@ -112,7 +112,7 @@ fn renewed_with<C: Count>(
     items: SumTree<Item>,
     counter: &mut C,
 ) -> Result<(Survey, SumTree<Item>, Changed), EditError>
-    requires base { IsBase (base_before before.now) }
+    requires base { is_base (base_before before.now) ≡ true }
     requires before { IsBefore before.now }
     requires longer { IsLonger before.now lines.now }
     requires few { length lines.now ≤ MAX_LINES }
@@ -154,7 +154,7 @@ fn renewed_behind<'a, C: Count>(
     items: SumTree<Item>,
     counter: &mut C,
 ) -> Result<(Survey, SumTree<Item>, Changed), EditError>
-    requires base { IsBase base }
+    requires base { is_base base ≡ true }
     requires survey { IsSurvey base (program_of first.now) names.now survey.now }
     requires few { length first.now < MAX_LINES }
     requires allowed { refusal_of first.now (edit_of edit.now) ≡ None }
@@ -223,7 +223,7 @@ pub fn extended<C: Count>(
     shape: Measured,
     counter: &mut C,
 ) -> Result<(Survey, SumTree<Item>, Changed), EditError>
-    requires base { IsBase base }
+    requires base { is_base base ≡ true }
     requires survey { IsSurvey base (program_of survey.old.lines.items) names.old survey.old }
     requires items { AreItems base survey.old.lines.items items.now.items }
     requires allowed { refusal_of survey.old.lines.items (Insert (length survey.old.lines.items + 1) line) ≡ None }

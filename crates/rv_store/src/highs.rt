@@ -140,7 +140,7 @@ fn high_after<C: Count>(
 ///
 /// # Errors
 ///
-/// Fails only for want of memory.
+/// Fails only where there is no memory.
 pub fn highs<C: Count>(
     alloc: Global,
     before: &Before<'_, '_>,

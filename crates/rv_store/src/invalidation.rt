@@ -9,11 +9,11 @@ ghost use Rattle.rv_store.specs.Program.{body_at};
 ghost use Rattle.rv_store.specs.SymbolRows.{AreSymbolRows};
 
 use crate::before::Before;
-use crate::line_values::is_same_entry;
 use crate::name_set::NameSet;
 use crate::symbol_rows::SymbolRows;
 use crate::text_lines::{brief_on, place_on, statement_on};
 use crate::uses::{NameTest, any_name};
+use rv_fix::is_same_entry;
 
 // A line of a text after an edit, and the line that it was before it.
 #[derive(Drop)]

@@ -13,11 +13,10 @@ ghost use Rattle.rv_store.specs.SymbolRows.{AreSymbolRows};
 ghost use Rattle.rv_store.specs.TextRows.{program_in};
 ghost use Rattle.rv_store.specs.Uses.{is_equ};
 
-use crate::line_values::is_same_entry;
 use crate::symbol_rows::SymbolRows;
 use crate::text_lines::place_on;
 use rv_expr::Node;
-use rv_fix::{Entry, displacement};
+use rv_fix::{Entry, displacement, is_same_entry};
 use rv_stmt::{Body, Operand, OperandValue, Role};
 
 // The symbol that the only operand is, where its role is that of a target.

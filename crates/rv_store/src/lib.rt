@@ -3,7 +3,6 @@
 
 mod alike;
 mod assembly;
-mod base;
 mod before;
 mod brief;
 mod changed;
@@ -53,11 +52,12 @@ mod text_rows;
 mod uses;
 mod value_rows;
 
-pub use base::base_ok;
 pub use changed::{Changed, LineNumbers};
+pub use edit::LineEdit;
 pub use edit_error::EditError;
-pub use laws::only_invalidated_lines_change;
+pub use laws::{constants_are_values, only_invalidated_lines_change};
 pub use limits::MAX_LINES;
+pub use rv_layout::base_ok;
 pub use rv_text::MAX_LINE_LENGTH;
 pub use store::Store;
 pub use symbols::SymValue;

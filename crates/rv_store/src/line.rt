@@ -39,7 +39,7 @@ impl Model for Line {
 }
 
 impl Line {
-    /// Reads a line. The counter's number of lines read goes up by one. Fails only for want of memory.
+    /// Reads a line. The counter's number of lines read goes up by one. Fails only where there is no memory.
     pub fn read<C: Count>(alloc: Global, bytes: &[u8], counter: &mut C) -> Result<Line, EditError>
         requires line { is_line bytes.now ≡ true }
         requires count { C.parsed_count counter.old ≤ 2 ^ 63 }

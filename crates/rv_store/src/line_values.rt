@@ -18,7 +18,7 @@ use crate::symbol_rows::SymbolRows;
 use crate::text_lines::{place_on, statement_on};
 use crate::value_rows::{ValueRows, shape_on};
 use rv_expr::ValueFault;
-use rv_fix::{Entry, FixError, Values, operand_values};
+use rv_fix::{Entry, FixError, Values, is_same_entry, operand_values};
 use rv_layout::Measured;
 use rv_list::DefinitionPlace;
 use rv_stmt::{Body, Definition, Sect};
@@ -36,22 +36,6 @@ pub enum LineValues {
     Symbol(Entry),
     /// The padding of an alignment: whether it is in `.text`, and how many bytes it has.
     Padding(bool, u32),
-}
-
-// Whether these are the same value or the same fault.
-pub(crate) fn is_same_entry(left: Entry, right: Entry) -> bool
-    ensures { IsTrue result ↔ (left ≡ right) }
-{
-    match left {
-        Ok(x) => match right {
-            Ok(y) => x == y,
-            Err(_) => false,
-        },
-        Err(x) => match right {
-            Ok(_) => false,
-            Err(y) => x == y,
-        },
-    }
 }
 
 impl LineValues {

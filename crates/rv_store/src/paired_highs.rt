@@ -49,7 +49,7 @@ fn paired_high(text: &TextRows<'_>, line: u32, next: &[Entry; SECTIONS]) -> Entr
 ///
 /// # Errors
 ///
-/// Fails only for want of memory.
+/// Fails only where there is no memory.
 pub fn paired_highs(
     alloc: Global,
     text: &TextRows<'_>,

@@ -1,9 +1,9 @@
 //! Where the lines of a text lie.
 
-ghost use Rattle.std.specs.Prelude.{◌≡◌, ◌≤◌, ◌<◌, ◌+◌, ◌^◌, All, length, slice_index, IfOk, IfSome};
+ghost use Rattle.std.specs.Prelude.{◌≡◌, ◌≤◌, ◌<◌, ◌+◌, ◌^◌, All, length, slice_index, true, IfOk, IfSome};
 ghost use Rattle.rv_layout.specs.Effects.{join, effect_of, layout_of};
 ghost use Rattle.rv_layout.specs.declared.measured.Measured.{Measured};
-ghost use Rattle.rv_layout.specs.Places.{section_of, address_of, line_size_of, IsBase, AreLimited};
+ghost use Rattle.rv_layout.specs.Places.{section_of, address_of, line_size_of, is_base, AreLimited};
 ghost use Rattle.rv_layout.specs.Sections.{section_number};
 ghost use Rattle.rv_store.specs.Ends.{next_offset, next_place};
 ghost use Rattle.rv_store.specs.Program.{for_lines};
@@ -65,7 +65,7 @@ pub fn places(
     shapes: &[Measured],
     total: &Layout,
 ) -> Result<Vec<LinePlace>, AllocError>
-    requires base { IsBase base }
+    requires base { is_base base ≡ true }
     requires few { length shapes.now ≤ 16384 }
     requires limited { AreLimited shapes.now }
     requires total { total.now ≡ layout_of shapes.now }

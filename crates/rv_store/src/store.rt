@@ -4,7 +4,7 @@ ghost use Rattle.std.specs.Prelude.{◌≡◌, ◌+◌, ◌*◌, ◌-◌, ◌^�
 ghost use Rattle.std.specs.Option.{option_map};
 ghost use Rattle.rv_stmt.specs.Statement.{statement_of};
 ghost use Rattle.rv_store.specs.Alike.{IsAlike};
-ghost use Rattle.rv_layout.specs.Places.{IsLimited};
+ghost use Rattle.rv_layout.specs.Places.{is_base, IsLimited};
 ghost use Rattle.rv_layout.specs.Shapes.{size_operands};
 ghost use Rattle.rv_store.specs.Appended.{shape_at_end, IsEnding};
 ghost use Rattle.rv_store.specs.Assembled.{AreCountedAfter};
@@ -16,13 +16,12 @@ ghost use Rattle.rv_store.specs.Former.{AreFormer};
 ghost use Rattle.rv_store.specs.Layout.{address_at};
 ghost use Rattle.rv_store.specs.Program.{program_of};
 ghost use Rattle.rv_store.specs.Symbols.{symbol_of};
-ghost use Rattle.rv_store.specs.Text.{is_base, is_line, at_line, Insert, Delete, Replace, refusal_of, lines_after, text_after, Edits};
+ghost use Rattle.rv_store.specs.Text.{is_line, at_line, Insert, Delete, Replace, refusal_of, lines_after, text_after, Edits};
 
 mod shown;
 
 use crate::alike::is_alike;
 use crate::assembly::assembled;
-use crate::base::base_ok;
 use crate::changed::Changed;
 use crate::column::{edit_lines, take_back};
 use crate::edit::{LineEdit, ReadEdit};
@@ -38,7 +37,7 @@ use crate::survey::Survey;
 use crate::symbols::SymValue;
 use crate::text_rows::address_in;
 use rv_fix::Coded;
-use rv_layout::{Measured, layouts_tell_places, place};
+use rv_layout::{Measured, base_ok, layouts_tell_places, place};
 use rv_list::{DefinitionPlace, View};
 use rv_text::Count;
 use rv_tree::SumTree;

@@ -1,8 +1,8 @@
 //! What is kept of the lines of a text.
 
-ghost use Rattle.std.specs.Prelude.{◌≡◌, ℕ, ◌≤◌, ◌<◌, ◌+◌, ◌*◌, ◌^◌, [], None, length, IfOk};
+ghost use Rattle.std.specs.Prelude.{◌≡◌, ℕ, ◌≤◌, ◌<◌, ◌+◌, ◌*◌, ◌^◌, [], None, length, true, IfOk};
 ghost use Rattle.rv_layout.specs.Effects.{layout_of};
-ghost use Rattle.rv_layout.specs.Places.{section_base_of, section_end_of, AreLimited, IsBase};
+ghost use Rattle.rv_layout.specs.Places.{section_base_of, section_end_of, AreLimited, is_base};
 ghost use Rattle.rv_layout.specs.Sections.{sections};
 ghost use Rattle.rv_store.specs.Before.{IsBefore, base_before, lines_before, edit_on};
 ghost use Rattle.rv_store.specs.Edits.{edit_of};
@@ -97,7 +97,7 @@ impl Survey {
         names: &mut NameTable,
         counter: &mut C,
     ) -> Result<Survey, AllocError>
-        requires base { IsBase base }
+        requires base { is_base base ≡ true }
         requires old { IsSurvey base (program_of old.now) names.old self.now }
         requires old_few { length old.now ≤ MAX_LINES }
         requires allowed { refusal_of old.now (edit_of edit.now) ≡ None }
@@ -133,7 +133,7 @@ impl Survey {
         locals: Locals,
         counter: &mut C,
     ) -> Result<Survey, AllocError>
-        requires base { IsBase (base_before before.now) }
+        requires base { is_base (base_before before.now) ≡ true }
         requires before { IsBefore before.now }
         requires edited { lines.now ≡ lines_after (lines_before before.now) (edit_on before.now) }
         requires few { length lines.now ≤ MAX_LINES }
@@ -240,7 +240,7 @@ impl Survey {
 
     /// Where a section lies, by its number.
     pub fn section(&self, base: u32, section: usize) -> SectionPlace
-        requires base { IsBase base }
+        requires base { is_base base ≡ true }
         requires section { section < sections }
         requires few { length self.now.shapes.items ≤ MAX_LINES }
         requires limited { AreLimited self.now.shapes.items }

@@ -1,7 +1,7 @@
 -- The base that the arguments ask for.
 use Rattle.std.specs.Prelude.{ℕ, List, Option, Some, None, if◌then◌else◌}
 use Rattle.rv_text.specs.Numbers.{number_of}
-use Rattle.rv_store.specs.Text.{is_base}
+use Rattle.rv_layout.specs.Places.{is_base}
 use Rattle.rvedit.specs.declared.arguments.ArgFault.{ArgFault}
 use Rattle.rvedit.specs.declared.arguments.ArgFault.TheVariants.{Help, Usage, Base, Memory}
 

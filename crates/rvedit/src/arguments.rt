@@ -1,7 +1,7 @@
 //! The arguments of the program.
 
 ghost use Rattle.std.specs.Prelude.{◌≡◌, true, IfOk, IfSome};
-ghost use Rattle.rv_store.specs.Text.{is_base};
+ghost use Rattle.rv_layout.specs.Places.{is_base};
 ghost use Rattle.rvedit.specs.declared.arguments.ArgFault.TheVariants.{Memory};
 ghost use Rattle.rvedit.specs.Arguments.{argument_status, base_spelled};
 

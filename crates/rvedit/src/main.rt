@@ -2,7 +2,7 @@
 #![tactic(auto)]
 
 ghost use Rattle.std.specs.Prelude.{◌≡◌, true};
-ghost use Rattle.rv_store.specs.Text.{is_base};
+ghost use Rattle.rv_layout.specs.Places.{is_base};
 ghost use Rattle.rv_commands.specs.Faults.{run_status};
 
 pub mod arguments;

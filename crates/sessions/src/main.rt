@@ -11,6 +11,7 @@
 //! - `reads fail`: call 1, 2 and so on of a reader of three bytes at once is failed, up to a run that ends well. How many bytes
 //!   of the answers each run writes before it ends with a read fault.
 //! - `writes fail`: the same of a writer that takes three bytes at once; which runs write none, some and all of the answers.
+//! - `interrupted N`: how a run ends whose reader is interrupted behind N bytes, and how many bytes of the answers it writes.
 //! - `edits`, `edits fail`: a list of edits, and bytes that are disassembled, by `live_assembler_is_exact`.
 //! - `errors`: the numbers, statuses and messages of the ends of a run.
 //! - `# REMARK` and empty rows say nothing.
@@ -18,6 +19,7 @@
 
 mod edited;
 mod failing;
+mod interrupted;
 mod pieces;
 mod running;
 mod session;

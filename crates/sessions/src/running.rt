@@ -1,7 +1,7 @@
 //! Runs of the editor over bytes in memory.
 
 ghost use Rattle.std.specs.Prelude.{◌≡◌, true, IfOk};
-ghost use Rattle.rv_store.specs.Text.{is_base};
+ghost use Rattle.rv_layout.specs.Places.{is_base};
 
 use crate::pieces::Pieces;
 use rv_commands::{RunError, message, run, status};

@@ -2,6 +2,7 @@
 
 use crate::edited::{failing_edits, shown_edits};
 use crate::failing::{failing_reads, failing_writes};
+use crate::interrupted::end_where_interrupted;
 use crate::running::{ALL, Calls, Ended, end_text, reports, run_of};
 use script::{hash_of, number_in, parts_of, push_times, spelled_bytes};
 use std::alloc::Global;
@@ -97,6 +98,7 @@ impl Session {
     // What a row that is no command asks for.
     fn answer_text(&mut self, alloc: Global, row: &str) -> Result<String, Fail> {
         let (input, output) = (self.input.as_slice(), self.output.as_slice());
+        let (name, rest) = parts_of(row);
         match row {
             "run" => self.run_further(alloc),
             "run in brief" => self.run_in_brief(alloc),
@@ -107,6 +109,9 @@ impl Session {
             "edits" => shown_edits(alloc),
             "edits fail" => failing_edits(alloc),
             "errors" => Ok(reports(alloc)?),
+            _ if name == "interrupted" => {
+                end_where_interrupted(alloc, self.base, input, number_in(rest)?, output)
+            }
             _ => Err(Fail::new("a row that is no command and no question")),
         }
     }

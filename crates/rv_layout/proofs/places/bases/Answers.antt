@@ -3,12 +3,12 @@ use Rattle.std.proofs.lemmas.List.{length-set}
 use Rattle.rv_layout.specs.Rounding.{round_up}
 use Rattle.rv_layout.specs.Sections.{sections}
 use Rattle.rv_layout.specs.Effects.{base_by_layout, offset_reached}
-use Rattle.rv_layout.specs.BaseLaws.{row-more, base_from-fits}
+use Rattle.rv_layout.specs.BaseLaws.{row-more, base-bound, base_from-fits}
 use Rattle.rv_layout.proofs.places.bases.Goals as goal
 
 pub next_base-next-requires : goal.next_base-next-requires
 next_base-next-requires c =
-    let fits = base_from-fits c.args.base (offset_reached c.args.total.now) c.loop-section.section sections c.loop-section-test.true (omega arith) c.requires.base.bound c.requires.ends in
+    let fits = base_from-fits c.args.base (offset_reached c.args.total.now) c.loop-section.section sections c.loop-section-test.true (omega arith) (base-bound c.args.base c.requires.base) c.requires.ends in
     omega (arith, fits, c.loop-section.invariant.next, c.offset.ensures)
 
 pub loop-section-preserved : goal.loop-section-preserved

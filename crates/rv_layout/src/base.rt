@@ -1,7 +1,7 @@
 //! Where a text may begin.
 
 ghost use Rattle.std.specs.Prelude.{◌≡◌};
-ghost use Rattle.rv_store.specs.Text.{is_base};
+ghost use Rattle.rv_layout.specs.Places.{is_base};
 
 /// Whether `.text` may begin at this address: it is a multiple of 4096, and at most 0x80000000.
 pub fn base_ok(base: u32) -> bool
