@@ -199,6 +199,31 @@ c_swsp_word : word_of op.CSwsp (fields 0 0 10 (pos 252)) ≡ Half 0xdfaa
 unfolding word_of encoding_of row_of layout_of fields
 c_swsp_word = refl
 
+-- amoadd.w a0, a1, (a2)
+amoadd_word : word_of op.AmoaddW (fields 10 12 11 (pos 0)) ≡ Full 0x00b6252f
+unfolding word_of encoding_of row_of layout_of fields
+amoadd_word = refl
+
+-- lr.w.aq a0, (a1)
+lr_word : word_of op.LrWAq (fields 10 11 0 (pos 0)) ≡ Full 0x1405a52f
+unfolding word_of encoding_of row_of layout_of fields
+lr_word = refl
+
+-- sc.w.rl a0, a1, (a2)
+sc_word : word_of op.ScWRl (fields 10 12 11 (pos 0)) ≡ Full 0x1ab6252f
+unfolding word_of encoding_of row_of layout_of fields
+sc_word = refl
+
+-- amoswap.w.aqrl zero, a1, (a2)
+amoswap_word : word_of op.AmoswapWAqrl (fields 0 12 11 (pos 0)) ≡ Full 0x0eb6202f
+unfolding word_of encoding_of row_of layout_of fields
+amoswap_word = refl
+
+-- mret
+mret_word : word_of op.Mret (fields 0 0 0 (pos 0)) ≡ Full 0x30200073
+unfolding word_of encoding_of row_of layout_of fields
+mret_word = refl
+
 -- sub a0, a1, a2, as its bytes stand in memory
 sub_bytes : bytes_of_word (word_of op.Sub (register_fields 10 11 12)) ≡ 0x33 ∷ 0x85 ∷ 0xc5 ∷ 0x40 ∷ []
 unfolding word_of encoding_of row_of layout_of

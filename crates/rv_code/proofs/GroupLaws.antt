@@ -13,7 +13,7 @@ use Rattle.rv_ops.specs.declared.table.TheConstants.{TABLE}
 use Rattle.rv_ops.specs.Table.{no_row, number_of, row_of, fixed_of, mask_of, is_full}
 use Rattle.rv_ops.specs.TableLaws.{number_of-below}
 use Rattle.rv_code.specs.Decoding.{Code, code_of, is_code_for}
-use Rattle.rv_code.specs.Groups.{table_codes, codes_of_group, codes_of_full_group, codes_of_half_group, full_number, half_number, full_group, half_group}
+use Rattle.rv_code.specs.Groups.{is_group, table_codes, codes_of_group, codes_of_full_group, codes_of_half_group, full_number, half_number, full_group, half_group}
 
 -- what a part of some rows is mapped to
 pub mapped_part : {A B : Type 0} (f : A → B) (part rows : List A) (mapped : List B) (first count : ℕ) → part ≡ take count (drop first rows) → map f rows ≡ mapped → map f part ≡ take count (drop first mapped)
@@ -22,6 +22,12 @@ mapped_part f part rows mapped first count e h =
     ∙ sym (take-map f count (drop first rows))
     ∙ ap (take count) (sym (drop-map f first rows))
     ∙ ap (λ xs. take count (drop first xs)) h
+
+-- each of some groups is a range of the table
+pub group-within : (groups : List (ℕ × ℕ)) (i : ℕ) → list_all is_group groups ≡ true → i < length groups → is_group (slice_index_or groups i (0, 0)) ≡ true
+group-within [] i all l = absurd (omega (arith, l))
+group-within (g ∷ gs) zero all l = (and_parts (is_group g) (list_all is_group gs) all).0
+group-within (g ∷ gs) (suc i) all l = group-within gs i (and_parts (is_group g) (list_all is_group gs) all).1 (omega (arith, l))
 
 -- a group has the row of an operation, whose mask has the bits that tell the group
 record IsIn (o : Op) (g : ℕ × ℕ) (bits : ℕ) : Type 0 where

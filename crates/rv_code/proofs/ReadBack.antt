@@ -1,7 +1,7 @@
 -- The word of each shape is read back: its slices give the fields, and its mask gives the fixed bits.
 use Rattle.std.proofs.Common.{◌≡◌, ℕ, ◌+◌, ◌*◌, ◌/◌, ◌%◌, ◌^◌, ◌<◌, refl, [], ◌∷◌, arith, bit_and, sym, ap, ◌∙◌}
 use Rattle.rv_ops.specs.declared.op.Shape.{Shape}
-use Rattle.rv_ops.specs.declared.op.Shape.TheVariants.{Upper, Jump, JumpRegister, Branch, Load, Store, Immediate, Shift, Register, Csr, CsrImmediate, Fence, Whole, CStackAddress, CLoad, CStore, CWhole, CImmediate, CJump, CLoadImmediate, CStackAdjust, CUpper, CShiftRight, CAndImmediate, CRegisters, CBranch, CShiftLeft, CLoadStack, CJumpRegister, CTwoRegisters, CStoreStack}
+use Rattle.rv_ops.specs.declared.op.Shape.TheVariants.{Upper, Jump, JumpRegister, Branch, Load, Store, Immediate, Shift, Register, Csr, CsrImmediate, Fence, Whole, LoadReserved, Atomic, CStackAddress, CLoad, CStore, CWhole, CImmediate, CJump, CLoadImmediate, CStackAdjust, CUpper, CShiftRight, CAndImmediate, CRegisters, CBranch, CShiftLeft, CLoadStack, CJumpRegister, CTwoRegisters, CStoreStack}
 use Rattle.rv_ops.specs.declared.layouts.Field.TheVariants.{Rd, Rs1, Rs2, Value}
 use Rattle.rv_ops.specs.Table.{classes_of, layout_of, limits_of, slices_of, sign_of}
 use Rattle.rv_code.specs.declared.instruction.Fields.{Fields}
@@ -26,6 +26,8 @@ runs_of Csr = (0, 7) ∷ (5, 3) ∷ []
 runs_of CsrImmediate = (0, 7) ∷ (5, 3) ∷ []
 runs_of Fence = (0, 20) ∷ (8, 4) ∷ []
 runs_of Whole = (0, 32) ∷ []
+runs_of LoadReserved = (0, 7) ∷ (5, 3) ∷ (5, 12) ∷ []
+runs_of Atomic = (0, 7) ∷ (5, 3) ∷ (10, 7) ∷ []
 runs_of CStackAddress = (0, 2) ∷ (11, 3) ∷ []
 runs_of CLoad = (0, 2) ∷ (11, 3) ∷ []
 runs_of CStore = (0, 2) ∷ (11, 3) ∷ []

@@ -31,9 +31,9 @@ fits_shape o f h = record {
   value = in_limits _ _ h.value;
 }
 
--- how many bits the encodings of a shape have: the first 13 shapes have 32, the others 16
+-- how many bits the encodings of a shape have: the first 15 shapes have 32, the others 16
 abbrev pub size_of_shape : Shape → ℕ
-size_of_shape s = cond (ltb (tag_of shape_type s) 13) 32 16
+size_of_shape s = cond (ltb (tag_of shape_type s) 15) 32 16
 
 -- the bits that no field fills
 unfoldable pub mask_of_shape : Shape → ℕ

@@ -1,4 +1,4 @@
--- The encodings of instructions: RISC-V Unprivileged ISA 20191213, chapters 2, 7, 9 and 16.
+-- The encodings of instructions: RISC-V Unprivileged ISA 20191213, chapters 2, 3, 7, 8, 9 and 16.
 use Rattle.std.specs.Prelude.{Bool, IsTrue, ◌&&◌, ◌==◌, not, nat_lt, nat_le, int_le, negsuc, Option, Some, None, ◌≡◌, ℕ, ℤ, pos, ◌+◌, ◌*◌, ◌/◌, ◌%◌, ◌^◌, List, [], ◌∷◌, if◌then◌else◌}
 use Rattle.std.specs.Int.{cast_unsigned, to_le_bytes, w16, w32}
 use Rattle.rv_ops.specs.Limits.{limit_fault}

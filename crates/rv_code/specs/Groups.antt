@@ -1,12 +1,12 @@
 -- Groups of rows of the table. No public contract cites these definitions: they serve the private steps of decoding.
-use Rattle.std.specs.Prelude.{ℕ, ◌+◌, ◌-◌, ◌/◌, ◌%◌, Bool, ◌&&◌, nat_le, List, map, take, drop, slice_index_or, bit_and}
+use Rattle.std.specs.Prelude.{ℕ, ◌+◌, ◌-◌, ◌/◌, ◌%◌, Bool, ◌&&◌, nat_le, List, length, map, take, drop, slice_index_or, bit_and}
 use Rattle.rv_ops.specs.declared.table.TheConstants.{TABLE}
 use Rattle.rv_code.specs.declared.groups.TheConstants.{FULL_GROUPS, HALF_GROUPS}
 use Rattle.rv_code.specs.Decoding.{Code, code_of}
 
 -- a group is a range of the table
 abbrev pub is_group : ℕ × ℕ → Bool
-is_group g = nat_le g.0 g.1 && nat_le g.1 82
+is_group g = nat_le g.0 g.1 && nat_le g.1 (length TABLE)
 
 -- the operations of the table, with their fixed bits and their masks
 unfoldable pub table_codes : List Code

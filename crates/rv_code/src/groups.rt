@@ -11,7 +11,7 @@ pub const FULL_GROUPS: [(usize, usize); 32] = [
     (10, 15), // lb to lhu
     (0, 0),
     (0, 0),
-    (51, 53), // fence, fence.tso
+    (51, 54), // fence, fence.tso, fence.i
     (18, 27), // addi to srai
     (1, 2), // auipc
     (0, 0),
@@ -19,7 +19,7 @@ pub const FULL_GROUPS: [(usize, usize); 32] = [
     (15, 18), // sb to sw
     (0, 0),
     (0, 0),
-    (0, 0),
+    (59, 103), // lr.w to amomaxu.w.aqrl
     (27, 45), // add to remu
     (0, 1), // lui
     (0, 0),
@@ -36,7 +36,7 @@ pub const FULL_GROUPS: [(usize, usize); 32] = [
     (3, 4), // jalr
     (0, 0),
     (2, 3), // jal
-    (45, 55), // csrrw to ebreak
+    (45, 59), // csrrw to wfi
     (0, 0),
     (0, 0),
     (0, 0),
@@ -44,36 +44,36 @@ pub const FULL_GROUPS: [(usize, usize); 32] = [
 
 /// The same for words of sixteen bits, by the number that the bits 15 to 13 and 1 to 0 are together.
 pub const HALF_GROUPS: [(usize, usize); 32] = [
-    (55, 56), // c.addi4spn
-    (58, 60), // c.nop, c.addi
-    (74, 75), // c.slli
+    (103, 104), // c.addi4spn
+    (106, 108), // c.nop, c.addi
+    (122, 123), // c.slli
     (0, 0),
     (0, 0),
-    (60, 61), // c.jal
+    (108, 109), // c.jal
     (0, 0),
     (0, 0),
-    (56, 57), // c.lw
-    (61, 62), // c.li
-    (75, 76), // c.lwsp
+    (104, 105), // c.lw
+    (109, 110), // c.li
+    (123, 124), // c.lwsp
     (0, 0),
     (0, 0),
-    (62, 64), // c.addi16sp, c.lui
+    (110, 112), // c.addi16sp, c.lui
     (0, 0),
     (0, 0),
     (0, 0),
-    (64, 71), // c.srli to c.and
-    (76, 81), // c.jr to c.add
+    (112, 119), // c.srli to c.and
+    (124, 129), // c.jr to c.add
     (0, 0),
     (0, 0),
-    (71, 72), // c.j
+    (119, 120), // c.j
     (0, 0),
     (0, 0),
-    (57, 58), // c.sw
-    (72, 73), // c.beqz
-    (81, 82), // c.swsp
+    (105, 106), // c.sw
+    (120, 121), // c.beqz
+    (129, 130), // c.swsp
     (0, 0),
     (0, 0),
-    (73, 74), // c.bnez
+    (121, 122), // c.bnez
     (0, 0),
     (0, 0),
 ];

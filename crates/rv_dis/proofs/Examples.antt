@@ -35,6 +35,8 @@ texts : are_texts ((instruction_text 0 op.Addi (fields 10 10 0 (pos 1)), codes "
     ∷ (instruction_text 0 op.CJr (fields 0 1 0 (pos 0)), codes "c.jr ra")
     ∷ (instruction_text 0 op.Jalr (fields 10 11 0 (negsuc 3)), codes "jalr a0, -4(a1)")
     ∷ (instruction_text 0 op.Sw (fields 0 2 10 (pos 0)), codes "sw a0, 0(sp)")
+    ∷ (instruction_text 0 op.AmoaddW (fields 10 12 11 (pos 0)), codes "amoadd.w a0, a1, (a2)")
+    ∷ (instruction_text 0 op.LrWAqrl (fields 31 0 0 (pos 0)), codes "lr.w.aqrl t6, (zero)")
     ∷ [])
 unfolding instruction_text operation_name row_of slots_of register_name digits hex csr_name csr_names set_name set_names
 texts = refl

@@ -84,6 +84,8 @@ fit_slots a shape.Csr f h m = (h.rd, (csr_below f.value h.limits.low h.limits.hi
 fit_slots a shape.CsrImmediate f h m = (h.rd, (csr_below f.value h.limits.low h.limits.high, (class_below (classes_of shape.CsrImmediate).rs1 f.rs1 h.rs1, tt)))
 fit_slots a shape.Fence f h m = (h.rs1, (h.rs2, tt))
 fit_slots a shape.Whole f h m = tt
+fit_slots a shape.LoadReserved f h m = (h.rd, (h.rs1, tt))
+fit_slots a shape.Atomic f h m = (h.rd, (h.rs2, (h.rs1, tt)))
 fit_slots a shape.CStackAddress f h m = (h.rd, (tt, (m, tt)))
 fit_slots a shape.CLoad f h m = (h.rd, ((h.rs1, m), tt))
 fit_slots a shape.CStore f h m = (h.rs2, ((h.rs1, m), tt))
@@ -238,6 +240,10 @@ is_filled a shape.Fence f at small h =
     without_value shape.Fence a f _ (same f 0 f.rs1 f.rs2 (pos 0) (no_register f.rd h.rd) refl refl (no_value f.value h.limits.low h.limits.high))
 is_filled a shape.Whole f at small h =
     without_value shape.Whole a f _ (same f 0 0 0 (pos 0) (no_register f.rd h.rd) (no_register f.rs1 h.rs1) (no_register f.rs2 h.rs2) (no_value f.value h.limits.low h.limits.high))
+is_filled a shape.LoadReserved f at small h =
+    without_value shape.LoadReserved a f _ (same f f.rd f.rs1 0 (pos 0) refl refl (no_register f.rs2 h.rs2) (no_value f.value h.limits.low h.limits.high))
+is_filled a shape.Atomic f at small h =
+    without_value shape.Atomic a f _ (same f f.rd f.rs1 f.rs2 (pos 0) refl refl refl (no_value f.value h.limits.low h.limits.high))
 is_filled a shape.CStackAddress f at small h =
     with_signed shape.CStackAddress a f h _ _ (same f f.rd 0 0 f.value refl (no_register f.rs1 h.rs1) (no_register f.rs2 h.rs2) refl)
 is_filled a shape.CLoad f at small h =

@@ -26,12 +26,12 @@ use Rattle.rv_stmt.specs.declared.slots.Slot.{Slot}
 use Rattle.rv_stmt.specs.declared.slots.Slot.TheVariants as slot
 use Rattle.rv_stmt.specs.Forms.{slots_of}
 use Rattle.rv_stmt.specs.Registers.{set_name, set_names}
-use Rattle.rv_dis.specs.Text.{after_comma, after_name, target_of, csr_text, set_text, hexadecimal, immediate_text, memory_text, operand_text, instruction_text}
+use Rattle.rv_dis.specs.Text.{after_comma, after_name, target_of, csr_text, set_text, hexadecimal, immediate_text, base_text, memory_text, operand_text, instruction_text}
 use Rattle.rv_dis.proofs.Digits.{digits_last, digits_step}
 
 -- names of at most so many bytes
 
-row_name_test : (o : Op) → ltb (length (operation_name o)) 11 ≡ true
+row_name_test : (o : Op) → ltb (length (operation_name o)) 15 ≡ true
 unfolding operation_name row_of
 row_name_test Lui = refl
 row_name_test _ = refl
@@ -141,6 +141,7 @@ most_text slot.SourceImmediate = 2
 most_text slot.Target = 10
 most_text slot.Memory = 17
 most_text slot.StackMemory = 17
+most_text slot.Base = 6
 most_text slot.MemoryOrRegister = 17
 most_text slot.MemoryOrAddress = 17
 most_text slot.Csr = 16
@@ -155,19 +156,17 @@ abbrev most_texts : List Slot → ℕ
 most_texts [] = 0
 most_texts (s ∷ ss) = 2 + (most_text s + most_texts ss)
 
-most_texts_test : (s : Shape) → ltb (most_texts (slots_of s)) 31 ≡ true
-unfolding slots_of
-most_texts_test Upper = refl
-most_texts_test _ = refl
-
 immediate_short : (s : Shape) (v : ℤ) → IsSmall v → length (immediate_text s v) ≤ 11
 immediate_short Upper v h = omega (arith, hexadecimal_short (unsigned_abs v) (magnitude_small v h))
 immediate_short CUpper v h = omega (arith, hexadecimal_short (unsigned_abs v) (magnitude_small v h))
 immediate_short _ v h = signed_short v h
 
+base_short : (base : ℕ) → length (base_text base) ≤ 6
+base_short base = omega (arith, length-append (register_name base) (codes ")"), register_short base)
+
 memory_short : (v : ℤ) (base : ℕ) → IsSmall v → length (memory_text v base) ≤ 17
 memory_short v base h =
-    omega (arith, length-append (signed_decimal v) (codes "(" ++ (register_name base ++ codes ")")), length-append (register_name base) (codes ")"), signed_short v h, register_short base)
+    omega (arith, length-append (signed_decimal v) (base_text base), signed_short v h, base_short base)
 
 csr_short : (name : Option (List ℕ)) (n : ℕ) → IfSome name (λ name. length name ≤ 16) → length (csr_text name n) ≤ 16
 csr_short None n h = omega (arith, length-hex 3 n)
@@ -187,6 +186,7 @@ operand_short a s f slot.SourceImmediate r v = length-decimal-le 2 f.rs1 (omega 
 operand_short a s f slot.Target r v = omega (arith, length-hex 8 (target_of a f.value))
 operand_short a s f slot.Memory r v = memory_short f.value f.rs1 v
 operand_short a s f slot.StackMemory r v = memory_short f.value 2 v
+operand_short a s f slot.Base r v = base_short f.rs1
 operand_short a s f slot.MemoryOrRegister r v = memory_short f.value f.rs1 v
 operand_short a s f slot.MemoryOrAddress r v = memory_short f.value f.rs1 v
 operand_short a s f slot.Csr r v = csr_short (csr_name (unsigned_abs f.value)) (unsigned_abs f.value) (csr_name_short (unsigned_abs f.value))
@@ -206,8 +206,14 @@ after_name_short : (g : Slot → List ℕ) → ((s : Slot) → length (g s) ≤ 
 after_name_short g h [] = omega arith
 after_name_short g h (s ∷ ss) = omega (arith, length-append (g s) (after_comma (map g ss)), h s, after_comma_short g h ss)
 
-pub name_short : (o : Op) → length (operation_name o) ≤ 10
-name_short o = omega (arith, ltb-true (length (operation_name o)) 11 (row_name_test o))
+pub name_short : (o : Op) → length (operation_name o) ≤ 14
+name_short o = omega (arith, ltb-true (length (operation_name o)) 15 (row_name_test o))
+
+-- a mnemonic and its operands
+row_test : (o : Op) → ltb (length (operation_name o) + most_texts (slots_of (shape_of o))) 41 ≡ true
+unfolding operation_name row_of slots_of
+row_test Lui = refl
+row_test _ = refl
 
 -- a row has room for the text of every instruction
 pub text_short : (a : ℕ) (o : Op) (f : Fields) → Fits o f → length (instruction_text a o f) ≤ 40
@@ -216,7 +222,7 @@ text_short a o f h =
     let rs1 = class_below (classes_of (shape_of o)).rs1 f.rs1 h.rs1 in
     let each : (slot : Slot) → length (operand_text a (shape_of o) f slot) ≤ most_text slot = λ slot. operand_short a (shape_of o) f slot rs1 (value_small o f h) in
     let operands = map (operand_text a (shape_of o) f) (slots_of (shape_of o)) in
-    omega (arith, length-append (operation_name o) (after_name operands), name_short o, after_name_short (operand_text a (shape_of o) f) each (slots_of (shape_of o)), ltb-true (most_texts (slots_of (shape_of o))) 31 (most_texts_test (shape_of o)))
+    omega (arith, length-append (operation_name o) (after_name operands), after_name_short (operand_text a (shape_of o) f) each (slots_of (shape_of o)), ltb-true (length (operation_name o) + most_texts (slots_of (shape_of o))) 41 (row_test o))
 
 -- the first operand has room, with the space before it
 pub first_fits : (name t rest whole : List ℕ) → (name ++ codes " " ++ t) ++ rest ≡ whole → length whole ≤ 40 → length name + (1 + length t) ≤ 40

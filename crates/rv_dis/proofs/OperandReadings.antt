@@ -31,7 +31,7 @@ use Rattle.rv_dis.proofs.Numerals.{number_decimal, number_hexadecimal, number_he
 use Rattle.rv_dis.proofs.Identifiers.{set_is}
 use Rattle.rv_dis.proofs.Spelling.{Piece}
 use Rattle.rv_dis.proofs.Cutting.{run_at}
-use Rattle.rv_dis.proofs.Operands.{FitsSlot, class_below, target_below, identifier_piece, number_piece, value_pieces, memory_pieces, immediate_pieces, csr_pieces, operand_pieces}
+use Rattle.rv_dis.proofs.Operands.{FitsSlot, class_below, target_below, identifier_piece, number_piece, value_pieces, base_pieces, memory_pieces, immediate_pieces, csr_pieces, operand_pieces}
 
 -- what each slot puts into a draft
 
@@ -61,6 +61,7 @@ put a s f slot.SourceImmediate span d = waiting (tree.Number (pos f.rs1)) Source
 put a s f slot.Target span d = waiting (tree.Number (pos (target_of a f.value))) Target span d
 put a s f slot.Memory span d = waiting (value_tree f.value) Immediate span (with_rs1 d f.rs1)
 put a s f slot.StackMemory span d = waiting (value_tree f.value) Immediate span d
+put a s f slot.Base span d = with_rs1 d f.rs1
 put a s f slot.MemoryOrRegister span d = waiting (value_tree f.value) Immediate span (with_rs1 d f.rs1)
 put a s f slot.MemoryOrAddress span d = waiting (value_tree f.value) Immediate span (with_rs1 d f.rs1)
 put a s f slot.Csr span d = csr_put (csr_name (unsigned_abs f.value)) (unsigned_abs f.value) span d
@@ -110,6 +111,10 @@ memory_read o (pos n) base b h end at d =
 memory_read o (negsuc n) base b h end at d =
     rw (register_named-name base (class_below (classes_of (shape_of o)).rs1 base b), number_decimal (suc n) (omega arith), b) refl
 
+base_read : (o : Op) (base : ℕ) → is_in (classes_of (shape_of o)).rs1 base ≡ true → IsRead o slot.Base (base_pieces base) (λ span d. with_rs1 d base)
+base_read o base b end at d =
+    rw (register_named-name base (class_below (classes_of (shape_of o)).rs1 base b), b) refl
+
 memory_or_register_read : (o : Op) (v : ℤ) (base : ℕ) → is_in (classes_of (shape_of o)).rs1 base ≡ true → unsigned_abs v < 2 ^ 32 → IsRead o slot.MemoryOrRegister (memory_pieces v base) (λ span d. waiting (value_tree v) Immediate span (with_rs1 d base))
 memory_or_register_read o (pos n) base b h end at d =
     rw (register_named-name base (class_below (classes_of (shape_of o)).rs1 base b), number_decimal n (omega arith), b) refl
@@ -152,6 +157,7 @@ operand_read a o f slot.SourceImmediate h = source_read o f.rs1 h
 operand_read a o f slot.Target h = target_read o (target_of a f.value) (target_below a f.value)
 operand_read a o f slot.Memory h = memory_read o f.value f.rs1 h.0 h.1
 operand_read a o f slot.StackMemory h = stack_memory_read o f.value h
+operand_read a o f slot.Base h = base_read o f.rs1 h
 operand_read a o f slot.MemoryOrRegister h = memory_or_register_read o f.value f.rs1 h.0 h.1
 operand_read a o f slot.MemoryOrAddress h = memory_or_address_read o f.value f.rs1 h.0 h.1
 operand_read a o f slot.Csr h = csr_read o (csr_name (unsigned_abs f.value)) (unsigned_abs f.value) (csr_named-name (unsigned_abs f.value)) h

@@ -20,7 +20,7 @@ use Rattle.rv_code.specs.Encoding.{is_in}
 use Rattle.rv_stmt.specs.Registers.{set_name}
 use Rattle.rv_stmt.specs.declared.slots.Slot.{Slot}
 use Rattle.rv_stmt.specs.declared.slots.Slot.TheVariants as slot
-use Rattle.rv_dis.specs.Text.{hexadecimal, hexadecimal_of, immediate_text, target_of, memory_text, csr_text, set_text, operand_text}
+use Rattle.rv_dis.specs.Text.{hexadecimal, hexadecimal_of, immediate_text, target_of, base_text, memory_text, csr_text, set_text, operand_text}
 use Rattle.rv_dis.proofs.Numerals.{number_decimal, number_hexadecimal, number_hex}
 use Rattle.rv_dis.proofs.Identifiers.{register_identifier, csr_identifier, set_is}
 use Rattle.rv_dis.proofs.Spelling.{Piece, Spelled, spelling, are_plain_tokens}
@@ -37,6 +37,10 @@ number_piece text = Spelled Number text ∷ []
 abbrev pub value_pieces : ℤ → List Piece
 value_pieces (pos n) = Spelled Number (decimal n) ∷ []
 value_pieces (negsuc n) = Spelled Punctuation (codes "-") ∷ Spelled Number (decimal (suc n)) ∷ []
+
+abbrev pub base_pieces : ℕ → List Piece
+base_pieces base =
+    Spelled Punctuation (codes "(") ∷ Spelled Identifier (register_name base) ∷ Spelled Punctuation (codes ")") ∷ []
 
 abbrev pub memory_pieces : ℤ → ℕ → List Piece
 memory_pieces (pos n) base =
@@ -63,6 +67,7 @@ operand_pieces a s f slot.SourceImmediate = number_piece (decimal f.rs1)
 operand_pieces a s f slot.Target = number_piece (hexadecimal_of 8 (target_of a f.value))
 operand_pieces a s f slot.Memory = memory_pieces f.value f.rs1
 operand_pieces a s f slot.StackMemory = memory_pieces f.value 2
+operand_pieces a s f slot.Base = base_pieces f.rs1
 operand_pieces a s f slot.MemoryOrRegister = memory_pieces f.value f.rs1
 operand_pieces a s f slot.MemoryOrAddress = memory_pieces f.value f.rs1
 operand_pieces a s f slot.Csr = csr_pieces (csr_name (unsigned_abs f.value)) (unsigned_abs f.value)
@@ -101,6 +106,7 @@ operand_spelling a s f slot.SourceImmediate = append-nil (decimal f.rs1)
 operand_spelling a s f slot.Target = append-nil (hexadecimal_of 8 (target_of a f.value))
 operand_spelling a s f slot.Memory = memory_spelling f.value f.rs1
 operand_spelling a s f slot.StackMemory = memory_spelling f.value 2
+operand_spelling a s f slot.Base = refl
 operand_spelling a s f slot.MemoryOrRegister = memory_spelling f.value f.rs1
 operand_spelling a s f slot.MemoryOrAddress = memory_spelling f.value f.rs1
 operand_spelling a s f slot.Csr = csr_spelling (csr_name (unsigned_abs f.value)) (unsigned_abs f.value)
@@ -121,6 +127,7 @@ FitsSlot a s f slot.SourceImmediate = f.rs1 < 32
 FitsSlot a s f slot.Target = ⊤
 FitsSlot a s f slot.Memory = (is_in (classes_of s).rs1 f.rs1 ≡ true) × (unsigned_abs f.value < 2 ^ 32)
 FitsSlot a s f slot.StackMemory = unsigned_abs f.value < 2 ^ 32
+FitsSlot a s f slot.Base = is_in (classes_of s).rs1 f.rs1 ≡ true
 FitsSlot a s f slot.MemoryOrRegister = (is_in (classes_of s).rs1 f.rs1 ≡ true) × (unsigned_abs f.value < 2 ^ 32)
 FitsSlot a s f slot.MemoryOrAddress = (is_in (classes_of s).rs1 f.rs1 ≡ true) × (unsigned_abs f.value < 2 ^ 32)
 FitsSlot a s f slot.Csr = unsigned_abs f.value < 4096
@@ -156,6 +163,11 @@ value_is_operand (negsuc n) h =
     let e = number_decimal (suc n) (omega arith) in
     record { plain = rw e refl; whole = (λ at. refl, (λ at. refl, rw e refl)); some = refl }
 
+base_is_operand : (base : ℕ) → base < 32 → IsOperand (base_pieces base)
+base_is_operand base b =
+    let w = register_identifier base b in
+    record { plain = rw w refl; whole = (λ at. refl, (λ at. refl, (λ at. refl, refl))); some = refl }
+
 memory_is_operand : (v : ℤ) (base : ℕ) → base < 32 → unsigned_abs v < 2 ^ 32 → IsOperand (memory_pieces v base)
 memory_is_operand (pos n) base b h =
     let e = number_decimal n (omega arith) in
@@ -188,6 +200,7 @@ slot_is_operand a s f slot.SourceImmediate h = number_is_operand f.rs1 (decimal 
 slot_is_operand a s f slot.Target h = number_is_operand (target_of a f.value) (hexadecimal_of 8 (target_of a f.value)) (number_hex 8 (target_of a f.value) (omega arith) (omega (arith, target_below a f.value)) (omega (arith, target_below a f.value)))
 slot_is_operand a s f slot.Memory h = memory_is_operand f.value f.rs1 (class_below (classes_of s).rs1 f.rs1 h.0) h.1
 slot_is_operand a s f slot.StackMemory h = memory_is_operand f.value 2 (omega arith) h
+slot_is_operand a s f slot.Base h = base_is_operand f.rs1 (class_below (classes_of s).rs1 f.rs1 h)
 slot_is_operand a s f slot.MemoryOrRegister h = memory_is_operand f.value f.rs1 (class_below (classes_of s).rs1 f.rs1 h.0) h.1
 slot_is_operand a s f slot.MemoryOrAddress h = memory_is_operand f.value f.rs1 (class_below (classes_of s).rs1 f.rs1 h.0) h.1
 slot_is_operand a s f slot.Csr h = csr_is_operand (csr_name (unsigned_abs f.value)) (unsigned_abs f.value) (csr_identifier (unsigned_abs f.value)) h

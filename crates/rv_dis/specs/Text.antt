@@ -33,9 +33,13 @@ immediate_text s v = signed_decimal v
 abbrev pub target_of : (address : ℕ) → (displacement : ℤ) → ℕ
 target_of address displacement = (address + cast_unsigned w32 displacement) % 2 ^ 32
 
+-- `(register)`
+abbrev pub base_text : (base : ℕ) → List ℕ
+base_text base = codes "(" ++ (register_name base ++ codes ")")
+
 -- `offset(register)`
 abbrev pub memory_text : (offset : ℤ) → (base : ℕ) → List ℕ
-memory_text offset base = signed_decimal offset ++ (codes "(" ++ (register_name base ++ codes ")"))
+memory_text offset base = signed_decimal offset ++ base_text base
 
 -- a control and status register: its name, or its number where it has none
 abbrev pub csr_text : Option (List ℕ) → (number : ℕ) → List ℕ
@@ -59,6 +63,7 @@ operand_text address s f slot.SourceImmediate = decimal f.rs1
 operand_text address s f slot.Target = hexadecimal_of 8 (target_of address f.value)
 operand_text address s f slot.Memory = memory_text f.value f.rs1
 operand_text address s f slot.StackMemory = memory_text f.value 2
+operand_text address s f slot.Base = base_text f.rs1
 operand_text address s f slot.MemoryOrRegister = memory_text f.value f.rs1
 operand_text address s f slot.MemoryOrAddress = memory_text f.value f.rs1
 operand_text address s f slot.Csr = csr_text (csr_name (unsigned_abs f.value)) (unsigned_abs f.value)

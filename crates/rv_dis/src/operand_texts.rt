@@ -4,7 +4,7 @@ ghost use Rattle.std.specs.Prelude.{◌≡◌, ◌+◌, ◌≤◌, ◌++◌, len
 ghost use Rattle.rv_ops.specs.Csrs.{csr_name};
 ghost use Rattle.rv_ops.specs.Table.{shape_of};
 ghost use Rattle.rv_stmt.specs.Registers.{set_name};
-ghost use Rattle.rv_dis.specs.Text.{csr_text, immediate_text, memory_text, operand_text, set_text, target_of};
+ghost use Rattle.rv_dis.specs.Text.{base_text, csr_text, immediate_text, memory_text, operand_text, set_text, target_of};
 
 use crate::names::push_register_name;
 use crate::numbers::{push_decimal, push_hexadecimal, push_hexadecimal_of, push_word};
@@ -38,15 +38,24 @@ fn push_immediate(out: &mut RowText, shape: Shape, value: i32)
     }
 }
 
+// `(register)`.
+#[inline(always)]
+fn push_base(out: &mut RowText, base: Reg)
+    requires { length out.old + length (base_text base) ≤ 40 }
+    ensures { out.new ≡ out.old ++ base_text base }
+{
+    out.push_str("(");
+    push_register_name(out, base);
+    out.push_str(")")
+}
+
 /// `offset(register)`.
 pub fn push_memory(out: &mut RowText, offset: i32, base: Reg)
     requires { length out.old + length (memory_text offset base) ≤ 40 }
     ensures { out.new ≡ out.old ++ memory_text offset base }
 {
     push_decimal(out, offset);
-    out.push_str("(");
-    push_register_name(out, base);
-    out.push_str(")")
+    push_base(out, base)
 }
 
 // The name of a control and status register. Most numbers have none.
@@ -102,6 +111,7 @@ pub fn push_operand(out: &mut RowText, ins: &Ins, slot: Slot, address: u32)
             push_memory(out, fields.value, fields.rs1)
         }
         Slot::StackMemory => push_memory(out, fields.value, stack_pointer()),
+        Slot::Base => push_base(out, fields.rs1),
         Slot::Csr => push_csr(out, fields.value.unsigned_abs()),
         Slot::Predecessors => push_set(out, fields.rs1),
         Slot::Successors => push_set(out, fields.rs2),

@@ -137,9 +137,9 @@ macro_rules! slice {
 }
 
 /// The layout of each shape, in the order of the shapes: RISC-V Unprivileged ISA 20191213, sections 2.2 to 2.8,
-/// 9.1 and 16.2 to 16.5. The columns are the shape, the classes of rd, rs1 and rs2, the limits of the value, its
+/// 8.2, 8.4, 9.1 and 16.2 to 16.5. The columns are the shape, the classes of rd, rs1 and rs2, the limits of the value, its
 /// sign, and the slices of the fields that fill the encoding.
-pub const LAYOUTS: [LayoutRow; 31] = [
+pub const LAYOUTS: [LayoutRow; 33] = [
     (
         Shape::Upper,
         registers!(Any, Absent, Absent),
@@ -276,6 +276,24 @@ pub const LAYOUTS: [LayoutRow; 31] = [
         limits!(0 to 0),
         sign!(0 less 0),
         &[],
+    ),
+    (
+        Shape::LoadReserved,
+        registers!(Any, Any, Absent),
+        limits!(0 to 0),
+        sign!(0 less 0),
+        &[slice!(Rd[4:0] at 7), slice!(Rs1[4:0] at 15)],
+    ),
+    (
+        Shape::Atomic,
+        registers!(Any, Any, Any),
+        limits!(0 to 0),
+        sign!(0 less 0),
+        &[
+            slice!(Rd[4:0] at 7),
+            slice!(Rs1[4:0] at 15),
+            slice!(Rs2[4:0] at 20),
+        ],
     ),
     (
         Shape::CStackAddress,

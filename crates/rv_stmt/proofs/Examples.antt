@@ -99,6 +99,8 @@ instructions_rows =
     ∷ (codes "sw a0, x+4(a1)", instr 0 2 op.Sw 0 11 10 (pos 0) (value (Binary Add (Symbol (codes "x")) (Number (pos 4))) Immediate 7 14 ∷ []))
     ∷ (codes "jalr a0, a1", instr 0 4 op.Jalr 10 11 0 (pos 0) [])
     ∷ (codes "jalr a0, 4(a1)", instr 0 4 op.Jalr 10 11 0 (pos 0) (value (Number (pos 4)) Immediate 9 14 ∷ []))
+    ∷ (codes "amoadd.w a0, a1, 0(a2)", instr 0 8 op.AmoaddW 10 12 11 (pos 0) [])
+    ∷ (codes "LR.W.aq a0, (a1)", instr 0 7 op.LrWAq 10 11 0 (pos 0) [])
     ∷ (codes "ecall", instr 0 5 op.Ecall 0 0 0 (pos 0) [])
     ∷ (codes "fence IR, w", instr 0 5 op.Fence 0 10 1 (pos 0) [])
     ∷ (codes "csrrw a0, mstatus, a1", instr 0 5 op.Csrrw 10 11 0 (pos 0x300) [])
@@ -160,6 +162,11 @@ memory_rows =
     ∷ (codes "lw a0, ((a1))", pseudo 2 op.Lw 10 10 0 (pos 0) (value (Symbol (codes "a1")) PairTarget 7 13 ∷ []))
     ∷ (codes "sw a0, (a1), t0", pseudo 2 op.Sw 0 5 10 (pos 0) (value (Symbol (codes "a1")) PairTarget 7 11 ∷ []))
     ∷ (codes "sw a0, 4(a1), t0", faulty BadOperand 7 12)
+    ∷ (codes "amoadd.w a0, a1, 4(a2)", faulty BadOperand 17 22)
+    ∷ (codes "lr.w a0, -0(a1)", faulty BadOperand 9 15)
+    ∷ (codes "lr.w a0, '\\0'(a1)", faulty BadOperand 9 17)
+    ∷ (codes "lr.w a0, %lo(0)(a1)", faulty BadOperand 9 19)
+    ∷ (codes "lr.w a0, %lo(0)", faulty BadRegister 9 15)
     ∷ (codes "lw a0,", faulty BadOperand 6 6)
     ∷ (codes "c.lw a0,", faulty BadRegister 8 8)
     ∷ (codes "sw a0,", faulty BadRegister 6 6)
@@ -333,5 +340,5 @@ depth = refl
 
 -- the table of operands is in the order of the shapes
 
-operands_in_order : map (λ row. tag_of shape_type row.0) OPERANDS ≡ 0 ∷ 1 ∷ 2 ∷ 3 ∷ 4 ∷ 5 ∷ 6 ∷ 7 ∷ 8 ∷ 9 ∷ 10 ∷ 11 ∷ 12 ∷ 13 ∷ 14 ∷ 15 ∷ 16 ∷ 17 ∷ 18 ∷ 19 ∷ 20 ∷ 21 ∷ 22 ∷ 23 ∷ 24 ∷ 25 ∷ 26 ∷ 27 ∷ 28 ∷ 29 ∷ 30 ∷ []
+operands_in_order : map (λ row. tag_of shape_type row.0) OPERANDS ≡ 0 ∷ 1 ∷ 2 ∷ 3 ∷ 4 ∷ 5 ∷ 6 ∷ 7 ∷ 8 ∷ 9 ∷ 10 ∷ 11 ∷ 12 ∷ 13 ∷ 14 ∷ 15 ∷ 16 ∷ 17 ∷ 18 ∷ 19 ∷ 20 ∷ 21 ∷ 22 ∷ 23 ∷ 24 ∷ 25 ∷ 26 ∷ 27 ∷ 28 ∷ 29 ∷ 30 ∷ 31 ∷ 32 ∷ []
 operands_in_order = refl

@@ -41,7 +41,7 @@ use Rattle.rv_stmt.specs.Draft.{with_rs1}
 use Rattle.rv_stmt.specs.Expansion.{expansion_of}
 use Rattle.rv_stmt.specs.Forms.{Form, form_of}
 use Rattle.rv_stmt.specs.Labels.{labels_and_body, label_at, with_label}
-use Rattle.rv_stmt.specs.Memory.{base_of, memory}
+use Rattle.rv_stmt.specs.Memory.{base_of, bare_base, memory}
 use Rattle.rv_stmt.specs.Operands.{reported_at}
 use Rattle.rv_stmt.specs.Readings.{Reading, and_then}
 use Rattle.rv_stmt.specs.Registers.{register, register_in, csr_in, set}
@@ -104,6 +104,7 @@ slot_adds op slot.SourceImmediate r d = waiting_adds SourceImmediate r.span d (p
 slot_adds op slot.Target r d = waiting_adds Target r.span d (plain r.tokens)
 slot_adds op slot.Memory r d = memory_adds op r d
 slot_adds op slot.StackMemory r d = then_adds 1 d (memory (shape_of op) StackPointer r.tokens) _ (λ l. offset_adds r.span d l.offset)
+slot_adds op slot.Base r d = then_adds 1 d (bare_base (Class (classes_of (shape_of op)).rs1) r.tokens) _ (λ n. same_adds d)
 slot_adds op slot.MemoryOrRegister r d = memory_or_register_adds op r d (register_in r.tokens)
 slot_adds op slot.MemoryOrAddress r d =
     either_adds 1 d (punctuation_at (codes "%") r.tokens 0 || is_some (base_of r.tokens)) (memory_slot op r d) (address_through_rd_slot r d) (memory_adds op r d) (through_rd_adds r d)

@@ -1,7 +1,10 @@
 -- Operands in memory: `offset(register)`. (docs/LANGUAGE.md, Instructions)
-use Rattle.std.specs.Prelude.{ℕ, suc, ◌+◌, ◌-◌, ◌&&◌, ◌==◌, nat_le, List, [], ◌∷◌, length, take, drop, Option, Some, None, is_some, option_and_then, option_map, Ok, codes, if◌then◌else◌}
-use Rattle.rv_text.specs.declared.faults.FaultNumber.TheVariants.{BadRegister}
+use Rattle.std.specs.Prelude.{ℕ, suc, ◌+◌, ◌-◌, ◌&&◌, ◌==◌, nat_le, Bool, true, false, List, [], ◌∷◌, length, take, drop, Option, Some, None, is_some, option_and_then, option_map, Ok, Err, codes, if◌then◌else◌}
+use Rattle.rv_text.specs.declared.faults.FaultNumber.TheVariants.{BadRegister, BadOperand}
+use Rattle.rv_text.specs.declared.lexeme.TokenKind.{TokenKind}
+use Rattle.rv_text.specs.declared.lexeme.TokenKind.TheVariants.{Number}
 use Rattle.rv_text.specs.Lexing.{SpelledToken}
+use Rattle.rv_text.specs.Numbers.{number_of}
 use Rattle.rv_ops.specs.Registers.{register_named}
 use Rattle.rv_ops.specs.declared.op.Shape.{Shape}
 use Rattle.rv_expr.specs.Depth.{depth_after}
@@ -71,3 +74,26 @@ plain_memory a run = place_in_memory a (base_of run) (offset (take (length run -
 -- an offset with a modifier, or a plain one
 abbrev pub memory : Shape → Accepted → List SpelledToken → Reading Located
 memory s a run = if punctuation_at (codes "%") run 0 then modified_memory s a run else plain_memory a run
+
+-- Addresses without an offset
+
+abbrev pub is_zero_value : Option ℕ → Bool
+is_zero_value None = false
+is_zero_value (Some n) = n == 0
+
+abbrev pub is_zero_of_kind : TokenKind → List ℕ → Bool
+is_zero_of_kind Number text = is_zero_value (number_of text)
+is_zero_of_kind kind text = false
+
+-- nothing stands before the base, or a number alone whose value is 0
+abbrev pub is_no_offset : List SpelledToken → Bool
+is_no_offset [] = true
+is_no_offset (p ∷ []) = is_zero_of_kind p.kind p.text
+is_no_offset (p ∷ q ∷ ps) = false
+
+-- a register that holds an address: `(register)` or `0(register)`; the base's fault comes first
+abbrev pub bare_base : Accepted → List SpelledToken → Reading ℕ
+bare_base a run =
+    and_then
+    (and_then (or_fault BadRegister (base_of run)) (accepted_register a))
+    (λ n. if is_no_offset (take (length run - 3) run) then Ok n else Err BadOperand)

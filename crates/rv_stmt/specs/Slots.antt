@@ -15,7 +15,7 @@ use Rattle.rv_stmt.specs.declared.runs.Run.{Run}
 use Rattle.rv_stmt.specs.declared.slots.Slot.{Slot}
 use Rattle.rv_stmt.specs.declared.slots.Slot.TheVariants as slot
 use Rattle.rv_stmt.specs.Draft.{with_rd, with_rs1, with_rs2, with_value, with_operand}
-use Rattle.rv_stmt.specs.Memory.{base_of, memory}
+use Rattle.rv_stmt.specs.Memory.{base_of, bare_base, memory}
 use Rattle.rv_stmt.specs.Readings.{Reading, and_then}
 use Rattle.rv_stmt.specs.Operands.{operand_of_run}
 use Rattle.rv_stmt.specs.Registers.{register_in, register, csr_in, set}
@@ -35,6 +35,10 @@ with_offset span d (Some v) = with_waiting Immediate span d (Ok v)
 -- the register of a run, which `put` puts into its field
 abbrev pub register_slot : Accepted → List SpelledToken → (ℕ → Draft) → Reading Draft
 register_slot a run put = and_then (register a run) (λ n. Ok (put n))
+
+-- an address without an offset, in `rs1`
+abbrev pub base_slot : Accepted → List SpelledToken → Draft → Reading Draft
+base_slot a run d = and_then (bare_base a run) (λ n. Ok (with_rs1 d n))
 
 -- `offset(register)`, with the register in `rs1`
 abbrev pub memory_slot : Op → Run → Draft → Reading Draft
@@ -93,6 +97,7 @@ slot_of op slot.SourceImmediate r d = with_waiting SourceImmediate r.span d (pla
 slot_of op slot.Target r d = with_waiting Target r.span d (plain r.tokens)
 slot_of op slot.Memory r d = memory_slot op r d
 slot_of op slot.StackMemory r d = stack_memory_slot op r d
+slot_of op slot.Base r d = base_slot (Class (classes_of (shape_of op)).rs1) r.tokens d
 slot_of op slot.MemoryOrRegister r d = memory_or_register_slot op r d
 slot_of op slot.MemoryOrAddress r d = memory_or_address_slot op r d
 slot_of op slot.Address r d = with_waiting PairTarget r.span d (plain r.tokens)

@@ -1,16 +1,17 @@
 //! Operands in memory: `offset(register)`.
 
 ghost use Rattle.std.specs.Prelude.{◌≡◌, ◌+◌, ◌<◌, ◌≤◌, ◌^◌, IfOk, IfSome, option_map, length, take, drop};
-ghost use Rattle.rv_stmt.specs.Memory.{base_at, base_of, offset, closed_within, group_from, group_of, base_after, modified_memory, plain_memory, memory};
+ghost use Rattle.rv_text.specs.Numbers.{number_of};
+ghost use Rattle.rv_stmt.specs.Memory.{base_at, base_of, offset, closed_within, group_from, group_of, base_after, modified_memory, plain_memory, memory, is_zero_value, is_zero_of_kind, is_no_offset, bare_base};
 
 use crate::operand::OperandValue;
-use crate::reading::Attempt;
+use crate::reading::{Attempt, Reading};
 use crate::registers::Accepted;
-use crate::token_range::TokenRange;
+use crate::token_range::{Lexeme, TokenRange};
 use crate::values::{modified_value, plain};
 use rv_expr::depth_after;
 use rv_ops::{Reg, Shape, reg_by_name};
-use rv_text::FaultNumber;
+use rv_text::{FaultNumber, TokenKind, number};
 use std::alloc::Global;
 
 /// A place in memory: the offset from a register, which may be absent.
@@ -146,5 +147,47 @@ pub fn memory(
         modified_memory(alloc, shape, accepted, run)
     } else {
         plain_memory(alloc, accepted, run)
+    }
+}
+
+// Whether a number has the value 0.
+fn is_zero_number(text: &[u8]) -> bool
+    ensures { result ≡ is_zero_value (number_of text.now) }
+{
+    match number(text) {
+        Some(value) => value == 0,
+        None => false,
+    }
+}
+
+// Whether a token is a number whose value is 0.
+fn is_zero(token: &Lexeme<'_>) -> bool
+    ensures { result ≡ is_zero_of_kind token.now.kind token.now.text }
+{
+    match token.kind {
+        TokenKind::Number => is_zero_number(token.text),
+        _ => false,
+    }
+}
+
+// Whether nothing stands before a base, or a number alone whose value is 0.
+fn is_no_offset(run: &TokenRange<'_>) -> bool
+    ensures { result ≡ is_no_offset run.now }
+{
+    match run.split_first() {
+        None => true,
+        Some((token, rest)) => rest.len() == 0 && is_zero(&token),
+    }
+}
+
+/// The register that holds an address, `(register)` or `0(register)`, if it is one of those accepted.
+pub fn bare_base(accepted: Accepted, run: &TokenRange<'_>) -> Reading<Reg>
+    ensures { result ≡ bare_base accepted run.now }
+{
+    let base = accepted.check(base_of(run))?;
+    if is_no_offset(&run.part(0, run.len().saturating_sub(3))) {
+        Ok(base)
+    } else {
+        Err(FaultNumber::BadOperand)
     }
 }

@@ -28,6 +28,7 @@ impl Draft {
             Slot::Target => self.expression_slot(alloc, Role::Target, run),
             Slot::Memory => self.memory_slot(alloc, op, run),
             Slot::StackMemory => self.stack_memory_slot(alloc, op, run),
+            Slot::Base => Ok(self.base_slot(Accepted::Class(classes(op).rs1), &run.tokens)),
             Slot::MemoryOrRegister => self.memory_or_register_slot(alloc, op, run),
             Slot::MemoryOrAddress => self.memory_or_address_slot(alloc, op, run),
             Slot::Address => self.expression_slot(alloc, Role::PairTarget, run),

@@ -3,9 +3,10 @@
 ghost use Rattle.std.specs.Prelude.{◌≡◌};
 ghost use Rattle.rv_stmt.specs.declared.registers.Accepted.TheVariants.{StackPointer};
 ghost use Rattle.rv_stmt.specs.Draft.{with_rd, with_rs1, with_rs2};
-ghost use Rattle.rv_stmt.specs.Slots.{register_slot, predecessors_slot, successors_slot};
+ghost use Rattle.rv_stmt.specs.Slots.{base_slot, register_slot, predecessors_slot, successors_slot};
 
 use crate::draft::Draft;
+use crate::memory::bare_base;
 use crate::reading::Reading;
 use crate::registers::{Accepted, register};
 use crate::sets::set;
@@ -24,6 +25,13 @@ impl Draft {
         ensures { result ≡ register_slot accepted run.now (with_rs1 self) }
     {
         Ok(self.with_rs1(register(accepted, run)?))
+    }
+
+    /// An address without an offset, in `rs1`.
+    pub fn base_slot(self, accepted: Accepted, run: &TokenRange<'_>) -> Reading<Draft>
+        ensures { result ≡ base_slot accepted run.now self }
+    {
+        Ok(self.with_rs1(bare_base(accepted, run)?))
     }
 
     /// A register, into `rs2`.

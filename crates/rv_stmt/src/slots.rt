@@ -23,6 +23,8 @@ pub enum Slot {
     Memory,
     /// `offset(sp)`.
     StackMemory,
+    /// `(register)` or `0(register)`, into `rs1`.
+    Base,
     /// `offset(register)`, or a register alone, with the offset 0.
     MemoryOrRegister,
     /// `offset(register)`, or an address that is reached through `rd`, by two instructions.
@@ -42,8 +44,8 @@ pub enum Slot {
 }
 
 /// The columns: each shape, and its operands in the order in which they are written. The shapes stand in their own order.
-/// RISC-V Unprivileged ISA 20191213, chapters 2, 7, 9, 16 and 25.
-pub const OPERANDS: [(Shape, &[Slot]); 31] = [
+/// RISC-V Unprivileged ISA 20191213, chapters 2, 3, 7, 8, 9, 16 and 25.
+pub const OPERANDS: [(Shape, &[Slot]); 33] = [
     (Shape::Upper, &[Slot::Rd, Slot::Immediate]),
     (Shape::Jump, &[Slot::Rd, Slot::Target]),
     (Shape::JumpRegister, &[Slot::Rd, Slot::MemoryOrRegister]),
@@ -60,6 +62,8 @@ pub const OPERANDS: [(Shape, &[Slot]); 31] = [
     ),
     (Shape::Fence, &[Slot::Predecessors, Slot::Successors]),
     (Shape::Whole, &[]),
+    (Shape::LoadReserved, &[Slot::Rd, Slot::Base]),
+    (Shape::Atomic, &[Slot::Rd, Slot::Rs2, Slot::Base]),
     (
         Shape::CStackAddress,
         &[Slot::Rd, Slot::StackPointer, Slot::Immediate],
