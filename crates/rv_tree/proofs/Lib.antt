@@ -1,4 +1,5 @@
 mod Examples
 pub mod Exits
 pub mod Fewest
+pub mod Heights
 pub mod Prefixes

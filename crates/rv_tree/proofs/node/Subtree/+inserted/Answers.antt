@@ -1,7 +1,59 @@
-use Rattle.std.proofs.Common.{arith}
-use Rattle.std.proofs.lemmas.Grind.{common_steps}
-use Rattle.std.proofs.lemmas.List.Edits.{insert-append_right}
+use Rattle.std.proofs.Common.{◌≡◌, ℕ, ◌≤◌, ◌+◌, ◌++◌, length, refl, ap, sym, arith}
+use Rattle.std.specs.List.{insert}
+use Rattle.std.proofs.lemmas.List.Edits.{insert-append_left, insert-append_right}
+use Rattle.rv_tree.proofs.Heights.{near_after, made_grown, made_grown_right}
+use Rattle.rv_tree.specs.Shape.{IsBalanced}
 use Rattle.rv_tree.proofs.node.Subtree.+inserted.Goals as goal
 
+-- a side that may have become one higher
+one_more : (l s : ℕ) → (l ≤ s) × (s ≤ l + 1) → IsBalanced l s
+one_more l s b = (omega arith, b.1)
+
+pub balanced-requires-clause-near : goal.balanced-requires-clause-near
+balanced-requires-clause-near g t c =
+    let ok = rw c.in-Fork.is at c.here.invariant in
+    rw c.in_ok-clone-in-Fork.ensures.cases (near_after c.in-Fork.left.value.height c.in-Fork.right.value.height _ ok.balanced (one_more _ _ c.in_ok-side-in-Fork.ensures.height)).0
+
+pub returns-in_ok-clone-in-Fork-clause-items : goal.returns-in_ok-clone-in-Fork-clause-items
+returns-in_ok-clone-in-Fork-clause-items g t c =
+    let is = rw (c.deref-here.ensures, c.in-Fork.is) at c.here.view_is in
+    let items : c.in_ok-side-in-Fork.side.value.items ++ c.in_ok-clone-in-Fork.field-0.value.items ≡ insert c.args.tree.now.value.items c.args.before c.args.item =
+    rw (c.in_ok-side-in-Fork.ensures.items, c.in_ok-clone-in-Fork.ensures.cases, ← ap (λ d. d.items) is) (sym (insert-append_left c.in-Fork.left.value.items c.in-Fork.right.value.items c.args.before c.args.item (rw (c.len-left_len.ensures, c.deref.ensures) at c.if-before-left_len.true))) in
+    rw items at c.balanced.ensures.items
+
+pub returns-in_ok-clone-in-Fork-clause-height : goal.returns-in_ok-clone-in-Fork-clause-height
+returns-in_ok-clone-in-Fork-clause-height g t c =
+    let is = rw (c.deref-here.ensures, c.in-Fork.is) at c.here.view_is in
+    let ok = rw c.in-Fork.is at c.here.invariant in
+    made_grown c.balanced.result (λ d. d.value.height) c.args.tree.now.value.height c.in-Fork.left.value.height c.in-Fork.right.value.height c.in_ok-side-in-Fork.side.value.height (ap (λ d. d.height) is) ok.balanced c.in_ok-side-in-Fork.ensures.height (rw c.in_ok-clone-in-Fork.ensures.cases at c.balanced.ensures.height)
+
+pub balanced-requires-else-before-left_len-clause-near : goal.balanced-requires-else-before-left_len-clause-near
+balanced-requires-else-before-left_len-clause-near g t c =
+    let ok = rw c.in-Fork.is at c.here.invariant in
+    rw c.in_ok-clone-in-Fork-2.ensures.cases (near_after c.in-Fork.right.value.height c.in-Fork.left.value.height _ (ok.balanced.1, ok.balanced.0) (one_more _ _ c.in_ok-side-in-Fork-2.ensures.height)).1
+
 pub returns-in_ok-clone-in-Fork-2-clause-items : goal.returns-in_ok-clone-in-Fork-2-clause-items
-returns-in_ok-clone-in-Fork-2-clause-items g t c = grind (arith, common_steps, insert-append_right c.in-Fork.left.value.items c.in-Fork.right.value.items c.len-left_len.result c.args.before c.args.item)
+returns-in_ok-clone-in-Fork-2-clause-items g t c =
+    let is = rw (c.deref-here.ensures, c.in-Fork.is) at c.here.view_is in
+    let items : c.in_ok-clone-in-Fork-2.field-0.value.items ++ c.in_ok-side-in-Fork-2.side.value.items ≡ insert c.args.tree.now.value.items c.args.before c.args.item =
+    rw (c.in_ok-side-in-Fork-2.ensures.items, c.in_ok-clone-in-Fork-2.ensures.cases, ← ap (λ d. d.items) is) (sym (insert-append_right c.in-Fork.left.value.items c.in-Fork.right.value.items c.len-left_len.result c.args.before c.args.item (sym (rw c.deref.ensures at c.len-left_len.ensures)) (omega (arith, c.if-before-left_len.false)))) in
+    rw items at c.balanced-else-before-left_len.ensures.items
+
+pub returns-in_ok-clone-in-Fork-2-clause-height : goal.returns-in_ok-clone-in-Fork-2-clause-height
+returns-in_ok-clone-in-Fork-2-clause-height g t c =
+    let is = rw (c.deref-here.ensures, c.in-Fork.is) at c.here.view_is in
+    let ok = rw c.in-Fork.is at c.here.invariant in
+    made_grown_right c.balanced-else-before-left_len.result (λ d. d.value.height) c.args.tree.now.value.height c.in-Fork.left.value.height c.in-Fork.right.value.height c.in_ok-side-in-Fork-2.side.value.height (ap (λ d. d.height) is) ok.balanced c.in_ok-side-in-Fork-2.ensures.height (rw c.in_ok-clone-in-Fork-2.ensures.cases at c.balanced-else-before-left_len.ensures.height)
+
+pub returns-then-before-eq0-clause-items : goal.returns-then-before-eq0-clause-items
+returns-then-before-eq0-clause-items g t c =
+    let is = rw (c.deref-here.ensures, c.in-Leaf.is) at c.here.view_is in
+    let items : c.in_ok-new-in-Leaf.new.value.items ++ c.in_ok-old-in-Leaf.old.value.items ≡ insert c.args.tree.now.value.items c.args.before c.args.item = rw (c.in_ok-new-in-Leaf.ensures.ok, c.leaf.ensures.items, c.in_ok-old-in-Leaf.ensures.cases, ← ap (λ d. d.items) is, c.if-before-eq0.true) refl in
+    rw items at c.joined.ensures.items
+
+pub returns-else-before-eq0-clause-items : goal.returns-else-before-eq0-clause-items
+returns-else-before-eq0-clause-items g t c =
+    let is = rw (c.deref-here.ensures, c.in-Leaf.is) at c.here.view_is in
+    let last : c.args.before ≡ 1 = omega (arith, c.requires.place, ap (λ d. length d.items) is, c.if-before-eq0.false) in
+    let items : c.in_ok-old-in-Leaf.old.value.items ++ c.in_ok-new-in-Leaf.new.value.items ≡ insert c.args.tree.now.value.items c.args.before c.args.item = rw (c.in_ok-new-in-Leaf.ensures.ok, c.leaf.ensures.items, c.in_ok-old-in-Leaf.ensures.cases, ← ap (λ d. d.items) is, last) refl in
+    rw items at c.joined-else-before-eq0.ensures.items

@@ -1,4 +1,4 @@
-use Rattle.std.proofs.Common.{◌≡◌, ℕ, ◌+◌, ◌≤◌, max, arith, ap, ◌∙◌}
+use Rattle.std.proofs.Common.{◌≡◌, ℕ, ◌+◌, ◌≤◌, List, ◌++◌, max, arith, ap, ◌∙◌, length, append_assoc, length-append}
 use Rattle.rv_tree.specs.Shape.{IsBalanced}
 use Rattle.rv_tree.proofs.node.Subtree.shared_out.Goals as goal
 
@@ -10,48 +10,85 @@ sides l a b e p = (omega arith, omega arith, omega arith, omega arith)
 above : (l a b : ℕ) → max a b + 1 ≡ l + 1 → (max l a ≡ l) × (max b l ≡ l)
 above l a b e = (omega arith, omega arith)
 
+-- the node above those two nodes
+top : (l f s a b : ℕ) → a ≡ max l f + 1 → b ≡ max s l + 1 → max f s + 1 ≡ l + 1 → max a b + 1 ≡ l + 2
+top l f s a b p q e = omega arith
+
+-- the items of the two nodes that are made, and those of the three before
+all_items : {A : Type 0} {a b m : List A} (l f s r : List A) → a ≡ l ++ f → b ≡ s ++ r → f ++ s ≡ m → a ++ b ≡ (l ++ m) ++ r
+all_items l f s r p q k = rw (p, q, ← k) (simp append_assoc)
+
 pub joined-requires-clause-left_low : goal.joined-requires-clause-left_low
 joined-requires-clause-left_low g c =
     let is = rw c.in-Fork.is at c.middle.view_is in
     let ok = rw c.in-Fork.is at c.middle.invariant in
-    let same : c.in_ok-clone.field-0.value.height ≡ c.in-Fork.first.value.height = cc c.in_ok-clone.ensures.cases in
-    rw same ((sides _ _ _ (ap (λ d. d.height) is ∙ c.requires.higher) ok.balanced).0)
+    rw c.in_ok-clone.ensures.cases ((sides _ _ _ (ap (λ d. d.height) is ∙ c.requires.higher) ok.balanced).0)
 
 pub joined-requires-clause-right_low : goal.joined-requires-clause-right_low
 joined-requires-clause-right_low g c =
     let is = rw c.in-Fork.is at c.middle.view_is in
     let ok = rw c.in-Fork.is at c.middle.invariant in
-    let same : c.in_ok-clone.field-0.value.height ≡ c.in-Fork.first.value.height = cc c.in_ok-clone.ensures.cases in
-    rw same ((sides _ _ _ (ap (λ d. d.height) is ∙ c.requires.higher) ok.balanced).1)
+    rw c.in_ok-clone.ensures.cases ((sides _ _ _ (ap (λ d. d.height) is ∙ c.requires.higher) ok.balanced).1)
 
 pub joined-requires-2-clause-left_low : goal.joined-requires-2-clause-left_low
 joined-requires-2-clause-left_low g c =
     let is = rw c.in-Fork.is at c.middle.view_is in
     let ok = rw c.in-Fork.is at c.middle.invariant in
-    let same-2 : c.in_ok-clone-2.field-0.value.height ≡ c.in-Fork.second.value.height = cc c.in_ok-clone-2.ensures.cases in
-    rw (same-2, ← c.requires.level) ((sides _ _ _ (ap (λ d. d.height) is ∙ c.requires.higher) ok.balanced).3)
+    rw (c.in_ok-clone-2.ensures.cases, ← c.requires.level) ((sides _ _ _ (ap (λ d. d.height) is ∙ c.requires.higher) ok.balanced).3)
 
 pub joined-requires-2-clause-right_low : goal.joined-requires-2-clause-right_low
 joined-requires-2-clause-right_low g c =
     let is = rw c.in-Fork.is at c.middle.view_is in
     let ok = rw c.in-Fork.is at c.middle.invariant in
-    let same-2 : c.in_ok-clone-2.field-0.value.height ≡ c.in-Fork.second.value.height = cc c.in_ok-clone-2.ensures.cases in
-    rw (same-2, ← c.requires.level) ((sides _ _ _ (ap (λ d. d.height) is ∙ c.requires.higher) ok.balanced).2)
+    rw (c.in_ok-clone-2.ensures.cases, ← c.requires.level) ((sides _ _ _ (ap (λ d. d.height) is ∙ c.requires.higher) ok.balanced).2)
 
 pub joined-requires-3-clause-left_low : goal.joined-requires-3-clause-left_low
 joined-requires-3-clause-left_low g c =
     let is = rw c.in-Fork.is at c.middle.view_is in
     let ok = rw c.in-Fork.is at c.middle.invariant in
-    let same : c.in_ok-clone.field-0.value.height ≡ c.in-Fork.first.value.height = cc c.in_ok-clone.ensures.cases in
-    let same-2 : c.in_ok-clone-2.field-0.value.height ≡ c.in-Fork.second.value.height = cc c.in_ok-clone-2.ensures.cases in
     let a = above _ _ _ (ap (λ d. d.height) is ∙ c.requires.higher) in
-    rw (c.in_ok-low_left.ensures.height, c.in_ok-low_right.ensures.height, same, same-2, ← c.requires.level, a.0, a.1) (omega arith)
+    rw (c.in_ok-low_left.ensures.height, c.in_ok-low_right.ensures.height, c.in_ok-clone.ensures.cases, c.in_ok-clone-2.ensures.cases, ← c.requires.level, a.0, a.1) (omega arith)
 
 pub joined-requires-3-clause-right_low : goal.joined-requires-3-clause-right_low
 joined-requires-3-clause-right_low g c =
     let is = rw c.in-Fork.is at c.middle.view_is in
     let ok = rw c.in-Fork.is at c.middle.invariant in
-    let same : c.in_ok-clone.field-0.value.height ≡ c.in-Fork.first.value.height = cc c.in_ok-clone.ensures.cases in
-    let same-2 : c.in_ok-clone-2.field-0.value.height ≡ c.in-Fork.second.value.height = cc c.in_ok-clone-2.ensures.cases in
     let a = above _ _ _ (ap (λ d. d.height) is ∙ c.requires.higher) in
-    rw (c.in_ok-low_left.ensures.height, c.in_ok-low_right.ensures.height, same, same-2, ← c.requires.level, a.0, a.1) (omega arith)
+    rw (c.in_ok-low_left.ensures.height, c.in_ok-low_right.ensures.height, c.in_ok-clone.ensures.cases, c.in_ok-clone-2.ensures.cases, ← c.requires.level, a.0, a.1) (omega arith)
+
+pub unreachable-requires : goal.unreachable-requires
+unreachable-requires g c =
+    let is = rw c.in_default.is at c.middle.view_is in
+    omega (arith, ap (λ d. d.height) is, c.requires.higher, c.requires.positive)
+
+pub joined-requires-clause-few : goal.joined-requires-clause-few
+joined-requires-clause-few g c =
+    let is = rw c.in-Fork.is at c.middle.view_is in
+    rw c.in_ok-clone.ensures.cases (omega (arith, c.requires.few, ap (λ d. length d.items) is, length-append c.in-Fork.first.value.items c.in-Fork.second.value.items))
+
+pub joined-requires-2-clause-few : goal.joined-requires-2-clause-few
+joined-requires-2-clause-few g c =
+    let is = rw c.in-Fork.is at c.middle.view_is in
+    rw c.in_ok-clone-2.ensures.cases (omega (arith, c.requires.few, ap (λ d. length d.items) is, length-append c.in-Fork.first.value.items c.in-Fork.second.value.items))
+
+pub joined-requires-3-clause-few : goal.joined-requires-3-clause-few
+joined-requires-3-clause-few g c =
+    let is = rw c.in-Fork.is at c.middle.view_is in
+    rw (c.in_ok-low_left.ensures.items, c.in_ok-low_right.ensures.items, c.in_ok-clone.ensures.cases, c.in_ok-clone-2.ensures.cases, length-append c.args.left.value.items c.in-Fork.first.value.items, length-append c.in-Fork.second.value.items c.args.right.value.items)
+    (omega (arith, c.requires.few, ap (λ d. length d.items) is, length-append c.in-Fork.first.value.items c.in-Fork.second.value.items))
+
+pub returns-clause-items : goal.returns-clause-items
+returns-clause-items g c =
+    let is = rw c.in-Fork.is at c.middle.view_is in
+    let low_left = rw c.in_ok-clone.ensures.cases at c.in_ok-low_left.ensures.items in
+    let low_right = rw c.in_ok-clone-2.ensures.cases at c.in_ok-low_right.ensures.items in
+    let items : c.in_ok-low_left.low_left.value.items ++ c.in_ok-low_right.low_right.value.items ≡ (c.args.left.value.items ++ c.args.middle.now.items) ++ c.args.right.value.items =
+    all_items _ _ _ _ low_left low_right (ap (λ d. d.items) is) in
+    rw items at c.joined-3.ensures.items
+
+pub returns-clause-height : goal.returns-clause-height
+returns-clause-height g c =
+    let is = rw c.in-Fork.is at c.middle.view_is in
+    let low_left = rw c.in_ok-clone.ensures.cases at c.in_ok-low_left.ensures.height in
+    let low_right = rw (c.in_ok-clone-2.ensures.cases, ← c.requires.level) at c.in_ok-low_right.ensures.height in
+    rw (top _ _ _ _ _ low_left low_right (ap (λ d. d.height) is ∙ c.requires.higher)) at c.joined-3.ensures.height
