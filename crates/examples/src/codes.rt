@@ -2,6 +2,7 @@
 
 ghost use Rattle.examples.specs.GivenNames.{given};
 
+use crate::lines::bytes_of_line;
 use crate::row::{number_of, parts_of};
 use crate::statements::statement_of_line;
 use code_text::text_of;
@@ -16,10 +17,7 @@ use std::test::Fail;
 pub fn assemble(alloc: Global, arguments: &str) -> Result<String, Fail> {
     let (address, line) = parts_of(arguments);
     let address = number_of(address)?;
-    if line.len() > 1000 {
-        return Err(Fail::new("a line that is too long"));
-    }
-    match assemble_at(alloc, line.as_bytes(), address) {
+    match assemble_at(alloc, bytes_of_line(line)?, address) {
         Ok(coded) => text_of(alloc, &coded),
         Err(error) => Ok(format!(in alloc; "{error:?}")?),
     }
@@ -115,16 +113,23 @@ fn fault_from(from: u32) -> Fault {
     }
 }
 
-// The code of `nop`, of a count of bytes of padding in `.text` or elsewhere, or of a fault from a place on.
-fn code_of(alloc: Global, arguments: &str) -> Result<Coded, Fail> {
-    let (form, argument) = parts_of(arguments);
+// The code of a count of bytes of padding in `.text` or elsewhere, or of a fault from a place on.
+fn code_of_form(form: &str, number: u32) -> Result<Coded, Fail> {
     match form {
-        "nop" => Ok(assemble_at(alloc, b"nop", 0)?),
-        "text_padding" => Ok(Coded::padding(true, number_of(argument)?)),
-        "zero_padding" => Ok(Coded::padding(false, number_of(argument)?)),
-        "fault" => Ok(Coded::faulty(fault_from(number_of(argument)?))),
+        "text_padding" => Ok(Coded::padding(true, number)),
+        "zero_padding" => Ok(Coded::padding(false, number)),
+        "fault" => Ok(Coded::faulty(fault_from(number))),
         _ => Err(Fail::new("a word that names no code")),
     }
+}
+
+// The code of `nop`, or of a form and its number.
+fn code_of(alloc: Global, arguments: &str) -> Result<Coded, Fail> {
+    if arguments == "nop" {
+        return Ok(assemble_at(alloc, b"nop", 0)?);
+    }
+    let (form, number) = parts_of(arguments);
+    code_of_form(form, number_of(number)?)
 }
 
 /// `code CODE`: its bytes and its fault.

@@ -1,37 +1,20 @@
 //! The texts of instructions, and the rows of stretches of bytes. Each text is assembled again at its address.
 
+use crate::encodings::{decode, word_of_digits, word_of_row};
+use crate::lines::bytes_of_line;
+use crate::operations::operations;
 use crate::row::{bytes_of, number_of, pairs_of, parts_of};
-use rv_code::{Ins, Word, decode16, decode32};
+use rv_code::Word;
 use rv_dis::{DisError, DisRow, disassemble, instruction_text};
 use rv_fix::assemble_at;
-use rv_ops::{Op, TABLE};
-use rv_text::digits;
+use rv_ops::{Op, TableRow};
 use std::alloc::Global;
+use std::fmt::Write;
 use std::test::Fail;
-
-// The word of four or of eight hexadecimal digits.
-fn word_of(text: &str) -> Option<Word> {
-    let value = digits(16, text.as_bytes())?;
-    match text.len() {
-        4 => u16::try_from(value).ok().map(Word::Half),
-        8 => u32::try_from(value).ok().map(Word::Full),
-        _ => None,
-    }
-}
-
-fn decode(word: Word) -> Option<Ins> {
-    match word {
-        Word::Half(number) => decode16(number),
-        Word::Full(number) => decode32(number),
-    }
-}
 
 // The number that the bytes of a text are at an address, in hexadecimal digits.
 fn assembled(alloc: Global, text: &str, address: u32) -> Result<String, Fail> {
-    if text.len() > 1000 {
-        return Err(Fail::new("a text of more than 1,000 bytes"));
-    }
-    let coded = assemble_at(alloc, text.as_bytes(), address)?;
+    let coded = assemble_at(alloc, bytes_of_line(text)?, address)?;
     if coded.fault.is_some() {
         return Err(Fail::new("a text with a fault"));
     }
@@ -41,31 +24,25 @@ fn assembled(alloc: Global, text: &str, address: u32) -> Result<String, Fail> {
     pairs_of(alloc, bytes.as_slice())
 }
 
-// The address, the value and the text of a row.
-fn row_text(alloc: Global, row: &DisRow) -> Result<String, Fail> {
-    let DisRow {
-        address,
-        value,
-        len,
-        text,
-    } = row;
-    let digits = usize::from(*len) * 2;
-    Ok(format!(in alloc; "{address:08x} {value:0digits$x} {}", text.as_str())?)
+// Appends the address, the value and the text of a row.
+fn push_row(shown: &mut String, row: &DisRow) -> Result<(), Fail> {
+    let (address, value, text) = (row.address, row.value, row.text.as_str());
+    let digits = usize::from(row.len) * 2;
+    Ok(write!(shown, "; {address:08x} {value:0digits$x} {text}")?)
 }
 
 // Appends a row, with what its text assembles to.
-fn push_row(alloc: Global, shown: &mut String, row: &DisRow) -> Result<(), Fail> {
-    let text = row_text(alloc, row)?;
+fn push_row_with_code(alloc: Global, shown: &mut String, row: &DisRow) -> Result<(), Fail> {
+    push_row(shown, row)?;
     let code = assembled(alloc, row.text.as_str(), row.address)?;
-    let line = format!(in alloc; "; {} => {}", text.as_str(), code.as_str())?;
-    Ok(shown.push_str(line.as_str())?)
+    Ok(write!(shown, " => {}", code.as_str())?)
 }
 
 // How many rows there are, and each behind a semicolon.
 fn rows_text(alloc: Global, rows: &[DisRow]) -> Result<String, Fail> {
     let mut shown = format!(in alloc; "{}", rows.len())?;
     for row in rows {
-        push_row(alloc, &mut shown, row)?;
+        push_row_with_code(alloc, &mut shown, row)?;
     }
     Ok(shown)
 }
@@ -115,9 +92,7 @@ fn rows_of_word(alloc: Global, word: Word, address: u32) -> Result<String, Fail>
 pub fn instruction(alloc: Global, arguments: &str) -> Result<String, Fail> {
     let (address, digits) = parts_of(arguments);
     let address = number_of(address)?;
-    let Some(word) = word_of(digits) else {
-        return Err(Fail::new("a word of neither four nor eight digits"));
-    };
+    let word = word_of_row(digits)?;
     let text = text_of(alloc, word, address)?;
     let rows = rows_of_word(alloc, word, address)?;
     text_and_code(alloc, text.as_str(), rows.as_str(), digits, address)
@@ -126,24 +101,34 @@ pub fn instruction(alloc: Global, arguments: &str) -> Result<String, Fail> {
 // The operation whose text a row of the script asks for.
 fn operation_of(row: &str) -> Option<Op> {
     let (_, word) = parts_of(row.strip_prefix("instruction ")?);
-    Some(decode(word_of(word)?)?.op())
+    Some(decode(word_of_digits(word)?)?.op())
 }
 
-// The name of the first operation of the table that is not among these.
-fn first_other(shown: &[Op]) -> &'static str {
-    match TABLE.iter().find(|row| !shown.contains(&row.0)) {
-        Some(row) => row.1,
-        None => "none",
+// Appends the operation whose text a row asks for, if it asks for one.
+fn push_operation(shown: &mut Vec<Op>, row: &str) -> Result<(), Fail> {
+    match operation_of(row) {
+        Some(op) => Ok(shown.push(op)?),
+        None => Ok(()),
     }
+}
+
+// The name of the first operation of a table that is not among these.
+fn first_other(shown: &[Op], table: &[TableRow]) -> &'static str {
+    for entry in table {
+        if !shown.contains(&entry.0) {
+            return entry.1;
+        }
+    }
+    "none"
 }
 
 /// The first operation of the table of whose text a script has no row.
 pub fn operation_without_text(alloc: Global, script: &str) -> Result<String, Fail> {
-    let shown = script
-        .lines()
-        .filter_map(operation_of)
-        .collect::<Vec<Op>>(alloc)?;
-    Ok(String::from_str(alloc, first_other(shown.as_slice()))?)
+    let mut shown = Vec::new(alloc);
+    for row in script.lines() {
+        push_operation(&mut shown, row)?;
+    }
+    Ok(String::from_str(alloc, first_other(shown.as_slice(), operations()))?)
 }
 
 /// The error of the disassembler with its number.

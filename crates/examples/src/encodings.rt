@@ -1,11 +1,10 @@
 //! Instructions and their encodings.
 
-use crate::operations::operation_of;
+use crate::operations::{operation_of, operations};
 use crate::row::{pairs_of, parts_of, shown};
 use rv_code::{Fields, Ins, Word, decode16, decode32, encode, in_class, word_of};
 use rv_ops::{
-    Op, Reg, RegisterClass, Shape, TABLE, TableRow, first_named, fixed, is_full, mask, name_of,
-    shape,
+    Op, Reg, RegisterClass, Shape, TableRow, first_named, fixed, is_full, mask, name_of, shape,
 };
 use rv_text::digits;
 use std::alloc::{AllocError, Global};
@@ -18,19 +17,23 @@ fn register_of(number: &str) -> Result<Reg, Fail> {
     Ok(register)
 }
 
-// The operation and the fields of a row: a name, rd, rs1, rs2 and the value.
-fn operation_with_fields(arguments: &str) -> Result<(Op, Fields), Fail> {
-    let (name, rest) = parts_of(arguments);
-    let (rd, rest) = parts_of(rest);
+// The fields of a row: rd, rs1, rs2 and the value.
+fn fields_of(words: &str) -> Result<Fields, Fail> {
+    let (rd, rest) = parts_of(words);
     let (rs1, rest) = parts_of(rest);
     let (rs2, value) = parts_of(rest);
-    let fields = Fields {
+    Ok(Fields {
         rd: register_of(rd)?,
         rs1: register_of(rs1)?,
         rs2: register_of(rs2)?,
         value: value.parse::<i32>()?,
-    };
-    Ok((operation_of(name)?, fields))
+    })
+}
+
+// The operation and the fields of a row: a name and the fields.
+fn operation_with_fields(arguments: &str) -> Result<(Op, Fields), Fail> {
+    let (name, fields) = parts_of(arguments);
+    Ok((operation_of(name)?, fields_of(fields)?))
 }
 
 // Whether the constructor of the operation's shape, where there is one, makes this instruction.
@@ -43,7 +46,8 @@ fn is_made(ins: &Ins, op: Op, fields: &Fields) -> bool {
     }
 }
 
-fn decode(word: Word) -> Option<Ins> {
+/// The instruction of a word.
+pub fn decode(word: Word) -> Option<Ins> {
     match word {
         Word::Half(number) => decode16(number),
         Word::Full(number) => decode32(number),
@@ -67,7 +71,8 @@ fn is_both_ways(ins: &Ins, op: Op, fields: &Fields, word: Word) -> bool {
         && (ins.op(), *ins.fields()) == (op, *fields)
 }
 
-fn word_text(alloc: Global, word: Word) -> Result<String, Fail> {
+/// A word in hexadecimal digits.
+pub fn word_text(alloc: Global, word: Word) -> Result<String, Fail> {
     match word {
         Word::Half(number) => Ok(format!(in alloc; "{number:04x}")?),
         Word::Full(number) => Ok(format!(in alloc; "{number:08x}")?),
@@ -94,31 +99,39 @@ pub fn is_taken(alloc: Global, arguments: &str) -> Result<String, Fail> {
     Ok(format!(in alloc; "{is_taken}")?)
 }
 
+// Whether an operation takes a value, where a register stands for both.
+fn takes_immediate(op: Op, register: Reg, value: i64) -> Option<bool> {
+    match shape(op) {
+        Shape::Immediate => Some(Ins::immediate(op, register, register, value).is_some()),
+        _ => None,
+    }
+}
+
 /// Whether an operation of the shape `rd, rs1, value` takes a value, where a register stands for both.
 pub fn is_taken_immediate(alloc: Global, arguments: &str) -> Result<String, Fail> {
     let (name, rest) = parts_of(arguments);
     let (register, value) = parts_of(rest);
-    let (op, register) = (operation_of(name)?, register_of(register)?);
+    let register = register_of(register)?;
     let value = value.parse::<i64>()?;
-    match shape(op) {
-        Shape::Immediate => {
-            let is_taken = Ins::immediate(op, register, register, value).is_some();
-            Ok(format!(in alloc; "{is_taken}")?)
-        }
-        _ => Err(Fail::new("an operation of another shape")),
+    shown(alloc, takes_immediate(operation_of(name)?, register, value))
+}
+
+/// The word of four or of eight hexadecimal digits.
+pub fn word_of_digits(text: &str) -> Option<Word> {
+    let value = digits(16, text.as_bytes())?;
+    match text.len() {
+        4 => u16::try_from(value).ok().map(Word::Half),
+        8 => u32::try_from(value).ok().map(Word::Full),
+        _ => None,
     }
 }
 
-// The word that four or eight hexadecimal digits spell.
-fn word_of_digits(text: &str) -> Result<Word, Fail> {
-    let Some(number) = digits(16, text.as_bytes()) else {
-        return Err(Fail::new("a word that is no hexadecimal digits"));
+/// The word that a row gives.
+pub fn word_of_row(digits: &str) -> Result<Word, Fail> {
+    let Some(word) = word_of_digits(digits) else {
+        return Err(Fail::new("a word of neither four nor eight digits"));
     };
-    if text.len() == 4 {
-        Ok(Word::Half(u16::try_from(number)?))
-    } else {
-        Ok(Word::Full(u32::try_from(number)?))
-    }
+    Ok(word)
 }
 
 fn instruction_text(alloc: Global, ins: &Ins) -> Result<String, AllocError> {
@@ -132,7 +145,7 @@ fn instruction_text(alloc: Global, ins: &Ins) -> Result<String, AllocError> {
 /// The instruction of a word, behind which a row may say what it is: its name, rd, rs1, rs2 and the value.
 pub fn decoding(alloc: Global, arguments: &str) -> Result<String, Fail> {
     let (word, _remark) = parts_of(arguments);
-    match decode(word_of_digits(word)?) {
+    match decode(word_of_row(word)?) {
         Some(ins) => Ok(instruction_text(alloc, &ins)?),
         None => Ok(String::from_str(alloc, "none")?),
     }
@@ -140,7 +153,7 @@ pub fn decoding(alloc: Global, arguments: &str) -> Result<String, Fail> {
 
 /// The bytes of a word as they stand in memory.
 pub fn bytes_in_memory(alloc: Global, arguments: &str) -> Result<String, Fail> {
-    pairs_of(alloc, word_of_digits(arguments)?.bytes().as_slice())
+    pairs_of(alloc, word_of_row(arguments)?.bytes().as_slice())
 }
 
 // The classes of registers by their names.
@@ -189,7 +202,7 @@ fn first_not_encoded(script: &str, table: &[TableRow]) -> Option<&'static str> {
 
 /// The first operation that no row of the script encodes.
 pub fn operation_not_encoded(alloc: Global, script: &str) -> Result<String, Fail> {
-    shown(alloc, first_not_encoded(script, &TABLE))
+    shown(alloc, first_not_encoded(script, operations()))
 }
 
 // FNV-1a, of 64 bits.

@@ -13,30 +13,34 @@ use rv_tree::Joined;
 use std::alloc::Global;
 use std::test::Fail;
 
-// A few names with their values.
+// The values of two names, if they have one.
 #[derive(Clone, Copy)]
 struct Constants {
-    rows: &'static [(&'static str, i64)],
+    m: Option<i64>,
+    n: Option<i64>,
 }
 
 impl Consts for Constants {
-    ghost use Rattle.std.specs.Prelude.{bytes_eq, option_map};
-    ghost use Rattle.std.specs.List.{find};
+    ghost use Rattle.std.specs.Prelude.{bytes_eq, codes, None, if◌then◌else◌};
 
-    ghost constant_of = { λ c name. option_map (λ row. row.1) (find (λ row. bytes_eq row.0.now name) c.rows.now) };
+    ghost constant_of = { λ c name. if bytes_eq name (codes "M") then c.m else if bytes_eq name (codes "N") then c.n else None };
 
     fn constant(&self, name: &[u8]) -> Option<i64> {
-        self.rows
-            .iter()
-            .find(|row| row.0.as_bytes() == name)
-            .map(|row| row.1)
+        if name == b"M".as_slice() {
+            self.m
+        } else if name == b"N".as_slice() {
+            self.n
+        } else {
+            None
+        }
     }
 }
 
-const NONE: Constants = Constants { rows: &[] };
+const NONE: Constants = Constants { m: None, n: None };
 
 const M_AND_N: Constants = Constants {
-    rows: &[("M", 3), ("N", 5000)],
+    m: Some(3),
+    n: Some(5000),
 };
 
 // The constants that lines see: `none`, or `M=3,N=5000`.

@@ -1,5 +1,7 @@
 //! The tokens of lines, the numbers in them, and the bytes that strings spell.
 
+ghost use Rattle.std.specs.Prelude.{◌≤◌, length, IfOk};
+
 use crate::row::{bytes_of, parts_of, shown, text_of, unfolded, unquoted};
 use rv_text::{
     Fault, MAX_LINE_LENGTH, Span, Token, TokenKind, Tokens, digits, escaped, is_local_number,
@@ -7,6 +9,16 @@ use rv_text::{
 };
 use std::alloc::{AllocError, Global};
 use std::test::Fail;
+
+/// The bytes of a line that a program may have.
+pub fn bytes_of_line(line: &str) -> Result<&[u8], Fail>
+    ensures { IfOk result (λ bytes. length bytes.now ≤ 1000) }
+{
+    if line.len() > MAX_LINE_LENGTH {
+        return Err(Fail::new("a line that is too long"));
+    }
+    Ok(line.as_bytes())
+}
 
 /// The tokens of a line that a program may have.
 pub fn tokens_of(alloc: Global, line: &[u8]) -> Result<Tokens<'_>, Fail> {

@@ -39,9 +39,14 @@ fn operation_at(alloc: Global, table: &[TableRow], place: usize) -> Result<Strin
     Ok(format!(in alloc; "{op:?} {name} {shape:?}")?)
 }
 
+/// The table of operations.
+pub fn operations() -> &'static [TableRow] {
+    &TABLE
+}
+
 /// The row of the table of operations at a place, which every look-up gives.
 pub fn operation(alloc: Global, arguments: &str) -> Result<String, Fail> {
-    operation_at(alloc, &TABLE, arguments.parse::<usize>()?)
+    operation_at(alloc, operations(), arguments.parse::<usize>()?)
 }
 
 /// The operation of a name in any letter case.

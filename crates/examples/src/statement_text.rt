@@ -3,9 +3,9 @@
 use rv_expr::{Direction, Expr, LabelReference, Name, Node};
 use rv_ops::name_of;
 use rv_stmt::{
-    Body, Data, DataContent, Definition, Directive, Instruction, Label, LabelName, Operand,
-    OperandValue, Stmt,
+    Body, Data, DataContent, Definition, Instruction, Label, LabelName, Operand, OperandValue, Stmt,
 };
+use rv_text::Span;
 use std::alloc::Global;
 use std::fmt::Write;
 use std::test::Fail;
@@ -21,29 +21,30 @@ fn push_local(text: &mut String, number: u16, direction: Direction) -> Result<()
     }
 }
 
+// A node without its operands.
+fn push_node(text: &mut String, node: &Node) -> Result<(), Fail> {
+    match node {
+        Node::Number(number) => Ok(write!(text, "{number}")?),
+        Node::Symbol(name) => push_name(text, name),
+        Node::Local(number, direction) => push_local(text, *number, *direction),
+        Node::Here => Ok(text.push('.')?),
+        Node::Unary(op, _) => Ok(write!(text, "{op:?}")?),
+        Node::Binary(op, _, _) => Ok(write!(text, "{op:?}")?),
+    }
+}
+
 // The expression with its operators after their operands, each part after a space.
 fn push_expression(text: &mut String, expr: &Expr) -> Result<(), Fail> {
     match &expr.node {
-        Node::Number(number) => Ok(write!(text, " {number}")?),
-        Node::Symbol(name) => {
-            text.push(' ')?;
-            push_name(text, name)
-        }
-        Node::Local(number, direction) => {
-            text.push(' ')?;
-            push_local(text, *number, *direction)
-        }
-        Node::Here => Ok(text.push_str(" .")?),
-        Node::Unary(op, operand) => {
-            push_expression(text, operand)?;
-            Ok(write!(text, " {op:?}")?)
-        }
-        Node::Binary(op, left, right) => {
+        Node::Unary(_, operand) => push_expression(text, operand)?,
+        Node::Binary(_, left, right) => {
             push_expression(text, left)?;
             push_expression(text, right)?;
-            Ok(write!(text, " {op:?}")?)
         }
+        _ => {}
     }
+    text.push(' ')?;
+    push_node(text, &expr.node)
 }
 
 fn push_label_reference(text: &mut String, label: &LabelReference) -> Result<(), Fail> {
@@ -94,16 +95,19 @@ fn push_bytes(text: &mut String, bytes: &[u8]) -> Result<(), Fail> {
     Ok(())
 }
 
-// The span of the mnemonic, the operation, rd, rs1, rs2, the value, and the operands.
-fn push_instruction(text: &mut String, instruction: &Instruction) -> Result<(), Fail> {
-    let (from, to) = (instruction.name.from, instruction.name.to);
+// A kind, and the span of a name.
+fn push_kind(text: &mut String, kind: &str, name: Span) -> Result<(), Fail> {
+    Ok(write!(text, "{kind} {}-{}", name.from, name.to)?)
+}
+
+// The kind, the span of the mnemonic, the operation, rd, rs1, rs2 and the value.
+fn push_instruction(text: &mut String, kind: &str, instruction: &Instruction) -> Result<(), Fail> {
     let op = name_of(instruction.op);
-    let rd = instruction.fields.rd.number();
-    let rs1 = instruction.fields.rs1.number();
-    let rs2 = instruction.fields.rs2.number();
-    let value = instruction.fields.value;
-    write!(text, " {from}-{to} {op} {rd} {rs1} {rs2} {value}")?;
-    push_operands(text, instruction.operands.as_slice())
+    let fields = &instruction.fields;
+    let (rd, rs1, rs2) = (fields.rd.number(), fields.rs1.number(), fields.rs2.number());
+    let value = fields.value;
+    push_kind(text, kind, instruction.name)?;
+    Ok(write!(text, " {op} {rd} {rs1} {rs2} {value}")?)
 }
 
 fn push_label(text: &mut String, label: &Label) -> Result<(), Fail> {
@@ -115,62 +119,36 @@ fn push_label(text: &mut String, label: &Label) -> Result<(), Fail> {
     Ok(write!(text, "@{from}-{to} ")?)
 }
 
-// The kind, the span of the name, and the operands or bytes.
+// The kind, the span of the name, and the bytes if they are known.
 fn push_data(text: &mut String, data: &Data) -> Result<(), Fail> {
-    let (from, to) = (data.name.from, data.name.to);
     match &data.content {
-        DataContent::Values(operands) => {
-            write!(text, "data {from}-{to}")?;
-            push_operands(text, operands.as_slice())
-        }
+        DataContent::Values(_) => push_kind(text, "data", data.name),
         DataContent::Bytes(bytes) => {
-            write!(text, "bytes {from}-{to}")?;
+            push_kind(text, "bytes", data.name)?;
             push_bytes(text, bytes.as_slice())
         }
     }
 }
 
-// The span of the name, and the operands.
-fn push_directive(text: &mut String, directive: &Directive) -> Result<(), Fail> {
-    let (from, to) = (directive.name.from, directive.name.to);
-    write!(text, " {from}-{to}")?;
-    push_operands(text, directive.operands.as_slice())
-}
-
-// The symbol with its span, and the operand.
+// The symbol with its span.
 fn push_definition(text: &mut String, definition: &Definition) -> Result<(), Fail> {
-    push_name(text, &definition.symbol)?;
+    let name = str::from_utf8(definition.symbol.bytes())?;
     let (from, to) = (definition.span.from, definition.span.to);
-    write!(text, "@{from}-{to}")?;
-    push_operands(text, definition.operands.as_slice())
+    Ok(write!(text, "equ {name}@{from}-{to}")?)
 }
 
+// A body without its operands.
 fn push_body(text: &mut String, body: &Body) -> Result<(), Fail> {
     match body {
         Body::Empty => Ok(text.push_str("empty")?),
         Body::Ignored => Ok(text.push_str("ignored")?),
-        Body::Instr(instruction) => {
-            text.push_str("one")?;
-            push_instruction(text, instruction)
-        }
-        Body::Pseudo(instruction) => {
-            text.push_str("pseudo")?;
-            push_instruction(text, instruction)
-        }
+        Body::Instr(instruction) => push_instruction(text, "one", instruction),
+        Body::Pseudo(instruction) => push_instruction(text, "pseudo", instruction),
         Body::Emit(data) => push_data(text, data),
-        Body::Fill(directive) => {
-            text.push_str("fill")?;
-            push_directive(text, directive)
-        }
-        Body::Align(directive) => {
-            text.push_str("align")?;
-            push_directive(text, directive)
-        }
+        Body::Fill(directive) => push_kind(text, "fill", directive.name),
+        Body::Align(directive) => push_kind(text, "align", directive.name),
         Body::Switch(section) => Ok(write!(text, "switch {section:?}")?),
-        Body::Equ(definition) => {
-            text.push_str("equ ")?;
-            push_definition(text, definition)
-        }
+        Body::Equ(definition) => push_definition(text, definition),
         Body::Faulty(fault) => {
             let number = fault.number.number();
             let (from, to) = (fault.span.from, fault.span.to);
@@ -186,5 +164,6 @@ pub fn text_of(alloc: Global, stmt: &Stmt) -> Result<String, Fail> {
         push_label(&mut text, label)?;
     }
     push_body(&mut text, &stmt.body)?;
+    push_operands(&mut text, stmt.body.operands())?;
     Ok(text)
 }

@@ -1,8 +1,9 @@
 //! The statements of lines, and the instructions that they stand for.
 
+use crate::encodings::word_text;
 use crate::row::{bytes_of, parts_of};
 use crate::statement_text::text_of;
-use rv_code::{Fields, Word, word_of};
+use rv_code::{Fields, word_of};
 use rv_stmt::{
     Body, Instruction, Instructions, MachineInstruction, Stmt, expansion_of, high_part,
     instructions_of, low_part, read_line, word_bits,
@@ -11,6 +12,11 @@ use rv_text::Tally;
 use std::alloc::Global;
 use std::test::Fail;
 
+// Whether one line read is counted, and nothing else.
+fn is_one_line_read(tally: &Tally) -> bool {
+    tally.parsed_calls() == 1 && tally.valued_calls() == 0 && tally.encoded_calls() == 0
+}
+
 /// The statement of the bytes of a line. One line that was read is counted, and nothing else.
 pub fn statement_of_line(alloc: Global, line: &[u8]) -> Result<Stmt, Fail> {
     if line.len() > 1000 {
@@ -18,7 +24,7 @@ pub fn statement_of_line(alloc: Global, line: &[u8]) -> Result<Stmt, Fail> {
     }
     let mut tally = Tally::new();
     let stmt = read_line(alloc, line, &mut tally)?;
-    if tally.parsed_calls() != 1 || tally.valued_calls() != 0 || tally.encoded_calls() != 0 {
+    if !is_one_line_read(&tally) {
         return Err(Fail::new("another count than one line read"));
     }
     Ok(stmt)
@@ -35,21 +41,17 @@ pub fn statement_of_bytes(alloc: Global, pairs: &str) -> Result<String, Fail> {
     text_of(alloc, &statement_of_line(alloc, line.as_slice())?)
 }
 
-// The word in hexadecimal digits.
-fn word_text(alloc: Global, machine: &MachineInstruction) -> Result<String, Fail> {
-    match word_of(machine.op, &machine.fields) {
-        Word::Full(number) => Ok(format!(in alloc; "{number:08x}")?),
-        Word::Half(number) => Ok(format!(in alloc; "{number:04x}")?),
-    }
+fn machine_text(alloc: Global, machine: &MachineInstruction) -> Result<String, Fail> {
+    word_text(alloc, word_of(machine.op, &machine.fields))
 }
 
 // The words, with a space between two.
 fn words_of(alloc: Global, instructions: &Instructions) -> Result<String, Fail> {
     match instructions {
-        Instructions::One(only) => word_text(alloc, only),
+        Instructions::One(only) => machine_text(alloc, only),
         Instructions::Two(first, second) => {
-            let first = word_text(alloc, first)?;
-            let second = word_text(alloc, second)?;
+            let first = machine_text(alloc, first)?;
+            let second = machine_text(alloc, second)?;
             Ok(format!(in alloc; "{first} {second}")?)
         }
     }

@@ -6,13 +6,14 @@
 //! - `equ N 1 4` is a name that an `.equ` on line 1 gives the value 4, or none where the value is left out.
 
 use crate::defined::Defined;
+use crate::lines::bytes_of_line;
 use crate::row::{number_of, parts_of};
+use crate::statements::statement_of_line;
 use crate::table::{Row, Table};
 use rv_fix::{AssembleError, Coded, assemble_at};
 use rv_layout::{SECTIONS, section_number};
 use rv_list::{DefinitionPlace, LinePlace, SectionPlace};
-use rv_stmt::{Sect, Stmt, read_line};
-use rv_text::Tally;
+use rv_stmt::Sect;
 use std::alloc::Global;
 use std::test::Fail;
 
@@ -26,20 +27,9 @@ fn section_of(name: &str) -> Result<Sect, Fail> {
     }
 }
 
-// The statement of a line.
-fn statement(alloc: Global, text: &str) -> Result<Stmt, Fail> {
-    if text.len() > 1000 {
-        return Err(Fail::new("a long line"));
-    }
-    Ok(read_line(alloc, text.as_bytes(), &mut Tally::new())?)
-}
-
 // The code of a line. A line that uses names of others has no bytes here.
 fn code_of(alloc: Global, text: &str, address: u32) -> Result<Coded, Fail> {
-    if text.len() > 1000 {
-        return Err(Fail::new("a long line"));
-    }
-    match assemble_at(alloc, text.as_bytes(), address) {
+    match assemble_at(alloc, bytes_of_line(text)?, address) {
         Ok(coded) => Ok(coded),
         Err(AssembleError::Names) => Ok(Coded::padding(false, 0)),
         Err(AssembleError::Memory) => Err(Fail::new("out of memory")),
@@ -49,7 +39,7 @@ fn code_of(alloc: Global, text: &str, address: u32) -> Result<Coded, Fail> {
 // A line at a place.
 fn row_at<'a>(alloc: Global, text: &'a str, place: LinePlace) -> Result<Row<'a>, Fail> {
     let code = code_of(alloc, text, place.address)?;
-    let stmt = statement(alloc, text)?;
+    let stmt = statement_of_line(alloc, text.as_bytes())?;
     if stmt.labels.as_slice().len() > 1000 {
         return Err(Fail::new("many labels"));
     }

@@ -5,6 +5,7 @@ use crate::row::{number_of, parts_of};
 use rv_tree::{SumTree, TreeError};
 use std::alloc::Global;
 use std::cell::Cell;
+use std::fmt::Write;
 use std::test::Fail;
 use tree_example::accumulate::Accumulate;
 use tree_example::counted::cut_blocks;
@@ -19,29 +20,24 @@ fn block_of(size: &str) -> Result<Block, Fail> {
 }
 
 // Appends the sum of the first `k` blocks, and the block behind them.
-fn push_block(
-    alloc: Global,
-    shown: &mut String,
-    tree: &SumTree<Block>,
-    k: u32,
-) -> Result<(), Fail> {
+fn push_block(shown: &mut String, tree: &SumTree<Block>, k: u32) -> Result<(), Fail> {
     if k >= tree.len() {
         return Err(Fail::new("a place behind the list"));
     }
-    let Some(block) = tree.get(k + 1) else {
-        return Err(Fail::new("a place without a block"));
-    };
-    let text = format!(in alloc; "{} +{} ", tree.prefix(k).size, block.size)?;
-    Ok(shown.push_str(text.as_str())?)
+    let sum = tree.prefix(k).size;
+    match tree.get(k + 1) {
+        Some(block) => Ok(write!(shown, "{sum} +{} ", block.size)?),
+        None => Err(Fail::new("a place without a block")),
+    }
 }
 
 // The blocks, each behind the sum of those before it, and the sum of all.
 fn list_text(alloc: Global, tree: &SumTree<Block>) -> Result<String, Fail> {
     let mut shown = String::new(alloc);
     for k in 0..tree.len() {
-        push_block(alloc, &mut shown, tree, k)?;
+        push_block(&mut shown, tree, k)?;
     }
-    shown.push_str(format!(in alloc; "{}", tree.total().size)?.as_str())?;
+    write!(shown, "{}", tree.total().size)?;
     Ok(shown)
 }
 
@@ -78,16 +74,21 @@ fn lists_text(alloc: Global, trees: &[SumTree<Block>]) -> Result<String, Fail> {
     Ok(texts.as_slice().join(alloc, "; ")?)
 }
 
+// Appends the list that an edit makes of the last one.
+fn push_edited(trees: &mut Vec<SumTree<Block>>, edit: &str) -> Result<(), Fail> {
+    let Some(tree) = trees.as_slice().last() else {
+        return Err(Fail::new("no list"));
+    };
+    let next = edited(tree, edit)?;
+    Ok(trees.push(next)?)
+}
+
 /// The empty list and those that edits make of it, one after another. All are shown as they are after the last edit.
 pub fn lists(alloc: Global, edits: &str) -> Result<String, Fail> {
     let mut trees = Vec::new(alloc);
     trees.push(SumTree::new(alloc))?;
     for edit in edits.split(", ") {
-        let Some(tree) = trees.as_slice().last() else {
-            return Err(Fail::new("no list"));
-        };
-        let next = edited(tree, edit)?;
-        trees.push(next)?;
+        push_edited(&mut trees, edit)?;
     }
     lists_text(alloc, trees.as_slice())
 }
@@ -111,13 +112,17 @@ fn error_name(error: Option<TreeError>) -> &'static str {
     }
 }
 
+// With what the insertion of a block at a place is refused.
+fn insertion_refusal(tree: &SumTree<Block>, place: u32) -> &'static str {
+    error_name(tree.inserted(place, Block { size: 1 }).err())
+}
+
 // With what the deletion, the replacement and the insertion of a block at a place are refused, whether there is a block, and
 // the list after them.
 fn refusals_at(alloc: Global, tree: &SumTree<Block>, place: u32) -> Result<String, Fail> {
-    let block = Block { size: 1 };
     let deletion = error_name(tree.deleted(place).err());
-    let replacement = error_name(tree.replaced(place, block).err());
-    let insertion = error_name(tree.inserted(place, block).err());
+    let replacement = error_name(tree.replaced(place, Block { size: 1 }).err());
+    let insertion = insertion_refusal(tree, place);
     let found = tree.get(place).map_or("none", |_| "block");
     let list = list_text(alloc, tree)?;
     let texts = [deletion, replacement, insertion, found, list.as_str()];
@@ -225,8 +230,7 @@ fn full_tree(alloc: Global) -> Result<SumTree<Block>, TreeError> {
 fn refused_insertions(alloc: Global, tree: &SumTree<Block>, places: &str) -> Result<String, Fail> {
     let mut refusals = Vec::new(alloc);
     for place in places.split(" ") {
-        let insertion = tree.inserted(number_of(place)?, Block { size: 0 });
-        refusals.push(error_name(insertion.err()))?;
+        refusals.push(insertion_refusal(tree, number_of(place)?))?;
     }
     Ok(refusals.as_slice().join(alloc, " ")?)
 }

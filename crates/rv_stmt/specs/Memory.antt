@@ -91,9 +91,14 @@ is_no_offset [] = true
 is_no_offset (p ∷ []) = is_zero_of_kind p.kind p.text
 is_no_offset (p ∷ q ∷ ps) = false
 
+-- the base after an offset with a modifier, or a plain one
+abbrev pub base_behind : List SpelledToken → Option ℕ
+base_behind run =
+    if punctuation_at (codes "%") run 0 then option_and_then (base_after run) (group_of run) else base_of run
+
 -- a register that holds an address: `(register)` or `0(register)`; the base's fault comes first
 abbrev pub bare_base : Accepted → List SpelledToken → Reading ℕ
 bare_base a run =
     and_then
-    (and_then (or_fault BadRegister (base_of run)) (accepted_register a))
+    (and_then (or_fault BadRegister (base_behind run)) (accepted_register a))
     (λ n. if is_no_offset (take (length run - 3) run) then Ok n else Err BadOperand)

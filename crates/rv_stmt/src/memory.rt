@@ -2,7 +2,7 @@
 
 ghost use Rattle.std.specs.Prelude.{◌≡◌, ◌+◌, ◌<◌, ◌≤◌, ◌^◌, IfOk, IfSome, option_map, length, take, drop};
 ghost use Rattle.rv_text.specs.Numbers.{number_of};
-ghost use Rattle.rv_stmt.specs.Memory.{base_at, base_of, offset, closed_within, group_from, group_of, base_after, modified_memory, plain_memory, memory, is_zero_value, is_zero_of_kind, is_no_offset, bare_base};
+ghost use Rattle.rv_stmt.specs.Memory.{base_at, base_of, offset, closed_within, group_from, group_of, base_after, modified_memory, plain_memory, memory, is_zero_value, is_zero_of_kind, is_no_offset, base_behind, bare_base};
 
 use crate::operand::OperandValue;
 use crate::reading::{Attempt, Reading};
@@ -180,11 +180,22 @@ fn is_no_offset(run: &TokenRange<'_>) -> bool
     }
 }
 
+// The base after an offset with a modifier, or a plain one.
+fn base_behind(run: &TokenRange<'_>) -> Option<Reg>
+    ensures { result ≡ base_behind run.now }
+{
+    if run.punctuation_at(b"%", 0) {
+        base_after(run, group_of(run)?)
+    } else {
+        base_of(run)
+    }
+}
+
 /// The register that holds an address, `(register)` or `0(register)`, if it is one of those accepted.
 pub fn bare_base(accepted: Accepted, run: &TokenRange<'_>) -> Reading<Reg>
     ensures { result ≡ bare_base accepted run.now }
 {
-    let base = accepted.check(base_of(run))?;
+    let base = accepted.check(base_behind(run))?;
     if is_no_offset(&run.part(0, run.len().saturating_sub(3))) {
         Ok(base)
     } else {
