@@ -18,12 +18,15 @@ use rv_text::Count;
 fn is_same_name(name: &LabelName, other: &LabelName) -> bool
     ensures { result ≡ same_name name.now other.now }
 {
-    match (name, other) {
-        (LabelName::Symbol(symbol), LabelName::Symbol(another)) => {
-            symbol.bytes() == another.bytes()
-        }
-        (LabelName::Local(number), LabelName::Local(another)) => number == another,
-        _ => false,
+    match name {
+        LabelName::Symbol(symbol) => match other {
+            LabelName::Symbol(another) => symbol.bytes() == another.bytes(),
+            LabelName::Local(_) => false,
+        },
+        LabelName::Local(number) => match other {
+            LabelName::Symbol(_) => false,
+            LabelName::Local(another) => number == another,
+        },
     }
 }
 
@@ -32,14 +35,13 @@ fn are_same_labels(mut labels: &[Label], mut others: &[Label]) -> bool
     ensures { result ≡ same_labels labels.entry.now others.entry.now }
 {
     while let [label, rest @ ..] = labels {
-        let [other, later @ ..] = others else {
-            return false;
-        };
-        if !is_same_name(&label.name, &other.name) {
-            return false;
+        match others {
+            [other, later @ ..] if is_same_name(&label.name, &other.name) => {
+                labels = rest;
+                others = later;
+            }
+            _ => return false,
         }
-        labels = rest;
-        others = later;
     }
     others.is_empty()
 }

@@ -1,7 +1,8 @@
 //! What lines have to do with other lines, in brief.
 
-ghost use Rattle.std.specs.Prelude.{◌≡◌};
+ghost use Rattle.std.specs.Prelude.{◌≡◌, ◌||◌};
 ghost use Rattle.rv_store.specs.Briefs.{brief_of};
+ghost use Rattle.rv_store.specs.Uses.{uses_local_label, uses_paired_high, is_equ};
 
 use crate::highs::pcrel_high;
 use crate::jumps::target;
@@ -10,7 +11,7 @@ use crate::name_set::NameSet;
 use crate::uses::{
     is_equ, is_sized, set_of_names, uses_address, uses_local_label, uses_paired_high, uses_symbols,
 };
-use rv_stmt::Stmt;
+use rv_stmt::{Body, Stmt};
 
 /// What a line defines and what it uses, in brief: a loop over the lines goes past those that do not matter to it without a
 /// look at their statements.
@@ -54,7 +55,14 @@ impl Brief {
             names: set_of_names(body),
             address: uses_address(body),
             jump: target(body).is_some(),
-            uncompared: uses_local_label(body) || uses_paired_high(body) || is_equ(body),
+            uncompared: is_uncompared(body),
         }
     }
+}
+
+// Whether a line uses what is not compared.
+fn is_uncompared(body: &Body) -> bool
+    ensures { result ≡ (uses_local_label body.now || uses_paired_high body.now || is_equ body.now) }
+{
+    uses_local_label(body) || uses_paired_high(body) || is_equ(body)
 }

@@ -2,7 +2,7 @@
 
 ghost use Rattle.std.specs.Prelude.{◌≡◌, ◌-◌, ◌≤◌, length};
 ghost use Rattle.rv_store.specs.declared.limits.TheConstants.{MAX_LINES};
-ghost use Rattle.rv_store.specs.LineNames.{paired_high_in, rows_of, rows_for, given_by};
+ghost use Rattle.rv_store.specs.LineNames.{label_line_in, paired_high_in, rows_of, rows_for, given_by};
 ghost use Rattle.rv_store.specs.Pairs.{names_at};
 ghost use Rattle.rv_store.specs.Program.{body_at};
 ghost use Rattle.rv_store.specs.References.{line_of_place, or_faulty_equ, by_definition, usable_equs, references_at};
@@ -53,22 +53,29 @@ impl Names for LineNames<'_> {
     }
 
     fn paired_high(&self, _here: u32, label: &LabelReference) -> Result<i64, ValueFault> {
-        let line = match label {
-            LabelReference::Symbol(name) => {
-                line_of_place(entry_of(
-                    self.names,
-                    self.definitions,
-                    DefinitionPlace::Nowhere,
-                    name.bytes(),
-                ))?
-            }
-            LabelReference::Local(number, direction) => {
-                let line = self.locals.line(self.line, *number, *direction);
-                line.ok_or(ValueFault::Undefined)?
-            }
-            LabelReference::Here => return Err(ValueFault::Undefined),
-        };
+        let line = self.label_line(label)?;
         paired_high_in(self.paired_highs, line)
+    }
+}
+
+impl LineNames<'_> {
+    // The line of a label.
+    fn label_line(&self, label: &LabelReference) -> Result<u32, ValueFault>
+        ensures { result ≡ label_line_in (rows_of self.now) label.now }
+    {
+        match label {
+            LabelReference::Symbol(name) => line_of_place(entry_of(
+                self.names,
+                self.definitions,
+                DefinitionPlace::Nowhere,
+                name.bytes(),
+            )),
+            LabelReference::Local(number, direction) => self
+                .locals
+                .line(self.line, *number, *direction)
+                .ok_or(ValueFault::Undefined),
+            LabelReference::Here => Err(ValueFault::Undefined),
+        }
     }
 }
 

@@ -112,7 +112,7 @@ impl Survey {
         ensures parsed { C.parsed_count counter.new ≡ C.parsed_count counter.old }
         ensures encoded { C.encoded_count counter.new ≡ C.encoded_count counter.old }
     {
-        let lines = &self.lines;
+        let lines = self.lines.as_slice();
         let definitions = definitions(alloc, lines, names)?;
         let before = self.before(old, base, names, edit);
         let sized = shapes(alloc, &before, lines, names, &definitions, counter)?;
@@ -152,8 +152,9 @@ impl Survey {
         ensures encoded { C.encoded_count counter.new ≡ C.encoded_count counter.old }
     {
         let base = before.symbols.text.base;
-        let total = total_layout(&sized.shapes);
-        let places = places(alloc, base, &sized.shapes, &total)?;
+        let shapes = sized.shapes.as_slice();
+        let total = total_layout(shapes);
+        let places = places(alloc, base, shapes, &total)?;
         let lines = Lines::in_column(lines);
         let text = TextRows {
             base,

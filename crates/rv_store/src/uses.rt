@@ -35,7 +35,12 @@ fn any_in<T: NameTest>(expression: &Expr, names: &T) -> bool
         Node::Number(_) | Node::Local(_, _) | Node::Here => false,
         Node::Symbol(name) => names.passes(name.bytes()),
         Node::Unary(_, operand) => any_in(operand, names),
-        Node::Binary(_, left, right) => any_in(left, names) || any_in(right, names),
+        Node::Binary(_, left, right) => {
+            if any_in(left, names) {
+                return true;
+            }
+            any_in(right, names)
+        }
     }
 }
 

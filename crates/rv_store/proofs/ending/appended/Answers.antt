@@ -87,3 +87,12 @@ returns-in-Err-clause-symbols g c =
     c.forget_last.ensures.symbols c.args.base lines
     (subst (IsLast c.args.base lines) last (is_last c.args.base lines c.args.line c.args.end.now c.requires.ending))
     (subst (λ l. AreSymbols c.args.base (program_of (lines ++ l ∷ [])) (length lines + 1) c.define_last.new.names c.define_last.new.self) last counted)
+
+pub returns-in_err-define_last-clause-parsed : goal.returns-in_err-define_last-clause-parsed
+returns-in_err-define_last-clause-parsed g c = c.define_last.ensures.parsed
+
+pub returns-in-Ok-clause-parsed : goal.returns-in-Ok-clause-parsed
+returns-in-Ok-clause-parsed g c = c.with_last_item.ensures.parsed ∙ c.define_last.ensures.parsed
+
+pub returns-in-Err-clause-parsed : goal.returns-in-Err-clause-parsed
+returns-in-Err-clause-parsed g c = c.with_last_item.ensures.parsed ∙ c.define_last.ensures.parsed

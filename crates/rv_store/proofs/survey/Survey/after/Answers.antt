@@ -15,32 +15,49 @@ pub returns-in_err-sized-clause-work : goal.returns-in_err-sized-clause-work
 returns-in_err-sized-clause-work g c =
     let count = g.C.Count.valued_count in
     let before = c.before-before.ensures in
-    let same = c.deref-2.ensures.value in
+    let same = c.as_slice-lines.ensures.value in
     rw same at
-    (survey_counted c.before-before.result c.args.base c.args.old.now c.deref-2.result.now (edit_of c.args.edit.now) before.base before.lines before.edit (same ∙ c.requires.edited)
+    (survey_counted c.before-before.result c.args.base c.args.old.now c.as_slice-lines.result.now (edit_of c.args.edit.now) before.base before.lines before.edit (same ∙ c.requires.edited)
     (count c.args.counter.now) (count c.shapes.new.counter) (count c.shapes.new.counter) (count c.shapes.new.counter) c.shapes.ensures.work (omega arith) (omega arith))
 
 pub returns-in_err-locals-clause-work : goal.returns-in_err-locals-clause-work
 returns-in_err-locals-clause-work g c =
     let count = g.C.Count.valued_count in
     let before = c.before-before.ensures in
-    let same = c.deref-2.ensures.value in
+    let same = c.as_slice-lines.ensures.value in
     rw same at
-    (survey_counted c.before-before.result c.args.base c.args.old.now c.deref-2.result.now (edit_of c.args.edit.now) before.base before.lines before.edit (same ∙ c.requires.edited)
+    (survey_counted c.before-before.result c.args.base c.args.old.now c.as_slice-lines.result.now (edit_of c.args.edit.now) before.base before.lines before.edit (same ∙ c.requires.edited)
     (count c.args.counter.now) (count c.shapes.new.counter) (count c.shapes.new.counter) (count c.shapes.new.counter) c.shapes.ensures.work (omega arith) (omega arith))
 
 pub by_rows-requires-clause-constants : goal.by_rows-requires-clause-constants
 by_rows-requires-clause-constants g c =
-    let same = c.deref-2.ensures.value ∙ sym c.deref-5.ensures.value in
-    subst (λ names. AreConstants (program_of c.deref-5.result.now) (length c.deref-5.result.now) names c.in_ok-sized.sized.constants.items) (sym c.before-before.ensures.names)
-    (subst (λ ls. AreConstants (program_of ls) (length ls) c.definitions.new.names c.in_ok-sized.sized.constants.items) same c.in_ok-sized.ensures.constants)
+    let lines = c.as_slice-lines.result.now in
+    subst (λ names. AreConstants (program_of lines) (length lines) names c.in_ok-sized.sized.constants.items) (sym c.before-before.ensures.names) c.in_ok-sized.ensures.constants
 
 pub returns-clause-work : goal.returns-clause-work
 returns-clause-work g c =
     let count = g.C.Count.valued_count in
     let before = c.before-before.result in
     let lines = c.args.self.now.lines.items in
-    let shaped = subst (λ ls. count c.shapes.new.counter ≤ count c.args.counter.now + work constant_operands (base_before before) (lines_before before) (edit_on before) (length ls)) c.deref-2.ensures.value c.shapes.ensures.work in
-    let rest = subst (λ ls. count c.by_rows.new.counter ≤ count c.shapes.new.counter + operands_through equ_operands (program_of ls) (length ls) + work high_operands (base_before before) (lines_before before) (edit_on before) (length ls)) c.deref-5.ensures.value c.by_rows.ensures.work in
+    let shaped = subst (λ ls. count c.shapes.new.counter ≤ count c.args.counter.now + work constant_operands (base_before before) (lines_before before) (edit_on before) (length ls)) c.as_slice-lines.ensures.value c.shapes.ensures.work in
+    let rest = subst (λ ls. count c.by_rows.new.counter ≤ count c.shapes.new.counter + operands_through equ_operands (program_of ls) (length ls) + work high_operands (base_before before) (lines_before before) (edit_on before) (length ls)) c.as_slice-lines.ensures.value c.by_rows.ensures.work in
     survey_counted before c.args.base c.args.old.now lines (edit_of c.args.edit.now) c.before-before.ensures.base c.before-before.ensures.lines c.before-before.ensures.edit c.requires.edited
     (count c.args.counter.now) (count c.shapes.new.counter) (count c.shapes.new.counter + operands_through equ_operands (program_of lines) (length lines)) (count c.by_rows.new.counter) shaped (omega arith) rest
+
+pub returns-in_err-sized-clause-parsed : goal.returns-in_err-sized-clause-parsed
+returns-in_err-sized-clause-parsed g c = c.shapes.ensures.parsed
+
+pub returns-in_err-locals-clause-parsed : goal.returns-in_err-locals-clause-parsed
+returns-in_err-locals-clause-parsed g c = c.shapes.ensures.parsed
+
+pub returns-clause-parsed : goal.returns-clause-parsed
+returns-clause-parsed g c = c.by_rows.ensures.parsed ∙ c.shapes.ensures.parsed
+
+pub returns-in_err-sized-clause-encoded : goal.returns-in_err-sized-clause-encoded
+returns-in_err-sized-clause-encoded g c = c.shapes.ensures.encoded
+
+pub returns-in_err-locals-clause-encoded : goal.returns-in_err-locals-clause-encoded
+returns-in_err-locals-clause-encoded g c = c.shapes.ensures.encoded
+
+pub returns-clause-encoded : goal.returns-clause-encoded
+returns-clause-encoded g c = c.by_rows.ensures.encoded ∙ c.shapes.ensures.encoded

@@ -1,4 +1,4 @@
-use Rattle.std.proofs.Common.{sym}
+use Rattle.std.proofs.Common.{◌∙◌, sym}
 use Rattle.rv_store.specs.Before.{base_before}
 use Rattle.rv_store.specs.Program.{program_of}
 use Rattle.rv_store.proofs.Programs.{length-program}
@@ -8,30 +8,30 @@ use Rattle.rv_store.proofs.survey.Survey.by_rows.Goals as goal
 pub places-requires-clause-few : goal.places-requires-clause-few
 places-requires-clause-few g c =
     let count = length_of_shapes c.args.lines.now c.args.sized.shapes.items c.requires.shapes in
-    rw (c.deref-2.ensures.value, count) c.requires.few
+    rw (c.as_slice-shapes.ensures.value, count) c.requires.few
 
 pub equ_values-requires-clause-rows : goal.equ_values-requires-clause-rows
 equ_values-requires-clause-rows g c = record {
-  defined = rw (c.in_column-lines.ensures, c.deref-3.ensures.value) c.requires.definitions;
-  placed = rw (c.in_column-lines.ensures, c.deref-4.ensures.value) (placed (base_before c.args.before.now) (program_of c.args.lines.now) c.args.sized.shapes.items _ c.requires.shapes (rw (sym c.deref-2.ensures.value) c.in_ok-places.ensures.places));
+  defined = rw (c.in_column-lines.ensures, c.deref.ensures.value) c.requires.definitions;
+  placed = rw (c.in_column-lines.ensures, c.deref-2.ensures.value) (placed (base_before c.args.before.now) (program_of c.args.lines.now) c.args.sized.shapes.items _ c.requires.shapes (rw (sym c.as_slice-shapes.ensures.value) c.in_ok-places.ensures.places));
   located = rw (c.in_column-lines.ensures, length-program) c.requires.locals;
 }
 
 pub highs-requires-clause-rows : goal.highs-requires-clause-rows
 highs-requires-clause-rows g c = record {
   text = record {
-    defined = rw (c.in_column-lines.ensures, c.deref-3.ensures.value) c.requires.definitions;
-    placed = rw (c.in_column-lines.ensures, c.deref-4.ensures.value) (placed (base_before c.args.before.now) (program_of c.args.lines.now) c.args.sized.shapes.items _ c.requires.shapes (rw (sym c.deref-2.ensures.value) c.in_ok-places.ensures.places));
+    defined = rw (c.in_column-lines.ensures, c.deref.ensures.value) c.requires.definitions;
+    placed = rw (c.in_column-lines.ensures, c.deref-2.ensures.value) (placed (base_before c.args.before.now) (program_of c.args.lines.now) c.args.sized.shapes.items _ c.requires.shapes (rw (sym c.as_slice-shapes.ensures.value) c.in_ok-places.ensures.places));
     located = rw (c.in_column-lines.ensures, length-program) c.requires.locals;
   };
-  constants = rw (c.in_column-lines.ensures, c.deref-5.ensures.value) c.requires.constants;
-  equ_values = rw c.deref-6.ensures.value c.in_ok-equ_values.ensures.values;
+  constants = rw (c.in_column-lines.ensures, c.deref-3.ensures.value) c.requires.constants;
+  equ_values = rw c.deref-4.ensures.value c.in_ok-equ_values.ensures.values;
 }
 
 pub paired_highs-requires-clause-rows : goal.paired_highs-requires-clause-rows
 paired_highs-requires-clause-rows g c = record {
-  defined = rw (c.in_column-lines.ensures, c.deref-3.ensures.value) c.requires.definitions;
-  placed = rw (c.in_column-lines.ensures, c.deref-4.ensures.value) (placed (base_before c.args.before.now) (program_of c.args.lines.now) c.args.sized.shapes.items _ c.requires.shapes (rw (sym c.deref-2.ensures.value) c.in_ok-places.ensures.places));
+  defined = rw (c.in_column-lines.ensures, c.deref.ensures.value) c.requires.definitions;
+  placed = rw (c.in_column-lines.ensures, c.deref-2.ensures.value) (placed (base_before c.args.before.now) (program_of c.args.lines.now) c.args.sized.shapes.items _ c.requires.shapes (rw (sym c.as_slice-shapes.ensures.value) c.in_ok-places.ensures.places));
   located = rw (c.in_column-lines.ensures, length-program) c.requires.locals;
 }
 
@@ -41,10 +41,34 @@ returns-clause-survey g c = record {
   constants = rw length-program c.requires.constants;
   shapes = c.requires.shapes;
   limited = c.requires.limited;
-  total = rw (sym c.deref.ensures.value) c.total_layout-total.ensures;
-  places = placed (base_before c.args.before.now) (program_of c.args.lines.now) c.args.sized.shapes.items _ c.requires.shapes (rw (sym c.deref-2.ensures.value) c.in_ok-places.ensures.places);
+  total = rw (sym c.as_slice-shapes.ensures.value) c.total_layout-total.ensures;
+  places = placed (base_before c.args.before.now) (program_of c.args.lines.now) c.args.sized.shapes.items _ c.requires.shapes (rw (sym c.as_slice-shapes.ensures.value) c.in_ok-places.ensures.places);
   locals = rw length-program c.requires.locals;
   equ_values = rw length-program (rw c.in_column-lines.ensures at c.in_ok-equ_values.ensures.values);
   highs = rw c.in_column-lines.ensures at c.in_ok-highs.ensures.highs;
   paired_highs = rw c.in_column-lines.ensures at c.in_ok-paired_highs.ensures;
 }
+
+pub returns-in_err-equ_values-clause-parsed : goal.returns-in_err-equ_values-clause-parsed
+returns-in_err-equ_values-clause-parsed g c = c.equ_values.ensures.parsed
+
+pub returns-in_err-highs-clause-parsed : goal.returns-in_err-highs-clause-parsed
+returns-in_err-highs-clause-parsed g c = c.highs.ensures.parsed ∙ c.equ_values.ensures.parsed
+
+pub returns-in_err-paired_highs-clause-parsed : goal.returns-in_err-paired_highs-clause-parsed
+returns-in_err-paired_highs-clause-parsed g c = c.highs.ensures.parsed ∙ c.equ_values.ensures.parsed
+
+pub returns-clause-parsed : goal.returns-clause-parsed
+returns-clause-parsed g c = c.highs.ensures.parsed ∙ c.equ_values.ensures.parsed
+
+pub returns-in_err-equ_values-clause-encoded : goal.returns-in_err-equ_values-clause-encoded
+returns-in_err-equ_values-clause-encoded g c = c.equ_values.ensures.encoded
+
+pub returns-in_err-highs-clause-encoded : goal.returns-in_err-highs-clause-encoded
+returns-in_err-highs-clause-encoded g c = c.highs.ensures.encoded ∙ c.equ_values.ensures.encoded
+
+pub returns-in_err-paired_highs-clause-encoded : goal.returns-in_err-paired_highs-clause-encoded
+returns-in_err-paired_highs-clause-encoded g c = c.highs.ensures.encoded ∙ c.equ_values.ensures.encoded
+
+pub returns-clause-encoded : goal.returns-clause-encoded
+returns-clause-encoded g c = c.highs.ensures.encoded ∙ c.equ_values.ensures.encoded
