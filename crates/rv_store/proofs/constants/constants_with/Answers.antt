@@ -24,3 +24,9 @@ pub returns-clause-constants : goal.returns-clause-constants
 returns-clause-constants g c =
     let last : length c.args.lines.now - 1 + 1 ≡ length c.args.lines.now = omega (arith, c.requires.some) in
     subst (λ k. AreConstants (program_of c.args.lines.now) k c.args.names.now c.settle_constant.new.row.items) last c.settle_constant.ensures.after
+
+pub returns-clause-parsed : goal.returns-clause-parsed
+returns-clause-parsed g c = c.settle_constant.ensures.parsed
+
+pub returns-clause-encoded : goal.returns-clause-encoded
+returns-clause-encoded g c = c.settle_constant.ensures.encoded

@@ -41,3 +41,9 @@ returns-clause-after g c =
           ∙ ap (constant_through program) next;
       within = rw length-set (omega (arith, c.requires.as_many, c.requires.definitions.within));
     }
+
+pub returns-clause-parsed : goal.returns-clause-parsed
+returns-clause-parsed g c = c.defined_value-value.ensures.parsed
+
+pub returns-clause-encoded : goal.returns-clause-encoded
+returns-clause-encoded g c = c.defined_value-value.ensures.encoded

@@ -45,3 +45,9 @@ returns-clause-after g c =
     ∙ ap (λ n. defined_value (references_through text n (c.args.i + 1)) (EquBody d)) (less-one c.args.i)
     ∙ ap (λ n. defined_value (references_through text c.args.i n) (EquBody d)) next)
     c.requires.before
+
+pub returns-clause-parsed : goal.returns-clause-parsed
+returns-clause-parsed g c = c.value_on.ensures.parsed
+
+pub returns-clause-encoded : goal.returns-clause-encoded
+returns-clause-encoded g c = c.value_on.ensures.encoded

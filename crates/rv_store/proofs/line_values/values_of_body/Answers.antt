@@ -22,3 +22,9 @@ returns-in_ok-values-in_default-clause-values g c =
     ∙ ap (λ given. operand_values_of given place.address b) names
     ∙ ap (λ here. operand_values_of (names_at base program line) here b) address)
     ∙ ap (λ s. values_of_body base program line s.body) c.statement_on-stmt.ensures
+
+pub returns-in_ok-values-in_default-clause-parsed : goal.returns-in_ok-values-in_default-clause-parsed
+returns-in_ok-values-in_default-clause-parsed g c = c.operand_values.ensures.parsed
+
+pub returns-in_ok-values-in_default-clause-encoded : goal.returns-in_ok-values-in_default-clause-encoded
+returns-in_ok-values-in_default-clause-encoded g c = c.operand_values.ensures.encoded

@@ -1,4 +1,4 @@
-use Rattle.std.proofs.Common.{arith}
+use Rattle.std.proofs.Common.{◌∙◌, arith}
 use Rattle.rv_store.specs.ValueRows.{body_in}
 use Rattle.rv_store.proofs.CountedLines.{value_operands-few}
 use Rattle.rv_store.proofs.replacement.item_of_line.Goals as goal
@@ -18,3 +18,15 @@ returns-in_err-made-clause-valued_few g c =
 pub returns-clause-valued_few : goal.returns-clause-valued_few
 returns-clause-valued_few g c =
     omega (arith, c.values.ensures.most, c.code.ensures.valued, c.operands_are_few_on.ensures, value_operands-few (body_in c.args.rows.now c.args.line))
+
+pub returns-in_err-values-clause-parsed : goal.returns-in_err-values-clause-parsed
+returns-in_err-values-clause-parsed g c = c.values.ensures.parsed
+
+pub returns-in_err-code-clause-parsed : goal.returns-in_err-code-clause-parsed
+returns-in_err-code-clause-parsed g c = c.code.ensures.parsed ∙ c.values.ensures.parsed
+
+pub returns-in_err-made-clause-parsed : goal.returns-in_err-made-clause-parsed
+returns-in_err-made-clause-parsed g c = c.code.ensures.parsed ∙ c.values.ensures.parsed
+
+pub returns-clause-parsed : goal.returns-clause-parsed
+returns-clause-parsed g c = c.code.ensures.parsed ∙ c.values.ensures.parsed

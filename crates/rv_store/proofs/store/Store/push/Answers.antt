@@ -104,3 +104,9 @@ returns-in-Err-clause-codes g c =
     let old = c.args.self.now in
     let enough = codes-enough old.base old.lines c.args.line c.args.end.now c.requires.ending c.args.k c.requires.end in
     omega (arith, c.appended.ensures.encoded_most, enough)
+
+pub returns-in-Ok-clause-parsed : goal.returns-in-Ok-clause-parsed
+returns-in-Ok-clause-parsed g c = c.appended.ensures.parsed
+
+pub returns-in-Err-clause-parsed : goal.returns-in-Err-clause-parsed
+returns-in-Err-clause-parsed g c = c.appended.ensures.parsed

@@ -153,3 +153,9 @@ returns-in-Err-clause-codes g c =
     let within = replace_within old.lines c.args.k c.args.line c.requires.allowed in
     let enough = codes-enough old.base old.lines c.args.k c.args.line within.0 within.1 c.requires.alike in
     omega (arith, c.item_replaced.ensures.encoded_most, enough)
+
+pub returns-in-Ok-clause-parsed : goal.returns-in-Ok-clause-parsed
+returns-in-Ok-clause-parsed g c = c.item_replaced.ensures.parsed
+
+pub returns-in-Err-clause-parsed : goal.returns-in-Err-clause-parsed
+returns-in-Err-clause-parsed g c = c.item_replaced.ensures.parsed

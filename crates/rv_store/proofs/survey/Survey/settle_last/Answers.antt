@@ -95,3 +95,9 @@ returns-clause-symbols g c =
           subst (λ k. AreEquValues c.args.base (program_of all) k c.args.names.now c.settle_equ.new.row.items) last
           (subst (λ ls. AreEquValues c.args.base (program_of ls) (c.len-last.result - 1 + 1) c.args.names.now c.settle_equ.new.row.items) lines c.settle_equ.ensures.after);
     }
+
+pub returns-clause-parsed : goal.returns-clause-parsed
+returns-clause-parsed g c = c.settle_equ.ensures.parsed ∙ c.settle_constant.ensures.parsed
+
+pub returns-clause-encoded : goal.returns-clause-encoded
+returns-clause-encoded g c = c.settle_equ.ensures.encoded ∙ c.settle_constant.ensures.encoded
