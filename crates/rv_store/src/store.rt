@@ -411,6 +411,32 @@ impl Store {
         }
     }
 
+    // Makes an edit that is not refused, whose line was read, by the items that it leaves. Where there is no memory for that,
+    // the text stays.
+    fn rework<C: Count>(
+        &mut self,
+        edit: &LineEdit<'_>,
+        read: ReadEdit,
+        counter: &mut C,
+    ) -> Result<Changed, EditError>
+        requires allowed { refusal_of self.old.lines (edit_of edit.now) ≡ None }
+        requires read { edit_of_read read ≡ edit_of edit.now }
+        requires valued { C.valued_count counter.old ≤ 2 ^ 63 }
+        requires encoded { C.encoded_count counter.old ≤ 2 ^ 63 }
+        ensures ok { OnOk result (self.new ≡ text_after self.old (edit_of edit.now)) }
+        ensures err { OnErr result (self.new ≡ self.old) }
+        ensures changed { IfOk result (λ c. c.lines ≡ changed_lines self.old.base self.old.lines (edit_of edit.now)) }
+        ensures memory { IfErr result (λ e. e ≡ EditError.Memory) }
+        ensures parsed { C.parsed_count counter.new ≡ C.parsed_count counter.old }
+        ensures valued { (C.valued_count counter.old ≤ C.valued_count counter.new) × (C.valued_count counter.new < C.valued_count counter.old + 2 ^ 32) }
+        ensures encoded { (C.encoded_count counter.old ≤ C.encoded_count counter.new) × (C.encoded_count counter.new < C.encoded_count counter.old + 2 ^ 32) }
+        ensures values { C.valued_count counter.new ≤ C.valued_count counter.old + most_values self.old.base self.old.lines (edit_of edit.now) }
+        ensures codes { C.encoded_count counter.new ≤ C.encoded_count counter.old + most_codes self.old.base self.old.lines (edit_of edit.now) }
+    {
+        let items = self.edited(&read)?;
+        self.assemble(edit, read, items, counter)
+    }
+
     // Makes an edit that is not refused, whose line was read. Where there is no memory for that, the text stays.
     fn make<C: Count>(
         &mut self,
@@ -432,18 +458,21 @@ impl Store {
         ensures values { C.valued_count counter.new ≤ C.valued_count counter.old + most_values self.old.base self.old.lines (edit_of edit.now) }
         ensures codes { C.encoded_count counter.new ≤ C.encoded_count counter.old + most_codes self.old.base self.old.lines (edit_of edit.now) }
     {
-        if let ReadEdit::Replace(k, line) = &read {
-            if self.takes(*k, line, counter) {
-                return self.put(*k, line.share()?, counter);
+        match &read {
+            ReadEdit::Insert(k, line) => {
+                if *k > self.items.len() {
+                    return self.append(*k, line, counter);
+                }
+                self.rework(edit, read, counter)
+            }
+            ReadEdit::Delete(_) => self.rework(edit, read, counter),
+            ReadEdit::Replace(k, line) => {
+                if self.takes(*k, line, counter) {
+                    return self.put(*k, line.share()?, counter);
+                }
+                self.rework(edit, read, counter)
             }
         }
-        if let ReadEdit::Insert(k, line) = &read {
-            if *k > self.items.len() {
-                return self.append(*k, line, counter);
-            }
-        }
-        let items = self.edited(&read)?;
-        self.assemble(edit, read, items, counter)
     }
 
     // Makes an edit, or says why not.

@@ -23,3 +23,9 @@ returns-clause-values g c =
     let text = c.args.text.now in
     let end : c.loop-i.i ≡ length text.lines.now = omega (arith, c.loop-i-test.false, c.loop-i.auto.i-end) in
     subst (λ k. AreEquValuesIn text k c.loop-i.row.items) end c.loop-i.invariant.values
+
+pub returns-clause-parsed : goal.returns-clause-parsed
+returns-clause-parsed g c = c.loop-i.invariant.parsed
+
+pub returns-clause-encoded : goal.returns-clause-encoded
+returns-clause-encoded g c = c.loop-i.invariant.encoded

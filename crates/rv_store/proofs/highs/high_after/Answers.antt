@@ -52,3 +52,9 @@ returns-clause-most g c =
     let high : is_some (pcrel_high_of (body_at (program_in c.args.after.now.text) c.args.line)) ≡ true = sym c.has_pcrel_high.ensures ∙ c.if-not-has_pcrel_high.false in
     let one = high-counted before c.args.after.now.text c.args.line c.requires.after c.requires.first high invalidated in
     omega (arith, one, c.high_on.ensures.most)
+
+pub returns-clause-parsed : goal.returns-clause-parsed
+returns-clause-parsed g c = c.high_on.ensures.parsed
+
+pub returns-clause-encoded : goal.returns-clause-encoded
+returns-clause-encoded g c = c.high_on.ensures.encoded

@@ -23,3 +23,15 @@ returns-clause-highs g c =
     let text = c.args.after.now.text in
     let end : c.loop-i.i ≡ length (program_in text) = omega (arith, c.loop-i-test.false, c.loop-i.auto.i-end, length-program text.lines.now) in
     c.loop-i.invariant.row ∙ ap (for_lines (high_at text.base (program_in text))) end
+
+pub returns-in_err-push-clause-parsed : goal.returns-in_err-push-clause-parsed
+returns-in_err-push-clause-parsed g c = c.high_after.ensures.parsed ∙ c.loop-i.invariant.parsed
+
+pub returns-in_err-push-clause-encoded : goal.returns-in_err-push-clause-encoded
+returns-in_err-push-clause-encoded g c = c.high_after.ensures.encoded ∙ c.loop-i.invariant.encoded
+
+pub returns-clause-parsed : goal.returns-clause-parsed
+returns-clause-parsed g c = c.loop-i.invariant.parsed
+
+pub returns-clause-encoded : goal.returns-clause-encoded
+returns-clause-encoded g c = c.loop-i.invariant.encoded

@@ -78,3 +78,15 @@ returns-clause-work g c =
     let sum = constant-work (base_before before) (lines_before before) (edit_on before) c.loop-i.i in
     let last = ap (work constant_operands (base_before before) (lines_before before) (edit_on before)) all in
     omega (arith, c.loop-i.invariant.work, sum, last)
+
+pub returns-in_err-push-clause-parsed : goal.returns-in_err-push-clause-parsed
+returns-in_err-push-clause-parsed g c = c.shape_after.ensures.parsed ∙ c.loop-i.invariant.parsed
+
+pub returns-in_err-push-clause-encoded : goal.returns-in_err-push-clause-encoded
+returns-in_err-push-clause-encoded g c = c.shape_after.ensures.encoded ∙ c.loop-i.invariant.encoded
+
+pub returns-clause-parsed : goal.returns-clause-parsed
+returns-clause-parsed g c = c.loop-i.invariant.parsed
+
+pub returns-clause-encoded : goal.returns-clause-encoded
+returns-clause-encoded g c = c.loop-i.invariant.encoded

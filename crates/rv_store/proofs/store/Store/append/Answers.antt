@@ -36,3 +36,12 @@ extend-requires-clause-shape g c =
     c.shape_at_end-shape.ensures.shape
     ∙ ap (λ ls. shape_at_end (program_of ls) (statement_of c.args.line.now)) same
     ∙ ap (λ line. shape_at_end (program_of c.args.self.now.lines) (statement_of line)) (sym c.in_ok-share-2.ensures)
+
+pub returns-in_err-share-clause-parsed : goal.returns-in_err-share-clause-parsed
+returns-in_err-share-clause-parsed g c = c.shape_at_end-shape.ensures.parsed
+
+pub returns-in_err-share-2-clause-parsed : goal.returns-in_err-share-2-clause-parsed
+returns-in_err-share-2-clause-parsed g c = c.shape_at_end-shape.ensures.parsed
+
+pub returns-clause-parsed : goal.returns-clause-parsed
+returns-clause-parsed g c = c.extend.ensures.parsed ∙ c.shape_at_end-shape.ensures.parsed

@@ -86,3 +86,9 @@ returns-in-Ok-clause-values g c =
     let number : length lines + 1 ≡ c.args.k = omega (arith, c.requires.end, ap length same) in
     let most : most_values c.self.inside.base lines (Insert (length lines + 1) line) ≡ most_values old.base old.lines (Insert c.args.k line) = (λ j. most_values (base j) (same j) (Insert (number j) line)) in
     omega (arith, c.extended.ensures.counted.valued_most, ap size_operands (body-at_end lines line), most)
+
+pub returns-in-Ok-clause-parsed : goal.returns-in-Ok-clause-parsed
+returns-in-Ok-clause-parsed g c = c.extended.ensures.counted.parsed
+
+pub returns-in-Err-clause-parsed : goal.returns-in-Err-clause-parsed
+returns-in-Err-clause-parsed g c = c.extended.ensures.counted.parsed

@@ -1,6 +1,6 @@
 use Rattle.std.proofs.Common.{subst}
 use Rattle.rv_store.specs.Former.{AreFormer}
-use Rattle.rv_store.proofs.store.Store.make.Goals as goal
+use Rattle.rv_store.proofs.store.Store.rework.Goals as goal
 
 pub assemble-requires-clause-former : goal.assemble-requires-clause-former
 assemble-requires-clause-former g c =
