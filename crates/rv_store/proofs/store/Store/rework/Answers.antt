@@ -6,3 +6,6 @@ pub assemble-requires-clause-former : goal.assemble-requires-clause-former
 assemble-requires-clause-former g c =
     let old = c.args.self.now in
     subst (λ e. AreFormer old.base old.lines e 0 c.in_ok-items.items.items) c.requires.read c.in_ok-items.ensures.former
+
+pub returns-clause-parsed : goal.returns-clause-parsed
+returns-clause-parsed g c = c.assemble.ensures.counted.parsed
