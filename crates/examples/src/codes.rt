@@ -7,7 +7,9 @@ use crate::row::{number_of, parts_of};
 use crate::statements::statement_of_line;
 use code_text::text_of;
 use rv_expr::{Direction, LabelReference, Names, ValueFault};
-use rv_fix::{AssembleError, Coded, FixError, Values, assemble_at, encode_line, operand_values};
+use rv_fix::{
+    AssembleError, Coded, Entry, FixError, Values, assemble_at, encode_line, operand_values,
+};
 use rv_stmt::{Stmt, StmtError};
 use rv_text::{Fault, FaultNumber, Span, Tally};
 use std::alloc::Global;
@@ -77,21 +79,37 @@ fn encoded(alloc: Global, stmt: &Stmt, values: &Values) -> Result<Coded, Fail> {
     Ok(coded)
 }
 
+// Values, and the code with them.
+fn text_of_values(alloc: Global, entries: &[Entry], coded: &Coded) -> Result<String, Fail> {
+    let code = text_of(alloc, coded)?;
+    Ok(format!(in alloc; "{entries:?} {code}")?)
+}
+
+// The code of a statement with these values, behind the values.
+fn text_with_values(alloc: Global, stmt: &Stmt, values: &Values) -> Result<String, Fail> {
+    text_of_values(alloc, values.entries(), &encoded(alloc, stmt, values)?)
+}
+
+// The values of a statement at an address, and the code with these values.
+fn text_at(alloc: Global, stmt: &Stmt, address: u32) -> Result<String, Fail> {
+    text_with_values(alloc, stmt, &values_of(alloc, stmt, address)?)
+}
+
 /// `values ADDRESS LINE`: the values of the operands, and the code with these values.
 pub fn values(alloc: Global, arguments: &str) -> Result<String, Fail> {
     let (address, line) = parts_of(arguments);
-    let stmt = statement_of_line(alloc, line.as_bytes())?;
-    let values = values_of(alloc, &stmt, number_of(address)?)?;
-    let coded = encoded(alloc, &stmt, &values)?;
-    let code = text_of(alloc, &coded)?;
-    let entries = values.entries();
-    Ok(format!(in alloc; "{entries:?} {code}")?)
+    let address = number_of(address)?;
+    text_at(alloc, &statement_of_line(alloc, line.as_bytes())?, address)
 }
 
 // The values of a line at 0x1002.
 fn values_of_line(alloc: Global, line: &str) -> Result<Values, Fail> {
-    let stmt = statement_of_line(alloc, line.as_bytes())?;
-    values_of(alloc, &stmt, 0x1002)
+    values_of(alloc, &statement_of_line(alloc, line.as_bytes())?, 0x1002)
+}
+
+// Whether a line has these values.
+fn has_values(alloc: Global, values: &Values, line: &str) -> Result<bool, Fail> {
+    Ok(values.is_same(&values_of_line(alloc, line)?))
 }
 
 /// `same_values LINE; LINE`: whether two lines have the same values.
@@ -99,9 +117,7 @@ pub fn same_values(alloc: Global, lines: &str) -> Result<String, Fail> {
     let Some((left, right)) = lines.split_once("; ") else {
         return Err(Fail::new("a row without two lines"));
     };
-    let left = values_of_line(alloc, left)?;
-    let right = values_of_line(alloc, right)?;
-    let same = left.is_same(&right);
+    let same = has_values(alloc, &values_of_line(alloc, left)?, right)?;
     Ok(format!(in alloc; "{same}")?)
 }
 

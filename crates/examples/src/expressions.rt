@@ -81,10 +81,9 @@ fn value_text(alloc: Global, expression: &Expr, here: u32) -> Result<String, Fai
 }
 
 // The value at an address of the expression of a line's tokens from a token on, or why there is none.
-fn value_in_line(alloc: Global, here: &str, from: usize, line: &str) -> Result<String, Fail> {
-    let line = unfolded(alloc, line)?;
-    match expression_from(alloc, line.as_str(), from)? {
-        Ok(expression) => value_text(alloc, &expression, here.parse::<u32>()?),
+fn value_in_line(alloc: Global, here: u32, from: usize, line: &str) -> Result<String, Fail> {
+    match expression_from(alloc, line, from)? {
+        Ok(expression) => value_text(alloc, &expression, here),
         Err(fault) => Ok(format!(in alloc; "{fault:?}")?),
     }
 }
@@ -92,14 +91,16 @@ fn value_in_line(alloc: Global, here: &str, from: usize, line: &str) -> Result<S
 /// The value of an expression at an address, or why there is none.
 pub fn expression_value(alloc: Global, arguments: &str) -> Result<String, Fail> {
     let (here, line) = parts_of(arguments);
-    value_in_line(alloc, here, 0, line)
+    let here = here.parse::<u32>()?;
+    value_in_line(alloc, here, 0, unfolded(alloc, line)?.as_str())
 }
 
 /// The value at an address of the expression that stands in a line from a token on.
 pub fn operand_value(alloc: Global, arguments: &str) -> Result<String, Fail> {
     let (here, rest) = parts_of(arguments);
     let (from, line) = parts_of(rest);
-    value_in_line(alloc, here, from.parse::<usize>()?, line)
+    let (here, from) = (here.parse::<u32>()?, from.parse::<usize>()?);
+    value_in_line(alloc, here, from, unfolded(alloc, line)?.as_str())
 }
 
 /// The values at address 10 of `(a0 - .) * 12b`, where a symbol gives 30 and a local label -4, and where the symbol is a constant

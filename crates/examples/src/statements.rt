@@ -5,7 +5,7 @@ use crate::row::{bytes_of, parts_of};
 use crate::statement_text::text_of;
 use rv_code::{Fields, word_of};
 use rv_stmt::{
-    Body, Instruction, Instructions, MachineInstruction, Stmt, expansion_of, high_part,
+    Body, Instruction, Instructions, MachineInstruction, Operand, Stmt, expansion_of, high_part,
     instructions_of, low_part, read_line, word_bits,
 };
 use rv_text::Tally;
@@ -84,17 +84,25 @@ fn words_of_body(alloc: Global, body: &Body, value: i32) -> Result<String, Fail>
 /// `words VALUE LINE`: the words that the line stands for where its operand has the value, and their size.
 pub fn words(alloc: Global, arguments: &str) -> Result<String, Fail> {
     let (value, line) = parts_of(arguments);
-    let stmt = statement_of_line(alloc, line.as_bytes())?;
-    words_of_body(alloc, &stmt.body, value.parse::<i32>()?)
+    let value = value.parse::<i32>()?;
+    words_of_body(
+        alloc,
+        &statement_of_line(alloc, line.as_bytes())?.body,
+        value,
+    )
+}
+
+// What operands expand to, and how many there are.
+fn expansion_text(alloc: Global, operands: &[Operand]) -> Result<String, Fail> {
+    let expansion = expansion_of(operands);
+    let count = operands.len();
+    Ok(format!(in alloc; "{expansion:?} {count}")?)
 }
 
 /// `expansion LINE`: what the line expands to, and how many operands wait for a value.
 pub fn expansion(alloc: Global, line: &str) -> Result<String, Fail> {
     let stmt = statement_of_line(alloc, line.as_bytes())?;
-    let operands = stmt.body.operands();
-    let expansion = expansion_of(operands);
-    let count = operands.len();
-    Ok(format!(in alloc; "{expansion:?} {count}")?)
+    expansion_text(alloc, stmt.body.operands())
 }
 
 /// `value_parts VALUE`: the lowest 32 bits, `%hi` and `%lo` of the value.

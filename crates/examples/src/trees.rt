@@ -51,6 +51,15 @@ fn cut(tree: &SumTree<Block>, limit: u32) -> Result<SumTree<Block>, Fail> {
     Ok(cut)
 }
 
+// The list that a pass gives.
+fn passed(tree: &SumTree<Block>, call: &str, limit: &str) -> Result<SumTree<Block>, Fail> {
+    match call {
+        "accumulate" => Ok(tree.rewritten(&mut Accumulate)?),
+        "cut" => cut(tree, number_of(limit)?),
+        _ => Err(Fail::new("no edit of a list")),
+    }
+}
+
 // The list that an edit gives: `insert 1 30`, `delete 1`, `replace 2 7`, `accumulate` or `cut 25`.
 fn edited(tree: &SumTree<Block>, edit: &str) -> Result<SumTree<Block>, Fail> {
     let (call, arguments) = parts_of(edit);
@@ -59,9 +68,7 @@ fn edited(tree: &SumTree<Block>, edit: &str) -> Result<SumTree<Block>, Fail> {
         "insert" => Ok(tree.inserted(number_of(place)?, block_of(size)?)?),
         "delete" => Ok(tree.deleted(number_of(place)?)?),
         "replace" => Ok(tree.replaced(number_of(place)?, block_of(size)?)?),
-        "accumulate" => Ok(tree.rewritten(&mut Accumulate)?),
-        "cut" => cut(tree, number_of(place)?),
-        _ => Err(Fail::new("no edit of a list")),
+        _ => passed(tree, call, place),
     }
 }
 
