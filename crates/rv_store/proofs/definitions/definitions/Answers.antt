@@ -27,3 +27,6 @@ returns-clause-definitions c =
       each = sym (no_lines_left (in_row c.loop-rest.names c.loop-rest.row.items Nowhere) c.loop-rest.number c.loop-rest.rest.now c.in_default.len_below) ∙ before.each;
       within = before.within;
     }
+
+pub returns-in_err-define_line-clause-names : goal.returns-in_err-define_line-clause-names
+returns-in_err-define_line-clause-names c = grows-trans c.args.names.now c.loop-rest.names c.define_line.new.names c.loop-rest.invariant.names c.define_line.ensures.names

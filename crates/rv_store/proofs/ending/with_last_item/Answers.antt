@@ -1,4 +1,3 @@
-use Rattle.std.proofs.Common.{◌∙◌}
 use Rattle.rv_store.proofs.ending.with_last_item.Goals as goal
 
 pub returns-in_err-item-clause-parsed : goal.returns-in_err-item-clause-parsed

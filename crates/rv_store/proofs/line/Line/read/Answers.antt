@@ -1,4 +1,3 @@
-use Rattle.std.proofs.Common.{◌∙◌}
 use Rattle.rv_store.proofs.line.Line.read.Goals as goal
 
 pub returns-in_err-stmt-clause-parsed : goal.returns-in_err-stmt-clause-parsed
