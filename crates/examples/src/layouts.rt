@@ -6,11 +6,12 @@ ghost use Rattle.rv_layout.specs.Places.{sum_below};
 ghost use Rattle.rv_layout.specs.Sections.{sections};
 
 use crate::row::{number_of, parts_of};
-use rv_layout::{Consts, Layout, Measured, base_ok, bases as bases_of, measure, place};
+use rv_layout::{Consts, Layout, Measured, SECTIONS, base_ok, bases as bases_of, measure, place};
 use rv_stmt::{data_are_few, read_line};
 use rv_text::Tally;
 use rv_tree::Joined;
 use std::alloc::Global;
+use std::array;
 use std::test::Fail;
 
 // The values of two names, if they have one.
@@ -88,18 +89,11 @@ fn layout_of(alloc: Global, constants: &Constants, text: &str) -> Result<Layout,
 fn ends_fit(layout: &Layout) -> bool
     ensures { result ≡ true → sum_below (offset_reached layout.now) sections ≤ 2 ^ 30 }
 {
-    let (text, rodata, data, bss) = (
-        layout.offset(0),
-        layout.offset(1),
-        layout.offset(2),
-        layout.offset(3),
-    );
-    let most = 1u64 << 30;
-    text <= most
-        && rodata <= most
-        && data <= most
-        && bss <= most
-        && text + rodata + data + bss <= most
+    let mut together = 0u64;
+    for section in 0..SECTIONS {
+        together += u64::from(layout.offset(section));
+    }
+    together <= 1 << 30
 }
 
 // The section and the address of what comes after some lines.
@@ -154,12 +148,7 @@ pub fn bases(alloc: Global, arguments: &str) -> Result<String, Fail> {
 // The section and the offset in each section.
 fn text_of_offsets(alloc: Global, layout: &Layout) -> Result<String, Fail> {
     let section = layout.section();
-    let offsets = [
-        layout.offset(0),
-        layout.offset(1),
-        layout.offset(2),
-        layout.offset(3),
-    ];
+    let offsets: [u32; SECTIONS] = array::from_fn(|section| layout.offset(section));
     let offsets = offsets.as_slice();
     Ok(format!(in alloc; "{section:?} {offsets:?}")?)
 }

@@ -19,9 +19,11 @@ use std::test::Fail;
 
 fn section_of(name: &str) -> Result<Sect, Fail> {
     match name {
+        ".text.init" => Ok(Sect::Init),
         ".text" => Ok(Sect::Text),
         ".rodata" => Ok(Sect::Rodata),
         ".data" => Ok(Sect::Rwdata),
+        ".sdata" => Ok(Sect::Sdata),
         ".bss" => Ok(Sect::Bss),
         _ => Err(Fail::new("no section")),
     }

@@ -21,6 +21,7 @@ const EDITED: &str = ".text 0x00000000 4
 00000000: 13 05 25 00
 .rodata 0x00001000 0
 .data 0x00001000 0
+.sdata 0x00001000 0
 .bss 0x00001000 0
 symbols 2
 1 equ 2 N
@@ -35,6 +36,7 @@ faults 0
 const SYMBOL_ALONE: &str = ".text 0x00000000 0
 .rodata 0x00000000 0
 .data 0x00000000 0
+.sdata 0x00000000 0
 .bss 0x00000000 0
 symbols 1
 1 equ 2 N
@@ -47,10 +49,12 @@ faults 0
 const EDITED_WITHOUT: [&str; 3] = [
     SYMBOL_ALONE,
     SYMBOL_ALONE,
-    ".text 0x00000000 4
+    ".text.init 0x00000000 0
+.text 0x00000000 4
 00000000: 13 05 15 00
 .rodata 0x00001000 0
 .data 0x00001000 0
+.sdata 0x00001000 0
 .bss 0x00001000 0
 symbols 2
 1 equ 1 N

@@ -10,7 +10,7 @@ use Rattle.rv_commands.specs.declared.command.Command.TheVariants as command
 use Rattle.rv_commands.specs.declared.pages.Page.{Page}
 use Rattle.rv_commands.specs.declared.pages.Page.TheVariants.{Image, Listing, Symbols, Faults, Lines}
 
--- what a command asks for: a line after the last one, an edit, to show a page, or to disassemble `.text`
+-- what a command asks for: a line after the last one, an edit, to show a page, or to disassemble the sections of code
 pub data Request : Type 0 where
   Append : (line : List ℕ) → Request
   Change : (edit : Edit) → Request

@@ -1,9 +1,9 @@
--- The disassembly of the bytes of `.text`.
-use Rattle.std.specs.Prelude.{◌≡◌, ℕ, ◌*◌, List, ◌++◌, length, codes}
+-- The disassembly of the bytes of the sections of code.
+use Rattle.std.specs.Prelude.{◌≡◌, ℕ, ◌*◌, List, [], ◌∷◌, ◌++◌, length, codes}
 use Rattle.std.specs.List.{flat_map}
 use Rattle.rv_text.specs.Rows.{hex}
-use Rattle.rv_stmt.specs.declared.section.Sect.TheVariants as section
-use Rattle.rv_layout.specs.Sections.{section_number}
+use Rattle.rv_stmt.specs.declared.section.Sect.{Sect}
+use Rattle.rv_layout.specs.Sections.{code_sections, section_number}
 use Rattle.rv_dis.specs.declared.row.DisRow.{DisRow}
 use Rattle.rv_dis.specs.Rows.{Shows}
 use Rattle.rv_list.specs.Image.{section_bytes}
@@ -21,13 +21,18 @@ disassembly_row row =
 unfoldable pub disassembly_text : List DisRow → List ℕ
 disassembly_text rows = numbered (codes "dis ") (length rows) ++ flat_map disassembly_row rows
 
--- the rows show the bytes of `.text` from its base on
-abbrev pub ShowsCode : Shown → List DisRow → Type 0
-ShowsCode shown rows =
-    Shows (shown.section (section_number section.Text)).base (section_bytes shown (section_number section.Text)) rows
+-- the rows show the bytes of a section from its base on
+abbrev pub ShowsSection : Shown → Sect → List DisRow → Type 0
+ShowsSection shown s rows =
+    Shows (shown.section (section_number s)).base (section_bytes shown (section_number s)) rows
 
--- The answer is the rows that show the bytes of `.text`.
+-- the rows show the bytes of these sections, one after another, each by itself
+pub data ShowsSections (shown : Shown) : List Sect → List DisRow → Type 0 where
+  no_sections : ShowsSections shown [] []
+  next_section : (s : Sect) (rows : List DisRow) (ss : List Sect) (more : List DisRow) → ShowsSection shown s rows → ShowsSections shown ss more → ShowsSections shown (s ∷ ss) (rows ++ more)
+
+-- The answer is the rows that show the bytes of the sections of code.
 pub record IsDisassembly (text : Text) (answer : List ℕ) : Type 0 where
   pub rows : List DisRow
-  pub shows : ShowsCode (shown_of text) rows
+  pub shows : ShowsSections (shown_of text) code_sections rows
   pub is : answer ≡ disassembly_text rows

@@ -10,10 +10,11 @@ ghost use Rattle.rv_commands.specs.Steps.{edit_answer, AnswersCommand, GathersAn
 
 use crate::answer_error::AnswerError;
 use crate::command::{Command, read_command};
-use crate::disassembly::{code_rows, push_disassembly};
+use crate::disassembly::{push_disassembly, section_rows};
 use crate::edits::make_edit;
 use crate::numbered::push_numbered;
 use crate::pages::{Page, write_page};
+use rv_layout::CODE_SECTIONS;
 use rv_store::{EditError, LineEdit, Store};
 use rv_text::{Failed, OutputBlock, Sink};
 use std::alloc::Global;
@@ -70,7 +71,7 @@ fn answer_page<W: Sink>(
     }
 }
 
-// Adds the disassembly of `.text`, once there is memory for all of it.
+// Adds the disassembly of the sections of code, once there is memory for all of it.
 fn answer_disassembly<W: Sink>(
     alloc: Global,
     block: &mut OutputBlock,
@@ -81,8 +82,10 @@ fn answer_disassembly<W: Sink>(
     ensures text { GathersOne (IsDisassembly store.now) (W.taken sink.old) block.old result (W.taken sink.new) block.new }
     ensures count { W.failures sink.new ≡ failures_by_answer (W.failures sink.old) result }
 {
-    let rows = code_rows(alloc, store)?;
-    push_disassembly(block, sink, &rows)?;
+    let [init, text] = CODE_SECTIONS;
+    let first = section_rows(alloc, store, init)?;
+    let next = section_rows(alloc, store, text)?;
+    push_disassembly(block, sink, &first, &next)?;
     Ok(())
 }
 

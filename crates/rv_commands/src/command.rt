@@ -18,7 +18,7 @@ pub enum Command<'a> {
     Change(LineEdit<'a>),
     /// Show a page.
     Show(Page),
-    /// Disassemble `.text`.
+    /// Disassemble the sections of code.
     Disassemble,
 }
 

@@ -1,4 +1,4 @@
-//! The disassembly of `.text`.
+//! The disassembly of the sections of code.
 
 ghost use Rattle.std.specs.Prelude.{◌≡◌, ◌+◌, ◌*◌, ◌-◌, ◌^◌, ◌<◌, ◌≤◌, ◌++◌, length, codes, All, IfOk};
 ghost use Rattle.std.specs.List.{flat_map};
@@ -6,7 +6,7 @@ ghost use Rattle.rv_text.specs.Blocks.{Gathers};
 ghost use Rattle.rv_text.specs.Rows.{hex};
 ghost use Rattle.rv_text.specs.Streams.{failures_after};
 ghost use Rattle.rv_store.specs.Shown.{shown_of};
-ghost use Rattle.rv_commands.specs.Disassembly.{disassembly_row, disassembly_text, ShowsCode};
+ghost use Rattle.rv_commands.specs.Disassembly.{disassembly_row, disassembly_text, ShowsSection};
 
 use crate::columns::{push_half, push_word};
 use crate::numbered::push_numbered;
@@ -18,13 +18,13 @@ use rv_store::Store;
 use rv_text::{Failed, OutputBlock, OutputRow, Sink};
 use std::alloc::Global;
 
-/// The rows that show the bytes of `.text`.
-pub fn code_rows(alloc: Global, store: &Store) -> Result<Vec<DisRow>, DisError>
-    ensures { IfOk result (λ rows. ShowsCode (shown_of store.now) rows.items) }
+/// The rows that show the bytes of a section.
+pub fn section_rows(alloc: Global, store: &Store, section: Sect) -> Result<Vec<DisRow>, DisError>
+    ensures { IfOk result (λ rows. ShowsSection (shown_of store.now) section rows.items) }
 {
-    let section = section_number(Sect::Text);
-    let bytes = section_bytes(alloc, store, section)?;
-    disassemble(alloc, bytes.as_slice(), store.section(section).base)
+    let number = section_number(section);
+    let bytes = section_bytes(alloc, store, number)?;
+    disassemble(alloc, bytes.as_slice(), store.section(number).base)
 }
 
 // Adds the number of a row to its columns, with two digits for each byte.
@@ -95,18 +95,37 @@ fn push_code_rows<W: Sink>(
     Ok(())
 }
 
-/// Adds how many rows there are, and then the rows.
+// Adds the rows of two stretches.
+fn push_both<W: Sink>(
+    block: &mut OutputBlock,
+    sink: &mut W,
+    first: &[DisRow],
+    next: &[DisRow],
+) -> Result<(), Failed>
+    requires first_sizes { All (λ row. row.len ≤ 4) first.now }
+    requires next_sizes { All (λ row. row.len ≤ 4) next.now }
+    requires failures { W.failures sink.old < 2 ^ 64 - 1 }
+    ensures text { Gathers (W.taken sink.old) block.old (flat_map disassembly_row (first.now ++ next.now)) result (W.taken sink.new) block.new }
+    ensures count { W.failures sink.new ≡ failures_after (W.failures sink.old) result }
+{
+    push_code_rows(block, sink, first)?;
+    push_code_rows(block, sink, next)
+}
+
+/// Adds how many rows two stretches have, and then the rows.
 #[tactic(auto, unfolding(crate::specs::Disassembly::disassembly_text))]
 pub fn push_disassembly<W: Sink>(
     block: &mut OutputBlock,
     sink: &mut W,
-    rows: &[DisRow],
+    first: &[DisRow],
+    next: &[DisRow],
 ) -> Result<(), Failed>
-    requires sizes { All (λ row. row.len ≤ 4) rows.now }
+    requires first_sizes { All (λ row. row.len ≤ 4) first.now }
+    requires next_sizes { All (λ row. row.len ≤ 4) next.now }
     requires failures { W.failures sink.old < 2 ^ 64 - 1 }
-    ensures text { Gathers (W.taken sink.old) block.old (disassembly_text rows.now) result (W.taken sink.new) block.new }
+    ensures text { Gathers (W.taken sink.old) block.old (disassembly_text (first.now ++ next.now)) result (W.taken sink.new) block.new }
     ensures count { W.failures sink.new ≡ failures_after (W.failures sink.old) result }
 {
-    push_numbered(block, sink, b"dis ", rows.len())?;
-    push_code_rows(block, sink, rows)
+    push_numbered(block, sink, b"dis ", first.len() + next.len())?;
+    push_both(block, sink, first, next)
 }

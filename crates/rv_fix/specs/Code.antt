@@ -85,7 +85,7 @@ abbrev pub code_of_value : {A : Type 0} → Result A Fault → (A → List ℕ) 
 code_of_value (Ok v) f = code (f v)
 code_of_value (Err fault) f = faulty fault
 
--- padding as in `.text`
+-- padding as in a section of code
 abbrev pub code_of_alignment : List Operand → List Entry → Coded
 code_of_alignment [] es = code []
 code_of_alignment (o ∷ os) [] = code []

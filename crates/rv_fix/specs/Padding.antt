@@ -2,8 +2,9 @@
 use Rattle.std.specs.Prelude.{ℕ, ◌/◌, ◌%◌, Bool, true, false, List, [], ◌∷◌, ◌++◌, replicate}
 use Rattle.std.specs.List.{repeat}
 
--- in `.text` a zero byte where the count is odd, then `c.nop` where what is left is 2 modulo 4, then `nop`; elsewhere zeros
-abbrev pub padding : (in_text : Bool) → (count : ℕ) → List ℕ
+-- in a section of code a zero byte where the count is odd, then `c.nop` where what is left is 2 modulo 4, then `nop`;
+-- elsewhere zeros
+abbrev pub padding : (in_code : Bool) → (count : ℕ) → List ℕ
 padding false n = replicate n 0
 padding true n =
     replicate (n % 2) 0

@@ -49,12 +49,12 @@ impl Coded {
         Coded::zeros(0, fault)
     }
 
-    /// So many bytes before an alignment: in `.text` a zero byte where their number is odd, then `c.nop` where what is left is 2
-    /// modulo 4, then `nop`; elsewhere zeros.
-    pub fn padding(in_text: bool, count: u32) -> Self
-        ensures { result ≡ code (padding in_text count) }
+    /// So many bytes before an alignment: in a section of code a zero byte where their number is odd, then `c.nop` where what is
+    /// left is 2 modulo 4, then `nop`; elsewhere zeros.
+    pub fn padding(in_code: bool, count: u32) -> Self
+        ensures { result ≡ code (padding in_code count) }
     {
-        Coded::of(Payload::padding(in_text, count))
+        Coded::of(Payload::padding(in_code, count))
     }
 
     /// Whether these are the same bytes and the same fault.

@@ -109,7 +109,7 @@ fn code_of_fill(operands: &[Operand], entries: &[Entry]) -> Coded
     )
 }
 
-// The code of an alignment in `.text`.
+// The code of an alignment in a section of code.
 fn code_of_alignment(operands: &[Operand], entries: &[Entry]) -> Coded
     ensures { result ≡ code_of_alignment operands.now entries.now }
 {
@@ -162,7 +162,7 @@ fn code_of_body(alloc: Global, body: &Body, entries: &[Entry]) -> Result<Coded, 
 ///
 /// The first operand from the left that has no value, or one out of range, is the fault, and the bytes are then as many zeros
 /// as the line has without the fault; with a faulty size, or a faulty constant of `li`, the line has no bytes. An alignment
-/// is padded as in `.text`. Where its number is no alignment, that is a fault of the line's shape and not of its code.
+/// is padded as in a section of code. Where its number is no alignment, that is a fault of the line's shape and not of its code.
 ///
 /// The counter's number of lines encoded rises by one, whatever the outcome.
 ///

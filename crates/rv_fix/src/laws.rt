@@ -42,5 +42,5 @@ pub fn faults_keep_sizes()
 pub fn codes_are_limited()
     ensures code { (shape : Measured) (b : Body) (es : List Entry) → data_size_of b ≤ 2 ^ 16 → is_alignment b ≡ false
         → length (code_of shape b es).payload ≤ 2 ^ 16 }
-    ensures padding { (in_text : Bool) (n : ℕ) → length (padding in_text n) ≡ n }
+    ensures padding { (in_code : Bool) (n : ℕ) → length (padding in_code n) ≡ n }
 {}

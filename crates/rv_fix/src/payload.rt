@@ -15,7 +15,7 @@ enum Form {
     Bytes(LineBytes),
     // One byte, so many times.
     Repeated(u8, u32),
-    // So many bytes of padding in `.text`.
+    // So many bytes of padding in a section of code.
     Padding(u32),
 }
 
@@ -34,7 +34,7 @@ impl Model for Payload {
     ghost view = { λ p. bytes_of_form p.form };
 }
 
-// The byte at a place of so many bytes of padding in `.text`.
+// The byte at a place of so many bytes of padding in a section of code.
 fn padding_byte(count: u32, place: u32) -> u8
     requires { place < count }
     ensures { slice_get (padding true count) place ≡ Some result }
@@ -84,10 +84,10 @@ impl Payload {
     }
 
     // So many bytes of padding.
-    pub(crate) fn padding(in_text: bool, count: u32) -> Self
-        ensures { result ≡ padding in_text count }
+    pub(crate) fn padding(in_code: bool, count: u32) -> Self
+        ensures { result ≡ padding in_code count }
     {
-        let form = if in_text {
+        let form = if in_code {
             Form::Padding(count)
         } else {
             Form::Repeated(0, count)

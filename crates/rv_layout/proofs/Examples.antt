@@ -4,7 +4,7 @@ use Rattle.std.specs.Prelude.{ℕ, pos, true, false, List, [], ◌∷◌, map, c
 use Rattle.rv_text.specs.declared.faults.FaultNumber.TheVariants.{NotConstant, UnknownName, BadOperand}
 use Rattle.rv_ops.specs.Registers.{register_named, register_names}
 use Rattle.rv_ops.specs.Table.{operation_named, operation_names, row_of, layout_of as operand_layout_of}
-use Rattle.rv_stmt.specs.declared.section.Sect.TheVariants.{Text, Rwdata}
+use Rattle.rv_stmt.specs.declared.section.Sect.TheVariants.{Init, Text, Rodata, Rwdata, Sdata, Bss}
 use Rattle.rv_stmt.specs.Directives.{directive_named, directive_names}
 use Rattle.rv_stmt.specs.Forms.{other_forms, slots_of}
 use Rattle.rv_stmt.specs.Sections.{section_named, section_names}
@@ -15,10 +15,11 @@ use Rattle.rv_layout.specs.declared.measured.Measured.TheVariants.{Bytes, Align,
 use Rattle.rv_layout.specs.Advances.{advance_of, no_advance}
 use Rattle.rv_layout.specs.Effects.{layout_of, base_by_layout}
 use Rattle.rv_layout.specs.Places.{is_base, section_of, section_end_of, line_size_of, section_base_of, address_of}
+use Rattle.rv_layout.specs.Sections.{is_code}
 use Rattle.rv_layout.proofs.ShapeExamples.{shapes_of, faulty}
 
 abbrev all_sections : List ℕ
-all_sections = 0 ∷ 1 ∷ 2 ∷ 3 ∷ []
+all_sections = 0 ∷ 1 ∷ 2 ∷ 3 ∷ 4 ∷ 5 ∷ []
 
 -- bases
 zero : is_base 0 ≡ true
@@ -54,7 +55,7 @@ aligned_addresses = refl
 aligned_sizes : map (line_size_of aligned) (1 ∷ 2 ∷ 3 ∷ 4 ∷ []) ≡ 1 ∷ 7 ∷ 1 ∷ 1 ∷ []
 aligned_sizes = refl
 
-aligned_end : section_end_of aligned 0 ≡ 10
+aligned_end : section_end_of aligned 1 ≡ 10
 aligned_end = refl
 
 -- one advance: 1 more, up to a multiple of 8, and 2 more
@@ -124,16 +125,16 @@ data_shapes = refl
 data_sections : map (section_of data_lines) (1 ∷ 2 ∷ 5 ∷ []) ≡ Text ∷ Rwdata ∷ Rwdata ∷ []
 data_sections = refl
 
-data_bases : map (section_base_of 0 data_lines) all_sections ≡ 0 ∷ 0 ∷ 0 ∷ 0x1000 ∷ []
+data_bases : map (section_base_of 0 data_lines) all_sections ≡ 0 ∷ 0 ∷ 0 ∷ 0 ∷ 0x1000 ∷ 0x1000 ∷ []
 data_bases = refl
 
-data_ends : map (section_end_of data_lines) all_sections ≡ 0 ∷ 0 ∷ 13 ∷ 0 ∷ []
+data_ends : map (section_end_of data_lines) all_sections ≡ 0 ∷ 0 ∷ 0 ∷ 13 ∷ 0 ∷ 0 ∷ []
 data_ends = refl
 
 data_addresses : map (address_of 0 data_lines) (2 ∷ 3 ∷ 4 ∷ 5 ∷ []) ≡ 0 ∷ 3 ∷ 5 ∷ 9 ∷ []
 data_addresses = refl
 
-data_layout : layout_of data_lines ≡ Switched no_advance Rwdata (no_advance ∷ no_advance ∷ advance_of 0 0 13 ∷ no_advance ∷ [])
+data_layout : layout_of data_lines ≡ Switched no_advance Rwdata (no_advance ∷ no_advance ∷ no_advance ∷ advance_of 0 0 13 ∷ no_advance ∷ no_advance ∷ [])
 data_layout = refl
 
 -- a size that follows from labels, and so is no constant
@@ -185,7 +186,7 @@ compiled =
     ∷ Bytes 4
     ∷ Bytes 4
     ∷ Nothing
-    ∷ Switch Rwdata
+    ∷ Switch Sdata
     ∷ Align 2
     ∷ Nothing
     ∷ Bytes 4
@@ -198,15 +199,35 @@ compiled_shapes : shapes_of [] compiled_text ≡ compiled
 unfolding operation_named operation_names register_named register_names other_forms slots_of row_of operand_layout_of directive_named directive_names section_named section_names modifier_named modifier_names
 compiled_shapes = refl
 
-compiled_ends : map (section_end_of compiled) all_sections ≡ 12 ∷ 0 ∷ 4 ∷ 0 ∷ []
+compiled_ends : map (section_end_of compiled) all_sections ≡ 0 ∷ 12 ∷ 0 ∷ 0 ∷ 4 ∷ 0 ∷ []
 compiled_ends = refl
 
 compiled_addresses : map (address_of 0 compiled) (7 ∷ 8 ∷ 9 ∷ 10 ∷ 14 ∷ 15 ∷ []) ≡ 0 ∷ 0 ∷ 4 ∷ 8 ∷ 0x1000 ∷ 0x1000 ∷ []
 compiled_addresses = refl
 
 -- from the highest base
-compiled_bases : map (section_base_of 0x80000000 compiled) all_sections ≡ 0x80000000 ∷ 0x80001000 ∷ 0x80001000 ∷ 0x80002000 ∷ []
+compiled_bases : map (section_base_of 0x80000000 compiled) all_sections ≡ 0x80000000 ∷ 0x80000000 ∷ 0x80001000 ∷ 0x80001000 ∷ 0x80001000 ∷ 0x80002000 ∷ []
 compiled_bases = refl
 
-compiled_layout_bases : map (base_by_layout 0x80000000 (layout_of compiled)) all_sections ≡ 0x80000000 ∷ 0x80001000 ∷ 0x80001000 ∷ 0x80002000 ∷ []
+compiled_layout_bases : map (base_by_layout 0x80000000 (layout_of compiled)) all_sections ≡ 0x80000000 ∷ 0x80000000 ∷ 0x80001000 ∷ 0x80001000 ∷ 0x80001000 ∷ 0x80002000 ∷ []
 compiled_layout_bases = refl
+
+-- start-up code and small data: `nop`, `.section .text.init`, `c.nop`, `.align 2`, `.section .sdata`, `.word 7`, `.text`, `nop`
+
+abbrev started : List Measured
+started = Bytes 4 ∷ Switch Init ∷ Bytes 2 ∷ Align 2 ∷ Switch Sdata ∷ Bytes 4 ∷ Switch Text ∷ Bytes 4 ∷ []
+
+started_bases : map (section_base_of 0 started) all_sections ≡ 0 ∷ 0x1000 ∷ 0x2000 ∷ 0x2000 ∷ 0x2000 ∷ 0x3000 ∷ []
+started_bases = refl
+
+started_ends : map (section_end_of started) all_sections ≡ 4 ∷ 8 ∷ 0 ∷ 0 ∷ 4 ∷ 0 ∷ []
+started_ends = refl
+
+started_addresses : map (address_of 0 started) (1 ∷ 3 ∷ 4 ∷ 6 ∷ 8 ∷ []) ≡ 0x1000 ∷ 0 ∷ 2 ∷ 0x2000 ∷ 0x1004 ∷ []
+started_addresses = refl
+
+started_sizes : map (line_size_of started) (3 ∷ 4 ∷ []) ≡ 2 ∷ 2 ∷ []
+started_sizes = refl
+
+sections_of_code : map is_code (Init ∷ Text ∷ Rodata ∷ Rwdata ∷ Sdata ∷ Bss ∷ []) ≡ true ∷ true ∷ false ∷ false ∷ false ∷ false ∷ []
+sections_of_code = refl

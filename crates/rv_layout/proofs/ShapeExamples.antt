@@ -5,7 +5,7 @@ use Rattle.rv_text.specs.declared.faults.FaultNumber.{FaultNumber}
 use Rattle.rv_text.specs.declared.faults.FaultNumber.TheVariants.{NotConstant, Range, Arithmetic, BadOperand, OperandCount, UnknownName}
 use Rattle.rv_ops.specs.Registers.{register_named, register_names}
 use Rattle.rv_ops.specs.Table.{operation_named, operation_names, row_of, layout_of}
-use Rattle.rv_stmt.specs.declared.section.Sect.TheVariants.{Text, Rodata, Rwdata, Bss}
+use Rattle.rv_stmt.specs.declared.section.Sect.TheVariants.{Init, Text, Rodata, Sdata, Bss}
 use Rattle.rv_stmt.specs.Directives.{directive_named, directive_names}
 use Rattle.rv_stmt.specs.Forms.{other_forms, slots_of}
 use Rattle.rv_stmt.specs.Sections.{section_named, section_names}
@@ -126,7 +126,8 @@ abbrev section_rows : List (List ℕ × Measured)
 section_rows =
     (codes ".text", Switch Text)
     ∷ (codes ".bss", Switch Bss)
-    ∷ (codes ".section .sdata2", Switch Rwdata)
+    ∷ (codes ".section .text.init", Switch Init)
+    ∷ (codes ".section .sdata2", Switch Sdata)
     ∷ (codes ".section .srodata", Switch Rodata)
     ∷ (codes ".section .note", faulty BadOperand 9 14)
     ∷ (codes ".equ N, 1/0", Nothing)

@@ -119,35 +119,35 @@ then_exact_assoc p q r = at (cases_lt p.exponent q.exponent) (cases_lt q.exponen
         let same : up (up bc m + q.after + r.before) n ≡ up (p.after + (q.before + up de m)) n = ap (λ z. up z n) turn ∙ sym (up-either bc de m n le) ∙ sym (ap (λ z. up z n) moved) in
         ap (λ s. then_exact s r) (finer p q qp) ∙ finer pq r rp ∙ ap (λ z. advance_of a k (z + r.after)) same ∙ sym (finer p qr' rp) ∙ sym (ap (then_exact p) (coarser q r l))
 
--- modulo 2 ^ 64
+-- modulo 2 ^ 32
 
 same_advance : (a a' e b b' : ℕ) → a ≡ a' → b ≡ b' → advance_of a e b ≡ advance_of a' e b'
 same_advance a a' e b b' p q = ap (λ n. advance_of n e b) p ∙ ap (λ n. advance_of a' e n) q
 
 wrap_wrap : (x : ℕ) → wrap (wrap x) ≡ wrap x
-wrap_wrap x = mod-mod x (2 ^ 64)
+wrap_wrap x = mod-mod x (2 ^ 32)
 
 pub same_sum : (x x' y y' : ℕ) → wrap x ≡ wrap x' → wrap y ≡ wrap y' → wrap (x + y) ≡ wrap (x' + y')
 same_sum x x' y y' p q =
-    sym (mod-add-mod x (2 ^ 64) y)
+    sym (mod-add-mod x (2 ^ 32) y)
     ∙ ap (λ n. wrap (n + y)) p
-    ∙ mod-add-mod x' (2 ^ 64) y
-    ∙ sym (add-mod-mod x' y (2 ^ 64))
+    ∙ mod-add-mod x' (2 ^ 32) y
+    ∙ sym (add-mod-mod x' y (2 ^ 32))
     ∙ ap (λ n. wrap (x' + n)) q
-    ∙ add-mod-mod x' y' (2 ^ 64)
+    ∙ add-mod-mod x' y' (2 ^ 32)
 
-up-wrap : (x m : ℕ) → m ≤ 64 → wrap (up (wrap x) m) ≡ wrap (up x m)
+up-wrap : (x m : ℕ) → m ≤ 32 → wrap (up (wrap x) m) ≡ wrap (up x m)
 up-wrap x m h =
-    let j : ℕ = x / 2 ^ 64 in
-    let parts : x ≡ wrap x + j * 2 ^ 64 = omega (arith, div-add-mod' x (2 ^ 64)) in
-    let shifted : up x m ≡ up (wrap x) m + j * 2 ^ 64 = omega (arith, ap (λ n. up n m) parts, up-shift (wrap x) j m 64 h) in
-    sym (ap wrap shifted ∙ add-mul-mod_self_right (up (wrap x) m) j (2 ^ 64))
+    let j : ℕ = x / 2 ^ 32 in
+    let parts : x ≡ wrap x + j * 2 ^ 32 = omega (arith, div-add-mod' x (2 ^ 32)) in
+    let shifted : up x m ≡ up (wrap x) m + j * 2 ^ 32 = omega (arith, ap (λ n. up n m) parts, up-shift (wrap x) j m 32 h) in
+    sym (ap wrap shifted ∙ add-mul-mod_self_right (up (wrap x) m) j (2 ^ 32))
 
-pub same_up : (x y m : ℕ) → m ≤ 64 → wrap x ≡ wrap y → wrap (up x m) ≡ wrap (up y m)
+pub same_up : (x y m : ℕ) → m ≤ 32 → wrap x ≡ wrap y → wrap (up x m) ≡ wrap (up y m)
 same_up x y m h e = sym (up-wrap x m h) ∙ ap (λ n. wrap (up n m)) e ∙ up-wrap y m h
 
--- numbers that are the same modulo 2 ^ 64 give the same join
-same_then : (a a' b b' c c' d d' k m : ℕ) → m ≤ 64 → wrap a ≡ wrap a' → wrap b ≡ wrap b' → wrap c ≡ wrap c' → wrap d ≡ wrap d' → then_advance (advance_of a k b) (advance_of c m d) ≡ then_advance (advance_of a' k b') (advance_of c' m d')
+-- numbers that are the same modulo 2 ^ 32 give the same join
+same_then : (a a' b b' c c' d d' k m : ℕ) → m ≤ 32 → wrap a ≡ wrap a' → wrap b ≡ wrap b' → wrap c ≡ wrap c' → wrap d ≡ wrap d' → then_advance (advance_of a k b) (advance_of c m d) ≡ then_advance (advance_of a' k b') (advance_of c' m d')
 same_then a a' b b' c c' d d' k m h ea eb ec ed = at (cases_lt k m)
   where
     p : Advance
@@ -164,7 +164,7 @@ same_then a a' b b' c c' d d' k m h ea eb ec ed = at (cases_lt k m)
 
     at : (k < m) ⊎ (m ≤ k) → then_advance p q ≡ then_advance p' q'
     at (inl l) =
-        let less : k ≤ 64 = omega arith in
+        let less : k ≤ 32 = omega arith in
         ap reduced (coarser p q l)
         ∙ same_advance _ _ m _ _ (same_sum a a' _ _ ea (same_up (b + c) (b' + c') k less (same_sum b b' c c' eb ec))) ed
         ∙ sym (ap reduced (coarser p' q' l))
@@ -173,14 +173,14 @@ same_then a a' b b' c c' d d' k m h ea eb ec ed = at (cases_lt k m)
         ∙ same_advance _ _ k _ _ ea (same_sum _ _ d d' (same_up (b + c) (b' + c') m h (same_sum b b' c c' eb ec)) ed)
         ∙ sym (ap reduced (finer p' q' l))
 
-joined_exponent : (q r : Advance) → q.exponent ≤ 64 → r.exponent ≤ 64 → (then_exact q r).exponent ≤ 64
+joined_exponent : (q r : Advance) → q.exponent ≤ 32 → r.exponent ≤ 32 → (then_exact q r).exponent ≤ 32
 joined_exponent q r g h = at (cases_lt q.exponent r.exponent)
   where
-    at : (q.exponent < r.exponent) ⊎ (r.exponent ≤ q.exponent) → (then_exact q r).exponent ≤ 64
+    at : (q.exponent < r.exponent) ⊎ (r.exponent ≤ q.exponent) → (then_exact q r).exponent ≤ 32
     at (inl l) = rw (coarser q r l) h
     at (inr l) = rw (finer q r l) g
 
-pub then_advance_assoc : (p q r : Advance) → q.exponent ≤ 64 → r.exponent ≤ 64 → then_advance (then_advance p q) r ≡ then_advance p (then_advance q r)
+pub then_advance_assoc : (p q r : Advance) → q.exponent ≤ 32 → r.exponent ≤ 32 → then_advance (then_advance p q) r ≡ then_advance p (then_advance q r)
 then_advance_assoc p q r g h =
     let s = then_exact p q in
     let t = then_exact q r in
@@ -207,7 +207,7 @@ no_advance-then s h = at (cases_lt 0 s.exponent)
         let rounded : up (0 + s.before) s.exponent + s.after ≡ s.after =
         ap (λ e. up (0 + s.before) e + s.after) none ∙ omega (arith, up-zero (0 + s.before), ahead) in
         ap reduced (finer no_advance s l)
-        ∙ same_advance _ _ 0 _ _ (mod-eq_of_lt (pow_pos 64)) (ap wrap rounded ∙ mod-eq_of_lt h.after_fits)
+        ∙ same_advance _ _ 0 _ _ (mod-eq_of_lt (pow_pos 32)) (ap wrap rounded ∙ mod-eq_of_lt h.after_fits)
         ∙ ap (λ n. advance_of n 0 s.after) (sym ahead)
         ∙ ap (λ n. advance_of s.before n s.after) (sym none)
 
@@ -226,17 +226,17 @@ then_advance-IsAdvance p q hp hq = at (cases_lt p.exponent q.exponent)
         subst IsAdvance (sym (ap reduced (coarser p q l)))
         (record {
           small = hq.small;
-          before_fits = mod_below _ _ (pow_pos 64);
-          after_fits = mod_below _ _ (pow_pos 64);
+          before_fits = mod_below _ _ (pow_pos 32);
+          after_fits = mod_below _ _ (pow_pos 32);
           plain = λ none. absurd (let no : p.exponent < 0 = omega (arith, none, l) in omega (arith, no));
         })
     at (inr l) =
         subst IsAdvance (sym (ap reduced (finer p q l)))
         (record {
           small = hp.small;
-          before_fits = mod_below _ _ (pow_pos 64);
-          after_fits = mod_below _ _ (pow_pos 64);
-          plain = λ none. ap wrap (hp.plain none) ∙ mod-eq_of_lt (pow_pos 64);
+          before_fits = mod_below _ _ (pow_pos 32);
+          after_fits = mod_below _ _ (pow_pos 32);
+          plain = λ none. ap wrap (hp.plain none) ∙ mod-eq_of_lt (pow_pos 32);
         })
 
 -- what joined advances do to an offset
@@ -267,17 +267,17 @@ exactly_advanced-then p q x = at (cases_lt p.exponent q.exponent)
         ap (λ s. exactly_advanced s x) (finer p q l)
         ∙ omega (arith, up-up-add bc (x + p.before) q.exponent p.exponent l, ap (λ n. up n q.exponent) turn)
 
-pub advanced-same : (s : Advance) (x y : ℕ) → s.exponent ≤ 64 → wrap x ≡ wrap y → advanced s x ≡ advanced s y
+pub advanced-same : (s : Advance) (x y : ℕ) → s.exponent ≤ 32 → wrap x ≡ wrap y → advanced s x ≡ advanced s y
 advanced-same s x y h e =
     same_sum _ _ s.after s.after (same_up (x + s.before) (y + s.before) s.exponent h (same_sum x y s.before s.before e refl)) refl
 
-advanced-reduced : (s : Advance) (x : ℕ) → s.exponent ≤ 64 → advanced (reduced s) x ≡ advanced s x
+advanced-reduced : (s : Advance) (x : ℕ) → s.exponent ≤ 32 → advanced (reduced s) x ≡ advanced s x
 advanced-reduced s x h =
     same_sum _ _ (wrap s.after) s.after
     (same_up (x + wrap s.before) (x + s.before) s.exponent h (same_sum x x (wrap s.before) s.before refl (wrap_wrap s.before)))
     (wrap_wrap s.after)
 
-pub advanced-then : (p q : Advance) (x : ℕ) → p.exponent ≤ 64 → q.exponent ≤ 64 → advanced (then_advance p q) x ≡ advanced q (advanced p x)
+pub advanced-then : (p q : Advance) (x : ℕ) → p.exponent ≤ 32 → q.exponent ≤ 32 → advanced (then_advance p q) x ≡ advanced q (advanced p x)
 unfolding exactly_advanced
 advanced-then p q x g h =
     advanced-reduced (then_exact p q) x (joined_exponent p q g h)
@@ -294,23 +294,23 @@ advanced-aligned e x =
     let f : up (x + 0) e ≡ up x e = ap (λ n. up n e) z in
     omega (arith, f))
 
--- what the code computes with numbers below 2 ^ 64
+-- what the code computes with numbers below 2 ^ 32
 
 pub code-finer : (p q : Advance) (r : ℕ) → IsAdvance p → IsAdvance q → q.exponent ≤ p.exponent → r ≡ wrap (up (wrap (p.after + q.before)) q.exponent) → advance_of p.before p.exponent (wrap (r + q.after)) ≡ then_advance p q
 code-finer p q r hp hq l e =
-    let small : q.exponent ≤ 64 = omega (arith, hq.small) in
+    let small : q.exponent ≤ 32 = omega (arith, hq.small) in
     let rounded : wrap r ≡ wrap (up (p.after + q.before) q.exponent) = ap wrap e ∙ wrap_wrap _ ∙ up-wrap (p.after + q.before) q.exponent small in
     same_advance _ _ p.exponent _ _ (sym (mod-eq_of_lt hp.before_fits)) (same_sum r _ q.after q.after rounded refl)
     ∙ sym (ap reduced (finer p q l))
 
 pub code-coarser : (p q : Advance) (r : ℕ) → IsAdvance p → IsAdvance q → p.exponent < q.exponent → r ≡ wrap (up (wrap (p.after + q.before)) p.exponent) → advance_of (wrap (p.before + r)) q.exponent q.after ≡ then_advance p q
 code-coarser p q r hp hq l e =
-    let small : p.exponent ≤ 64 = omega (arith, hp.small) in
+    let small : p.exponent ≤ 32 = omega (arith, hp.small) in
     let rounded : wrap r ≡ wrap (up (p.after + q.before) p.exponent) = ap wrap e ∙ wrap_wrap _ ∙ up-wrap (p.after + q.before) p.exponent small in
     same_advance _ _ q.exponent _ _ (same_sum p.before p.before r _ refl rounded) (sym (mod-eq_of_lt hq.after_fits))
     ∙ sym (ap reduced (coarser p q l))
 
 pub code-advanced : (s : Advance) (x r : ℕ) → IsAdvance s → r ≡ wrap (up (wrap (x + s.before)) s.exponent) → wrap (r + s.after) ≡ advanced s x
 code-advanced s x r h e =
-    let small : s.exponent ≤ 64 = omega (arith, h.small) in
+    let small : s.exponent ≤ 32 = omega (arith, h.small) in
     same_sum r _ s.after s.after (ap wrap e ∙ wrap_wrap _ ∙ up-wrap (x + s.before) s.exponent small) refl

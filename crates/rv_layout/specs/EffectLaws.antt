@@ -9,18 +9,18 @@ use Rattle.rv_layout.specs.Advances.{then_advance, no_advance, IsAdvance}
 use Rattle.rv_layout.specs.Effects.{advance_at, both, join, no_lines, AreAdvances, IsEffect}
 use Rattle.rv_layout.specs.AdvanceLaws.{then_advance_assoc, no_advance-then, then-no_advance, then_advance-IsAdvance}
 
-pub below_64 : (s : Advance) → IsAdvance s → s.exponent ≤ 64
-below_64 s h = omega (arith, h.small)
+pub below_32 : (s : Advance) → IsAdvance s → s.exponent ≤ 32
+below_32 s h = omega (arith, h.small)
 
 advance_at-advance_at : (i : ℕ) (h k : Advance) (xs : List Advance) → IsAdvance h → IsAdvance k → advance_at i k (advance_at i h xs) ≡ advance_at i (then_advance h k) xs
 advance_at-advance_at i h k [] g o = refl
-advance_at-advance_at zero h k (x ∷ xs) g o = ap (λ y. y ∷ xs) (then_advance_assoc x h k (below_64 h g) (below_64 k o))
+advance_at-advance_at zero h k (x ∷ xs) g o = ap (λ y. y ∷ xs) (then_advance_assoc x h k (below_32 h g) (below_32 k o))
 advance_at-advance_at (suc i) h k (x ∷ xs) g o = ap (λ ys. x ∷ ys) (advance_at-advance_at i h k xs g o)
 
 advance_at-both : (i : ℕ) (k : Advance) (xs ys : List Advance) → AreAdvances ys → IsAdvance k → advance_at i k (both xs ys) ≡ both xs (advance_at i k ys)
 advance_at-both i k [] ys g o = refl
 advance_at-both i k (x ∷ xs) [] g o = refl
-advance_at-both zero k (x ∷ xs) (y ∷ ys) g o = ap (λ z. z ∷ both xs ys) (then_advance_assoc x y k (below_64 y g.0) (below_64 k o))
+advance_at-both zero k (x ∷ xs) (y ∷ ys) g o = ap (λ z. z ∷ both xs ys) (then_advance_assoc x y k (below_32 y g.0) (below_32 k o))
 advance_at-both (suc i) k (x ∷ xs) (y ∷ ys) g o = ap (λ zs. then_advance x y ∷ zs) (advance_at-both i k xs ys g.1 o)
 
 both_assoc : (xs ys zs : List Advance) → AreAdvances ys → AreAdvances zs → both (both xs ys) zs ≡ both xs (both ys zs)
@@ -28,7 +28,7 @@ both_assoc [] ys zs g o = refl
 both_assoc (x ∷ xs) [] zs g o = refl
 both_assoc (x ∷ xs) (y ∷ ys) [] g o = refl
 both_assoc (x ∷ xs) (y ∷ ys) (z ∷ zs) g o =
-    ap (λ w. w ∷ both (both xs ys) zs) (then_advance_assoc x y z (below_64 y g.0) (below_64 z o.0))
+    ap (λ w. w ∷ both (both xs ys) zs) (then_advance_assoc x y z (below_32 y g.0) (below_32 z o.0))
     ∙ ap (λ ws. then_advance x (then_advance y z) ∷ ws) (both_assoc xs ys zs g.1 o.1)
 
 advance_at-no_advance : (i : ℕ) (xs : List Advance) → AreAdvances xs → advance_at i no_advance xs ≡ xs
@@ -42,9 +42,9 @@ advance_at-AreAdvances zero h (x ∷ xs) o os = (then_advance-IsAdvance x h os.0
 advance_at-AreAdvances (suc i) h (x ∷ xs) o os = (os.0, advance_at-AreAdvances i h xs o os.1)
 
 pub join_assoc : (p q r : Effect) → IsEffect p → IsEffect q → IsEffect r → join (join p q) r ≡ join p (join q r)
-join_assoc (Plain h) (Plain k) (Plain l) op oq or = ap Plain (then_advance_assoc h k l (below_64 k oq) (below_64 l or))
+join_assoc (Plain h) (Plain k) (Plain l) op oq or = ap Plain (then_advance_assoc h k l (below_32 k oq) (below_32 l or))
 join_assoc (Plain h) (Plain k) (Switched l u zs) op oq or =
-    ap (λ x. Switched x u zs) (then_advance_assoc h k l (below_64 k oq) (below_64 l or.0))
+    ap (λ x. Switched x u zs) (then_advance_assoc h k l (below_32 k oq) (below_32 l or.0))
 join_assoc (Plain h) (Switched k t ys) (Plain l) op oq or = refl
 join_assoc (Plain h) (Switched k t ys) (Switched l u zs) op oq or = refl
 join_assoc (Switched h s xs) (Plain k) (Plain l) op oq or = ap (Switched h s) (advance_at-advance_at (section_number s) k l xs oq or)

@@ -52,7 +52,7 @@ effect_on_section (Plain h) s = s
 effect_on_section (Switched h t xs) s = t
 
 -- the offset in section number `t` after the lines, where it is `x` before them, and the first of them is in section `s`,
--- modulo 2 ^ 64
+-- modulo 2 ^ 32
 abbrev pub effect_on_offset : Effect → (t : ℕ) → Sect → (x : ℕ) → ℕ
 effect_on_offset (Plain h) t s x = if section_number s == t then advanced h x else x
 effect_on_offset (Switched h u xs) t s x = advanced (get_or xs t no_advance) (if section_number s == t then advanced h x else x)
@@ -61,7 +61,7 @@ effect_on_offset (Switched h u xs) t s x = advanced (get_or xs t no_advance) (if
 abbrev pub section_reached : Effect → Sect
 section_reached l = effect_on_section l Text
 
--- the offset in section number `t` after the first lines of a text, modulo 2 ^ 64
+-- the offset in section number `t` after the first lines of a text, modulo 2 ^ 32
 abbrev pub offset_reached : Effect → (t : ℕ) → ℕ
 offset_reached l t = effect_on_offset l t Text 0
 

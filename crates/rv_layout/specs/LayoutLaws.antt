@@ -12,7 +12,7 @@ use Rattle.rv_layout.specs.Places.{section_after, offset_after, section_through,
 use Rattle.rv_layout.specs.Sections.{sections, section_number}
 use Rattle.rv_layout.specs.AdvanceLaws.{advanced-then, advanced-same, advanced-bytes, advanced-aligned}
 use Rattle.rv_layout.specs.Advances.{advance_of, wrap, advanced, no_advance, then_advance, IsAdvance}
-use Rattle.rv_layout.specs.EffectLaws.{join_assoc, no_lines-join, join-no_lines, join-IsEffect, no_lines-IsEffect, below_64, advance_at-length, advance_at-AreAdvances}
+use Rattle.rv_layout.specs.EffectLaws.{join_assoc, no_lines-join, join-no_lines, join-IsEffect, no_lines-IsEffect, below_32, advance_at-length, advance_at-AreAdvances}
 use Rattle.rv_layout.specs.Effects.{join, advance_at, both, effect_of, layout_of, effect_on_section, effect_on_offset, AreAdvances, IsEffect}
 
 advance_at-here : (i : ℕ) (k d : Advance) (xs : List Advance) → i < length xs → get_or (advance_at i k xs) i d ≡ then_advance (get_or xs i d) k
@@ -45,7 +45,7 @@ is_advance_at zero d (x ∷ xs) l o = o.0
 is_advance_at (suc t) d (x ∷ xs) l o = is_advance_at t d xs (omega (arith, l)) o.1
 
 plain_twice : (b : Bool) (h k : Advance) (x : ℕ) → IsAdvance h → IsAdvance k → (if b then advanced (then_advance h k) x else x) ≡ (if b then advanced k (if b then advanced h x else x) else (if b then advanced h x else x))
-plain_twice true h k x g o = advanced-then h k x (below_64 h g) (below_64 k o)
+plain_twice true h k x g o = advanced-then h k x (below_32 h g) (below_32 k o)
 plain_twice false h k x g o = refl
 
 at_row : (u t : ℕ) (k : Advance) (xs : List Advance) (z : ℕ) → t < length xs → AreAdvances xs → IsAdvance k → advanced (get_or (advance_at u k xs) t no_advance) z ≡ (if u == t then advanced k (advanced (get_or xs t no_advance) z) else advanced (get_or xs t no_advance) z)
@@ -62,7 +62,7 @@ at_row u t k xs z l g o = at (cases_eq u t)
         ∙ advance_at-here u k no_advance xs within
         ∙ ap (λ n. then_advance (get_or xs n no_advance) k) e in
         rw (eq-eqb u t e)
-        (ap (λ s. advanced s z) there ∙ advanced-then here k z (below_64 here (is_advance_at t no_advance xs l g)) (below_64 k o))
+        (ap (λ s. advanced s z) there ∙ advanced-then here k z (below_32 here (is_advance_at t no_advance xs l g)) (below_32 k o))
     at (inr n) = rw (ne_eqb u t n) (ap (λ s. advanced s z) (advance_at-there u t k no_advance xs n))
 
 pub join-offset : (p q : Effect) (t : ℕ) (s : Sect) (x : ℕ) → t < sections → IsEffect p → IsEffect q → effect_on_offset (join p q) t s x ≡ effect_on_offset q t (effect_on_section p s) (effect_on_offset p t s x)
@@ -81,7 +81,7 @@ join-offset (Switched h u xs) (Switched k v ys) t s x l o r =
     let in_row : t < length row = omega (arith, l, advance_at-length i k xs, o.1) in
     let advances : AreAdvances row = advance_at-AreAdvances i k xs r.0 o.2 in
     ap (λ w. advanced w z) (both-at t no_advance row ys same in_row)
-    ∙ advanced-then (get_or row t no_advance) (get_or ys t no_advance) z (below_64 _ (is_advance_at t no_advance row in_row advances)) (below_64 _ (is_advance_at t no_advance ys in_ys r.2))
+    ∙ advanced-then (get_or row t no_advance) (get_or ys t no_advance) z (below_32 _ (is_advance_at t no_advance row in_row advances)) (below_32 _ (is_advance_at t no_advance ys in_ys r.2))
     ∙ ap (advanced (get_or ys t no_advance)) (at_row i t k xs z in_xs o.2 r.0)
 
 rows_of_none : (n : ℕ) → AreAdvances (replicate n no_advance)
@@ -142,7 +142,7 @@ layout-section (m ∷ ms) s =
     ∙ layout-section ms (section_after s m)
 
 wrap_wrap : (x : ℕ) → wrap (wrap x) ≡ wrap x
-wrap_wrap x = mod-mod x (2 ^ 64)
+wrap_wrap x = mod-mod x (2 ^ 32)
 
 advanced-none : (x : ℕ) → advanced no_advance x ≡ wrap x
 advanced-none x = advanced-bytes 0 x ∙ ap wrap (let z : x + 0 ≡ x = omega arith in z)
@@ -153,7 +153,7 @@ none_at (suc n) zero = refl
 none_at (suc n) (suc t) = none_at n t
 
 -- one line, joined and gone through
-one_line : (b : Bool) (h : Advance) (x y z : ℕ) → h.exponent ≤ 64 → wrap x ≡ wrap y → advanced h y ≡ wrap z → wrap (if b then advanced h x else x) ≡ wrap (if b then z else y)
+one_line : (b : Bool) (h : Advance) (x y z : ℕ) → h.exponent ≤ 32 → wrap x ≡ wrap y → advanced h y ≡ wrap z → wrap (if b then advanced h x else x) ≡ wrap (if b then z else y)
 one_line true h x y z o e f = ap wrap (advanced-same h x y o e ∙ f) ∙ wrap_wrap z
 one_line false h x y z o e f = e
 
@@ -175,7 +175,7 @@ effect_of-offset (Switch u) t s x y o e =
 effect_of-offset Nothing t s x y o e = still (section_number s == t) x y e
 effect_of-offset (Faulty fault) t s x y o e = still (section_number s == t) x y e
 
--- what the joined lines give is what going through them gives, modulo 2 ^ 64
+-- what the joined lines give is what going through them gives, modulo 2 ^ 32
 pub layout-offset : (ms : List Measured) (t : ℕ) (s : Sect) (x y : ℕ) → t < sections → AreLimited ms → wrap x ≡ wrap y → wrap (effect_on_offset (layout_of ms) t s x) ≡ wrap (offset_through t s y ms)
 layout-offset [] t s x y l o e = no_line (section_number s == t) x y e
 layout-offset (m ∷ ms) t s x y l o e =

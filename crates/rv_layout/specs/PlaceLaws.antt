@@ -6,7 +6,7 @@ use Rattle.std.proofs.lemmas.Nat.{pow_pos, mod_below}
 use Rattle.rv_layout.specs.declared.measured.Measured.{Measured}
 use Rattle.rv_layout.specs.declared.measured.Measured.TheVariants.{Bytes, Align, Switch, Nothing, Faulty}
 use Rattle.rv_stmt.specs.declared.section.Sect.{Sect}
-use Rattle.rv_stmt.specs.declared.section.Sect.TheVariants.{Text, Rodata, Rwdata, Bss}
+use Rattle.rv_stmt.specs.declared.section.Sect.TheVariants.{Init, Text, Rodata, Rwdata, Sdata, Bss}
 use Rattle.rv_layout.specs.declared.effect.Effect.{Effect}
 use Rattle.rv_layout.specs.declared.effect.Effect.TheVariants.{Plain, Switched}
 use Rattle.rv_layout.specs.LayoutLaws.{layout-section, layout-offset}
@@ -99,21 +99,21 @@ one_of_sum f t (suc n) l = at (cases_eq t n) (λ less. one_of_sum f t n less)
     at (inl e) h = let same : f t ≡ f n = ap f e in omega (arith, same)
     at (inr e) h = let less : t < n = omega (arith, l, e) in omega (arith, h less)
 
--- what a layout gives is below 2 ^ 64
+-- what a layout gives is below 2 ^ 32
 
 chosen_below : (b : Bool) (x y z : ℕ) → x < z → y < z → (if b then x else y) < z
 chosen_below true x y z h k = h
 chosen_below false x y z h k = k
 
-out_below : (l : Effect) (t : ℕ) → offset_reached l t < 2 ^ 64
-out_below (Plain h) t = chosen_below (section_number Text == t) (advanced h 0) 0 (2 ^ 64) (mod_below _ _ (pow_pos 64)) (pow_pos 64)
-out_below (Switched h s xs) t = mod_below _ _ (pow_pos 64)
+out_below : (l : Effect) (t : ℕ) → offset_reached l t < 2 ^ 32
+out_below (Plain h) t = chosen_below (section_number Text == t) (advanced h 0) 0 (2 ^ 32) (mod_below _ _ (pow_pos 32)) (pow_pos 32)
+out_below (Switched h s xs) t = mod_below _ _ (pow_pos 32)
 
 -- within the limits nothing wraps
 pub reached-end : (ms : List Measured) (t : ℕ) → t < sections → AreLimited ms → length ms ≤ 16384 → offset_reached (layout_of ms) t ≡ section_end_of ms t
 reached-end ms t l h few =
     let together = ends_together ms h in
-    let small : section_end_of ms t < 2 ^ 64 = omega (arith, one_of_sum (section_end_of ms) t sections l, together, few) in
+    let small : section_end_of ms t < 2 ^ 32 = omega (arith, one_of_sum (section_end_of ms) t sections l, together, few) in
     sym (mod-eq_of_lt (out_below (layout_of ms) t))
     ∙ layout-offset ms t Text 0 0 l h refl
     ∙ mod-eq_of_lt small
@@ -154,9 +154,11 @@ part_few (suc k) [] = omega arith
 part_few (suc k) (m ∷ ms) = omega (arith, part_few k ms)
 
 pub number_below : (s : Sect) → section_number s < sections
+number_below Init = omega arith
 number_below Text = omega arith
 number_below Rodata = omega arith
 number_below Rwdata = omega arith
+number_below Sdata = omega arith
 number_below Bss = omega arith
 
 pub before-within : (ms : List Measured) (i t : ℕ) → t < sections → AreLimited ms → length ms ≤ 16384 → offset_reached (layout_of (before i ms)) t ≤ offset_reached (layout_of ms) t

@@ -4,20 +4,20 @@ ghost use Rattle.std.specs.Prelude.{◌≡◌, ◌<◌, ◌≤◌, ◌^◌};
 ghost use Rattle.rv_layout.specs.Advances.{wrap, up, advanced, then_advance, no_advance, IsAdvance};
 
 /// How some lines of a section advance its offset: the offset x becomes `round_up(x + before, 2^exponent) + after`, modulo
-/// 2^64.
+/// 2^32.
 #[derive(Clone, Copy)]
 pub struct Advance {
-    pub before: u64,
+    pub before: u32,
     pub exponent: u8,
-    pub after: u64,
+    pub after: u32,
 }
 
-/// The least multiple of 2^exponent that is not below x, modulo 2^64.
-pub(crate) fn round_up(x: u64, exponent: u8) -> u64
+/// The least multiple of 2^exponent that is not below x, modulo 2^32.
+pub(crate) fn round_up(x: u32, exponent: u8) -> u32
     requires { exponent ≤ 12 }
     ensures { result ≡ wrap (up x exponent) }
 {
-    let unit = 1u64 << exponent;
+    let unit = 1u32 << exponent;
     x.wrapping_add((unit - x % unit) % unit)
 }
 
@@ -34,7 +34,7 @@ impl Advance {
     }
 
     /// The offset after the advance.
-    pub fn apply(self, offset: u64) -> u64
+    pub fn apply(self, offset: u32) -> u32
         requires { IsAdvance self }
         ensures { result ≡ advanced self offset }
     {

@@ -14,7 +14,7 @@ use rv_tree::Joined;
 use std::marker::Model;
 
 /// What some lines do to the section and to the offsets of all sections. Layouts join, so a tree can sum them: `start` is their
-/// unit. Offsets are modulo 2^64, so that the laws hold of all layouts; those of a text do not wrap.
+/// unit. Offsets are modulo 2^32, so that the laws hold of all layouts; those of a text do not wrap.
 #[derive(Clone, Copy)]
 pub struct Layout {
     effect: Effect,
@@ -68,7 +68,7 @@ fn effect_of(measured: &Measured) -> Effect
         Measured::Bytes(count) => Effect::Plain(Advance {
             before: 0,
             exponent: 0,
-            after: u64::from(*count),
+            after: *count,
         }),
         Measured::Align(alignment) => Effect::Plain(Advance {
             before: 0,
@@ -83,7 +83,7 @@ fn effect_of(measured: &Measured) -> Effect
 }
 
 // The offset of a section after the lines before the first switch, which are put into `.text`.
-fn offset_before_switch(advance: Advance, section: usize) -> u64
+fn offset_before_switch(advance: Advance, section: usize) -> u32
     requires { IsAdvance advance }
     ensures { result ≡ (if section_number Sect.Text == section then advanced advance 0 else 0) }
 {
@@ -130,8 +130,8 @@ impl Layout {
         }
     }
 
-    /// The offset in a section after these lines, where they are the first of a text, modulo 2^64.
-    pub fn offset(&self, section: usize) -> u64
+    /// The offset in a section after these lines, where they are the first of a text, modulo 2^32.
+    pub fn offset(&self, section: usize) -> u32
         requires { section < sections }
         ensures { result ≡ offset_reached self.now section }
     {

@@ -23,6 +23,6 @@ pub use laws::{layouts_join, layouts_tell_places, shapes_are_limited, size_opera
 pub use layout::Layout;
 pub use measured::Measured;
 pub use places::{bases, place};
-pub use sections::{SECTIONS, section_number};
+pub use sections::{CODE_SECTIONS, SECTIONS, is_code, section_number};
 pub use shapes::measure;
 pub use sizes::{alignment_by_role, fill_size, is_loadable};

@@ -11,11 +11,11 @@ use crate::layout::Layout;
 use crate::sections::{SECTIONS, section_number};
 
 // The base of the next section: the least multiple of 4096 that is not below the end of this one.
-fn next_base(base: u32, end: u64) -> u32
+fn next_base(base: u32, end: u32) -> u32
     requires { base + end ≤ 2 ^ 32 - 4096 }
     ensures { result ≡ rounded_up (base + end) 4096 }
 {
-    round_up(u64::from(base) + end, 12) as u32
+    round_up(base + end, 12)
 }
 
 /// The address at which each section begins, where the first begins at `base`. `total` is the layout of all lines.
@@ -42,5 +42,5 @@ pub fn place(before: &Layout, base: u32, total: &Layout) -> u32
         result ≡ base_by_layout base total.now t + offset_reached before.now t }
 {
     let section = section_number(before.section());
-    bases(total, base)[section] + before.offset(section) as u32
+    bases(total, base)[section] + before.offset(section)
 }

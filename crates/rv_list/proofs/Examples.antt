@@ -60,7 +60,7 @@ text_of lines sections definition = record {
 abbrev nothing : Shown
 nothing = text_of [] [] (λ name. Nowhere)
 
-image_of_nothing : image_text nothing ≡ codes ".text 0x00000000 0\n.rodata 0x00000000 0\n.data 0x00000000 0\n.bss 0x00000000 0\n"
+image_of_nothing : image_text nothing ≡ codes ".text.init 0x00000000 0\n.text 0x00000000 0\n.rodata 0x00000000 0\n.data 0x00000000 0\n.sdata 0x00000000 0\n.bss 0x00000000 0\n"
 unfolding image_text section_text section_row section_name names_of_sections section_bytes byte_rows byte_row hex digits
 image_of_nothing = refl
 
@@ -82,9 +82,9 @@ abbrev odd : Shown
 odd = text_of (plain (codes ".byte 1") 0 (1 ∷ [])
     ∷ plain (codes "x: addi a0, a0, 1") 1 (0x13 ∷ 0x05 ∷ 0x15 ∷ 0x00 ∷ [])
     ∷ line_of (codes "x: .byte 300") section.Text 5 1 (0 ∷ []) (fault_at Range 9 12)
-    ∷ []) (at 0 6 ∷ at 4096 0 ∷ at 4096 0 ∷ at 4096 0 ∷ []) (λ name. if bytes_eq name (codes "x") then Label 2 0 else Nowhere)
+    ∷ []) (at 0 0 ∷ at 0 6 ∷ at 4096 0 ∷ at 4096 0 ∷ at 4096 0 ∷ at 4096 0 ∷ []) (λ name. if bytes_eq name (codes "x") then Label 2 0 else Nowhere)
 
-odd_image : image_text odd ≡ codes ".text 0x00000000 6\n00000000: 01 13 05 15 00 00\n.rodata 0x00001000 0\n.data 0x00001000 0\n.bss 0x00001000 0\n"
+odd_image : image_text odd ≡ codes ".text.init 0x00000000 0\n.text 0x00000000 6\n00000000: 01 13 05 15 00 00\n.rodata 0x00001000 0\n.data 0x00001000 0\n.sdata 0x00001000 0\n.bss 0x00001000 0\n"
 unfolding image_text section_text section_row section_name names_of_sections section_bytes byte_rows byte_row hex digits
 odd_image = refl
 
@@ -116,13 +116,13 @@ words = text_of (plain (codes ".word 1, 2, 3") 0 (1 ∷ 0 ∷ 0 ∷ 0 ∷ 2 ∷ 
     ∷ plain (codes ".bss") 12 []
     ∷ line_of (codes "b: .word 1, 2, 3") section.Bss 4096 12 (1 ∷ 0 ∷ 0 ∷ 0 ∷ 2 ∷ 0 ∷ 0 ∷ 0 ∷ 3 ∷ 0 ∷ 0 ∷ 0 ∷ []) None
     ∷ line_of (codes ".space 4") section.Bss 4108 4 (0 ∷ 0 ∷ 0 ∷ 0 ∷ []) None
-    ∷ []) (at 0 12 ∷ at 4096 0 ∷ at 4096 0 ∷ at 4096 16 ∷ []) (λ name. if bytes_eq name (codes "b") then Label 3 0 else Nowhere)
+    ∷ []) (at 0 0 ∷ at 0 12 ∷ at 4096 0 ∷ at 4096 0 ∷ at 4096 0 ∷ at 4096 16 ∷ []) (λ name. if bytes_eq name (codes "b") then Label 3 0 else Nowhere)
 
 words_listing : listing_text words ≡ codes "listing 4\n    1 00000000 0100000002000000+ .word 1, 2, 3\n    2 0000000c                   .bss\n    3 00001000                   b: .word 1, 2, 3\n    4 0000100c                   .space 4\n"
 unfolding listing_text listing_row listing_columns first_bytes count_row hex digits
 words_listing = refl
 
-words_image : image_text words ≡ codes ".text 0x00000000 12\n00000000: 01 00 00 00 02 00 00 00 03 00 00 00\n.rodata 0x00001000 0\n.data 0x00001000 0\n.bss 0x00001000 16\n"
+words_image : image_text words ≡ codes ".text.init 0x00000000 0\n.text 0x00000000 12\n00000000: 01 00 00 00 02 00 00 00 03 00 00 00\n.rodata 0x00001000 0\n.data 0x00001000 0\n.sdata 0x00001000 0\n.bss 0x00001000 16\n"
 unfolding image_text section_text section_row section_name names_of_sections section_bytes byte_rows byte_row hex digits
 words_image = refl
 

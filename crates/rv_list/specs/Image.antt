@@ -30,7 +30,7 @@ byte_rows start bytes = joined (byte_row_at start bytes) (row_count (length byte
 
 -- the sections by their numbers
 unfoldable pub section_names : List (List ℕ)
-section_names = codes ".text" ∷ codes ".rodata" ∷ codes ".data" ∷ codes ".bss" ∷ []
+section_names = codes ".text.init" ∷ codes ".text" ∷ codes ".rodata" ∷ codes ".data" ∷ codes ".sdata" ∷ codes ".bss" ∷ []
 
 unfoldable pub section_name : (t : ℕ) → List ℕ
 section_name t = get_or section_names t []

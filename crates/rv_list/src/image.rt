@@ -14,7 +14,14 @@ use rv_layout::SECTIONS;
 use rv_text::{Failed, OutputBlock, OutputRow, Sink};
 
 // The names of the sections, in the order of their numbers.
-const SECTION_NAMES: [&str; SECTIONS] = [".text", ".rodata", ".data", ".bss"];
+const SECTION_NAMES: [&str; SECTIONS] = [
+    ".text.init",
+    ".text",
+    ".rodata",
+    ".data",
+    ".sdata",
+    ".bss",
+];
 
 // The name of a section.
 #[tactic(auto, unfolding(crate::specs::Image::section_names, crate::specs::Image::section_name))]

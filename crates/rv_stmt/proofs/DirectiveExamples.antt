@@ -14,7 +14,7 @@ use Rattle.rv_stmt.specs.declared.operand.Operand.{Operand}
 use Rattle.rv_stmt.specs.declared.operand.OperandValue.TheVariants.{Plain}
 use Rattle.rv_stmt.specs.declared.operand.Role.{Role}
 use Rattle.rv_stmt.specs.declared.operand.Role.TheVariants as role
-use Rattle.rv_stmt.specs.declared.section.Sect.TheVariants.{Text, Rodata, Rwdata, Bss}
+use Rattle.rv_stmt.specs.declared.section.Sect.TheVariants.{Init, Text, Rodata, Rwdata, Sdata, Bss}
 use Rattle.rv_stmt.specs.declared.statement.Body.{Body}
 use Rattle.rv_stmt.specs.declared.statement.Body.TheVariants.{Emit, Fill, Align, Switch, Equ, Ignored, Faulty}
 use Rattle.rv_stmt.specs.Directives.{directive_named, directive_names}
@@ -117,7 +117,10 @@ section_rows =
     ∷ (codes ".bss", Switch Bss)
     ∷ (codes ".text 1", faulty OperandCount 0 5)
     ∷ (codes ".section .textual", Switch Text)
-    ∷ (codes ".section .sdata2,\"aw\"", Switch Rwdata)
+    ∷ (codes ".section .text.init", Switch Init)
+    ∷ (codes ".section .text.initial, \"ax\"", Switch Init)
+    ∷ (codes ".section .text.ini", Switch Text)
+    ∷ (codes ".section .sdata2,\"aw\"", Switch Sdata)
     ∷ (codes ".section .srodata", Switch Rodata)
     ∷ (codes ".section .rodata.str1.4, \"aMS\", @progbits, 1", Switch Rodata)
     ∷ (codes ".section .data.rel", Switch Rwdata)

@@ -6,24 +6,29 @@ ghost use Rattle.rv_stmt.specs.Sections.{first_beginning, section_named};
 /// A section of the image.
 #[derive(Clone, Copy, Debug, PartialEq, Eq)]
 pub enum Sect {
+    /// `.text.init`: the instructions that run first.
+    Init,
     /// `.text`: instructions.
     Text,
     /// `.rodata`: data that are only read.
     Rodata,
     /// `.data`: data that are read and written.
     Rwdata,
+    /// `.sdata`: small data that are read and written.
+    Sdata,
     /// `.bss`: zeros.
     Bss,
 }
 
 /// The columns: what the name of a section begins with, and the section that lines are put into. The first row that fits
 /// counts.
-pub const SECTION_NAMES: [(&str, Sect); 7] = [
+pub const SECTION_NAMES: [(&str, Sect); 8] = [
+    (".text.init", Sect::Init),
     (".text", Sect::Text),
     (".rodata", Sect::Rodata),
     (".srodata", Sect::Rodata),
     (".data", Sect::Rwdata),
-    (".sdata", Sect::Rwdata),
+    (".sdata", Sect::Sdata),
     (".bss", Sect::Bss),
     (".sbss", Sect::Bss),
 ];

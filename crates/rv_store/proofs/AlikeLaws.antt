@@ -16,13 +16,13 @@ use Rattle.rv_stmt.specs.declared.statement.Body.TheVariants as body
 use Rattle.rv_stmt.specs.declared.statement.Stmt.{Stmt}
 use Rattle.rv_stmt.specs.Readings.{and_then}
 use Rattle.rv_layout.specs.Places.{section_of, line_size_of, address_of}
-use Rattle.rv_layout.specs.Sections.{section_number}
+use Rattle.rv_layout.specs.Sections.{is_code, section_number}
 use Rattle.rv_layout.specs.Shapes.{constants, shape_of}
 use Rattle.rv_fix.specs.Values.{Entry, operand_values_of}
 use Rattle.rv_list.specs.declared.view.DefinitionPlace.TheVariants.{Nowhere, Label as ByLabel}
 use Rattle.rv_store.specs.declared.line_values.LineValues.TheVariants.{Nothing, Operands, Symbol, Padding}
 use Rattle.rv_store.specs.Alike.{label_names, IsPlain, DefinesSame, IsAlike}
-use Rattle.rv_store.specs.Codes.{is_text, values_of_body, values_by_shape, values_at, code_by_values, code_at}
+use Rattle.rv_store.specs.Codes.{values_of_body, values_by_shape, values_at, code_by_values, code_at}
 use Rattle.rv_store.specs.Constants.{defined_value, constant_through}
 use Rattle.rv_store.specs.Definitions.{defines_symbol, place_among_labels, place_in_body, or_place, place_in_statement, first_place, definition_of, is_equ_on}
 use Rattle.rv_store.specs.Layout.{shape_at, shapes_of, section_at, address_at, size_at, place_at}
@@ -275,7 +275,7 @@ module _ (p : Program) (k : ℕ) (t : Stmt) (first : 1 ≤ k) (last : k ≤ leng
   -- Values and codes of the other lines
 
   values_of-same : (base i : ℕ) (b : Body) → values_of_body base put i b ≡ values_of_body base p i b
-  values_of-same base i (body.Align d) = λ j. Padding (is_text (section-same i j)) (size-same i j)
+  values_of-same base i (body.Align d) = λ j. Padding (is_code (section-same i j)) (size-same i j)
   values_of-same base i (body.Equ d) =
       λ j. if is_equ_on i (definitions-same j d.symbol) then Symbol (defined_value (references-same base i j) (body.Equ d)) else Nothing
   values_of-same base i b = λ j. Operands (operand_values_of (names-same base i j) (address-same base j i) b)

@@ -18,13 +18,13 @@ use Rattle.rv_stmt.specs.Readings.{and_then}
 use Rattle.rv_layout.specs.declared.measured.Measured.TheVariants as measured
 use Rattle.rv_layout.specs.PlaceLaws.{number_below}
 use Rattle.rv_layout.specs.Places.{before, section_through, offset_through, section_of, offset_of, size_at, line_size_of, section_base_of, address_of}
-use Rattle.rv_layout.specs.Sections.{section_number}
+use Rattle.rv_layout.specs.Sections.{is_code, section_number}
 use Rattle.rv_fix.specs.Values.{Entry, operand_values_of}
 use Rattle.rv_list.specs.declared.view.DefinitionPlace.{DefinitionPlace}
 use Rattle.rv_list.specs.declared.view.DefinitionPlace.TheVariants.{Nowhere, Label as ByLabel, Equ}
 use Rattle.rv_store.specs.declared.line_values.LineValues.TheVariants.{Nothing, Operands, Symbol, Padding}
 use Rattle.rv_store.specs.Appended.{defines_in_body, defines, IsApart, shape_at_end, StaySections}
-use Rattle.rv_store.specs.Codes.{is_text, values_of_body, values_by_shape, values_at, code_by_values, code_at}
+use Rattle.rv_store.specs.Codes.{values_of_body, values_by_shape, values_at, code_by_values, code_at}
 use Rattle.rv_store.specs.Constants.{defined_value}
 use Rattle.rv_store.specs.Definitions.{defines_symbol, place_among_labels, place_in_body, or_place, place_in_statement, definition_of, is_equ_on}
 use Rattle.rv_store.specs.Layout.{shape_at, shapes_of, section_at, address_at, size_at as size_on, place_at}
@@ -361,7 +361,7 @@ module _ (p : Program) (s : Stmt) (apart : IsApart p s) where
     values_of-same i (body.Align d) first last none =
         let section = section-same i (omega (arith, last)) in
         let size = size-same i first last in
-        λ j. Padding (is_text (section j)) (size j)
+        λ j. Padding (is_code (section j)) (size j)
     values_of-same i (body.Equ d) first last none =
         let value = defined_value-agrees (references-agree i first last) (body.Equ d) none in
         λ j. if equ-earlier p s i d.symbol last j then Symbol (value j) else Nothing

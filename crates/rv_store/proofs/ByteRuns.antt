@@ -13,9 +13,9 @@ use Rattle.rv_layout.specs.LayoutLaws.{effect_of-IsEffect, IsLimited-IsInRange, 
 use Rattle.rv_layout.specs.Places.{IsLimited, AreLimited}
 
 -- bytes, then more bytes
-pub bytes-bytes : (a b : ℕ) → a + b < 2 ^ 64 → join (effect_of (Bytes a)) (effect_of (Bytes b)) ≡ effect_of (Bytes (a + b))
+pub bytes-bytes : (a b : ℕ) → a + b < 2 ^ 32 → join (effect_of (Bytes a)) (effect_of (Bytes b)) ≡ effect_of (Bytes (a + b))
 bytes-bytes a b fits =
-    let before : wrap 0 ≡ 0 = mod-eq_of_lt (pow_pos 64) in
+    let before : wrap 0 ≡ 0 = mod-eq_of_lt (pow_pos 32) in
     let even : up (a + 0) 0 ≡ a = omega (arith, mod_below (1 - (a + 0) % 1) 1 (omega arith)) in
     let after : wrap (up (a + 0) 0 + b) ≡ a + b = ap (λ n. wrap (n + b)) even ∙ mod-eq_of_lt fits in
     λ i. Plain (advance_of (before i) 0 (after i))

@@ -22,6 +22,7 @@ use Rattle.rv_store.specs.Definitions.{definition_of}
 use Rattle.rv_store.specs.Edits.{line_before_edit}
 use Rattle.rv_store.specs.Program.{program_of}
 use Rattle.rv_store.specs.Text.{Edit, Insert, Delete, Replace, lines_after}
+use Rattle.rv_store.proofs.ImageExamples.{started_lines}
 use Rattle.rv_store.proofs.TextExamples.{Named, wrong, wrong_word, instruction, nop, no_bytes, codes_of, named_in, sections_of, chain_lines, pair_lines, bss_lines}
 
 -- what an edit of a text from base 0 makes of it: the codes of all lines; the numbers of the lines that are changed,
@@ -189,3 +190,8 @@ to_text_sections = refl
 aligned_to_text : effect_of (codes ".bss" ∷ codes ".align 2" ∷ []) (Delete 1) ≡ record { codes_after = no_bytes ∷ []; changed = []; invalidated = 1 ∷ []; reencoded = 1 ∷ []; values = 2; encodings = 1 }
 unfolding word_of encoding_of row_of layout_of limit_fault operation_named operation_names register_named register_names csr_named csr_names other_forms slots_of set_named set_names modifier_named modifier_names directive_named directive_names section_named section_names
 aligned_to_text = refl
+
+-- from `.text.init` to `.text`: nothing changes but places. The alignment is valued again, and keeps its padding.
+to_later_text : effect_of started_lines (Delete 2) ≡ record { codes_after = nop ∷ code (0x01 ∷ 0x00 ∷ []) ∷ code (0x01 ∷ 0x00 ∷ []) ∷ no_bytes ∷ code (0x07 ∷ 0x00 ∷ 0x00 ∷ 0x00 ∷ []) ∷ no_bytes ∷ nop ∷ []; changed = []; invalidated = 3 ∷ []; reencoded = []; values = 2; encodings = 0 }
+unfolding word_of encoding_of row_of layout_of limit_fault operation_named operation_names register_named register_names csr_named csr_names other_forms slots_of set_named set_names modifier_named modifier_names directive_named directive_names section_named section_names
+to_later_text = refl

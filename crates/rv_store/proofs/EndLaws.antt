@@ -1,11 +1,14 @@
 -- Going through the lines one by one gives where they lie.
-use Rattle.std.proofs.Common.{◌≡◌, ℕ, zero, suc, ◌+◌, ◌-◌, ◌^◌, ◌%◌, ◌<◌, ◌≤◌, ◌==◌, true, List, [], ◌∷◌, ◌++◌, length, take, get_or, slice_index, if◌then◌else◌, arith, ap, sym, ◌∙◌, refl, subst}
+use Rattle.std.proofs.Common.{◌≡◌, ℕ, zero, suc, ◌+◌, ◌-◌, ◌^◌, ◌%◌, ◌<◌, ◌≤◌, ◌==◌, true, List, [], ◌∷◌, ◌++◌, length, take, get_or, set, slice_index, if◌then◌else◌, arith, ap, sym, ◌∙◌, refl, subst, ◌⊎◌, inl, inr}
 use Rattle.std.proofs.Math.Nat.{pow-le-pow_right}
 use Rattle.std.proofs.lemmas.Nat.{mod_below, pow_pos}
 use Rattle.std.specs.List.{All}
-use Rattle.std.proofs.lemmas.List.{take_more, get_or_default}
+use Rattle.std.proofs.lemmas.Bool.{cases_eq, eq-eqb, ne_eqb}
+use Rattle.std.proofs.lemmas.Grind.{same_number_lists}
+use Rattle.std.proofs.lemmas.List.{take_more, get_or_default, get_or-set_same, get_or-set_other, length-set}
+use Rattle.std.proofs.lemmas.List.FromFn.{get_or-map-range_with_len, length-map-range_with_len}
 use Rattle.rv_stmt.specs.declared.section.Sect.{Sect}
-use Rattle.rv_stmt.specs.declared.section.Sect.TheVariants.{Text, Rodata, Rwdata, Bss}
+use Rattle.rv_stmt.specs.declared.section.Sect.TheVariants.{Text}
 use Rattle.rv_layout.specs.declared.effect.Effect.{Effect}
 use Rattle.rv_layout.specs.declared.measured.Measured.{Measured}
 use Rattle.rv_layout.specs.declared.measured.Measured.TheVariants.{Bytes, Align, Switch, Nothing, Faulty}
@@ -16,7 +19,7 @@ use Rattle.rv_layout.specs.BaseLaws.{base-bound, base_from-fits, sum_below-grows
 use Rattle.rv_layout.specs.PlaceLaws.{part_within, ends_together, number_below, base-layout}
 use Rattle.rv_store.specs.declared.ends.Ends.{Ends}
 use Rattle.rv_list.specs.declared.view.LinePlace.{LinePlace}
-use Rattle.rv_store.specs.Ends.{ends_of, next_offset, ends_after, next_place, place_by_shapes}
+use Rattle.rv_store.specs.Ends.{by_section, ends_of, next_offset, ends_after, next_place, place_by_shapes}
 use Rattle.rv_store.specs.Program.{for_lines}
 use Rattle.rv_store.proofs.Programs.{at-for_lines, length-for_lines}
 
@@ -69,43 +72,50 @@ offset_after-size x (Switch s) = omega arith
 offset_after-size x Nothing = omega arith
 offset_after-size x (Faulty fault) = omega arith
 
-at-sections : Sect → (a b c d : ℕ) → Ends
-at-sections s a b c d = record { section = s; offsets = a ∷ b ∷ c ∷ d ∷ [] }
+-- The ends of all sections
 
-same-ends : (s s' : Sect) (a a' b b' c c' d d' : ℕ) → s ≡ s' → a ≡ a' → b ≡ b' → c ≡ c' → d ≡ d' → at-sections s a b c d ≡ at-sections s' a' b' c' d'
-same-ends s s' a a' b b' c c' d d' e f g h k =
-    ap (λ x. at-sections x a b c d) e
-    ∙ ap (λ x. at-sections s' x b c d) f
-    ∙ ap (λ x. at-sections s' a' x c d) g
-    ∙ ap (λ x. at-sections s' a' b' x d) h
-    ∙ ap (λ x. at-sections s' a' b' c' x) k
+at-number : (f : ℕ → ℕ) (t : ℕ) → t < sections → slice_index (by_section f) t ≡ f t
+at-number f t l = get_or-map-range_with_len f 0 sections t t 0 l (omega arith)
 
--- the line counts in its section alone
-one-section : (s : Sect) (a b c d : ℕ) (m : Measured) → at-sections (section_after s m) (if section_number s == 0 then offset_after a m else a) (if section_number s == 1 then offset_after b m else b) (if section_number s == 2 then offset_after c m else c) (if section_number s == 3 then offset_after d m else d) ≡ ends_after (at-sections s a b c d) m
-unfolding at-sections
-one-section Text a b c d m = ap (λ x. at-sections (section_after Text m) x b c d) (offset_after-size a m)
-one-section Rodata a b c d m = ap (λ x. at-sections (section_after Rodata m) a x c d) (offset_after-size b m)
-one-section Rwdata a b c d m = ap (λ x. at-sections (section_after Rwdata m) a b x d) (offset_after-size c m)
-one-section Bss a b c d m = ap (λ x. at-sections (section_after Bss m) a b c x) (offset_after-size d m)
+at-section : (f : ℕ → ℕ) (s : Sect) → slice_index (by_section f) (section_number s) ≡ f (section_number s)
+at-section f s = at-number f (section_number s) (number_below s)
+
+-- numbers that are the same for each section
+pub same-by_section : (f g : ℕ → ℕ) → ((t : ℕ) → t < sections → f t ≡ g t) → by_section f ≡ by_section g
+same-by_section f g same =
+    let count : length (by_section f) ≡ sections = length-map-range_with_len f 0 sections in
+    same_number_lists (by_section f) (by_section g) (count ∙ sym (length-map-range_with_len g 0 sections)) (λ t m.
+      let within : t < sections = omega (arith, m, count) in
+      at-number f t within ∙ same t within ∙ sym (at-number g t within))
+
+-- one section grows
+grown-at : (f g : ℕ → ℕ) (s t : ℕ) → s < sections → t < sections → (t ≡ s) ⊎ (t ≡ s → ⊥) → (if s == t then g (f t) else f t) ≡ slice_index (set (by_section f) s (g (f s))) t
+grown-at f g s t l m (inl same) =
+    let within : s < length (by_section f) = rw (length-map-range_with_len f 0 sections) l in
+    rw (eq-eqb s t (sym same)) (ap (λ n. g (f n)) same ∙ sym (ap (slice_index (set (by_section f) s (g (f s)))) same ∙ get_or-set_same (by_section f) s (g (f s)) 0 within))
+grown-at f g s t l m (inr other) =
+    rw (ne_eqb s t (λ e. other (sym e))) (sym (get_or-set_other (by_section f) s t (g (f s)) 0 other ∙ at-number f t m))
+
+one-grows : (f g : ℕ → ℕ) (s : ℕ) → s < sections → by_section (λ t. if s == t then g (f t) else f t) ≡ set (by_section f) s (g (f s))
+one-grows f g s l =
+    let grown : ℕ → ℕ = λ t. if s == t then g (f t) else f t in
+    let count : length (by_section grown) ≡ sections = length-map-range_with_len grown 0 sections in
+    let same : length (by_section grown) ≡ length (set (by_section f) s (g (f s))) =
+    count ∙ sym (length-set (by_section f) s (g (f s)) ∙ length-map-range_with_len f 0 sections) in
+    same_number_lists (by_section grown) (set (by_section f) s (g (f s))) same (λ t m.
+      let within : t < sections = omega (arith, m, count) in
+      at-number grown t within ∙ grown-at f g s t l within (cases_eq t s))
 
 pub ends_of-push : (ms : List Measured) (m : Measured) → ends_of (ms ++ m ∷ []) ≡ ends_after (ends_of ms) m
-unfolding at-sections
 ends_of-push ms m =
-    same-ends _ _ _ _ _ _ _ _ _ _
-    (section_through-push Text ms m)
-    (offset_through-push 0 Text 0 ms m)
-    (offset_through-push 1 Text 0 ms m)
-    (offset_through-push 2 Text 0 ms m)
-    (offset_through-push 3 Text 0 ms m)
-    ∙ one-section (section_through Text ms) (section_end_of ms 0) (section_end_of ms 1) (section_end_of ms 2) (section_end_of ms 3) m
+    let s : Sect = section_through Text ms in
+    let here = section_number s in
+    let ends : ℕ → ℕ = section_end_of ms in
+    (λ j. record { section = section_through-push Text ms m j; offsets = by_section (λ t. offset_through-push t Text 0 ms m j) })
+    ∙ ap (λ xs. record { section = section_after s m; offsets = xs }) (one-grows ends (λ x. offset_after x m) here (number_below s))
+    ∙ ap (λ x. record { section = section_after s m; offsets = set (by_section ends) here x }) (offset_after-size (ends here) m ∙ ap (λ x. x + size_at x m) (sym (at-section ends s)))
 
 -- The places
-
-at-section : (f : ℕ → ℕ) (s : Sect) → slice_index (f 0 ∷ f 1 ∷ f 2 ∷ f 3 ∷ []) (section_number s) ≡ f (section_number s)
-at-section f Text = refl
-at-section f Rodata = refl
-at-section f Rwdata = refl
-at-section f Bss = refl
 
 abbrev pub AreBases : (base : ℕ) → List Measured → List ℕ → Type 0
 AreBases base ms bases = (t : ℕ) → t < sections → slice_index bases t ≡ section_base_of base ms t

@@ -6,10 +6,9 @@ use Rattle.rv_stmt.specs.declared.statement.Stmt.{Stmt}
 use Rattle.rv_layout.specs.declared.effect.Effect.{Effect}
 use Rattle.rv_layout.specs.declared.measured.Measured.{Measured}
 use Rattle.rv_layout.specs.declared.measured.Measured.TheVariants.{Nothing}
-use Rattle.rv_layout.specs.BaseLaws.{sum_below-grows}
 use Rattle.rv_layout.specs.Effects.{layout_of, offset_reached, base_by_layout}
 use Rattle.rv_layout.specs.PlaceLaws.{reached-end, reached-section, reached_together, base-layout}
-use Rattle.rv_layout.specs.Places.{sum_below, section_base_of, is_base, IsLimited, AreLimited}
+use Rattle.rv_layout.specs.Places.{sum_below, section_base_of, section_end_of, is_base, IsLimited, AreLimited}
 use Rattle.rv_layout.specs.Sections.{sections, section_number}
 use Rattle.rv_store.specs.declared.ending.Ending.{Ending}
 use Rattle.rv_store.specs.declared.ends.Ends.{Ends}
@@ -21,7 +20,7 @@ use Rattle.rv_store.specs.Rows.{AreShapes}
 use Rattle.rv_store.proofs.LongerPrograms.{shapes-more}
 use Rattle.rv_store.proofs.Programs.{length-for_lines, length-program}
 use Rattle.rv_store.proofs.ShapeRows.{limited-push}
-use Rattle.rv_store.proofs.EndLaws.{PlaceFits, take-AreLimited, bases-AreBases, next_place-is, next_place-fits}
+use Rattle.rv_store.proofs.EndLaws.{PlaceFits, same-by_section, take-AreLimited, bases-AreBases, next_place-is, next_place-fits}
 
 module _ (ms : List Measured) (m : Measured) (few : length ms < 16384) (limited : AreLimited (ms ++ m ∷ [])) where
   limited-before : AreLimited ms
@@ -36,21 +35,13 @@ module _ (ms : List Measured) (m : Measured) (few : length ms < 16384) (limited 
     together-before =
         subst (λ l. sum_below (offset_reached l) sections ≤ 2 ^ 30) (sym is) (reached_together ms limited-before (omega (arith, few)))
 
-    pub offsets-fit : (t : ℕ) → t < sections → offset_reached before t < 2 ^ 32
-    offsets-fit t l =
-        let one = sum_below-grows (offset_reached before) (suc t) sections (omega (arith, l)) in
-        omega (arith, one, together-before)
-
     ends-before : ends_reached before ≡ ends_of (take (length ms) (ms ++ m ∷ []))
     ends-before =
         let count : length ms ≤ 16384 = omega (arith, few) in
         let section = reached-section ms in
-        let first = reached-end ms 0 (omega arith) limited-before count in
-        let second = reached-end ms 1 (omega arith) limited-before count in
-        let third = reached-end ms 2 (omega arith) limited-before count in
-        let fourth = reached-end ms 3 (omega arith) limited-before count in
+        let offsets = same-by_section (offset_reached (layout_of ms)) (section_end_of ms) (λ t l. reached-end ms t l limited-before count) in
         ap ends_reached is
-        ∙ (λ j. record { section = section j; offsets = first j ∷ second j ∷ third j ∷ fourth j ∷ [] })
+        ∙ (λ j. record { section = section j; offsets = offsets j })
         ∙ ap ends_of (sym (take-append_seam ms (m ∷ [])))
 
     -- the bases of the sections with it

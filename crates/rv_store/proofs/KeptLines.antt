@@ -6,10 +6,11 @@ use Rattle.rv_stmt.specs.declared.statement.Body.{Body}
 use Rattle.rv_stmt.specs.declared.statement.Body.TheVariants as body
 use Rattle.rv_stmt.specs.Statement.{operands_of}
 use Rattle.rv_layout.specs.Places.{IsLimited}
+use Rattle.rv_layout.specs.Sections.{is_code}
 use Rattle.rv_layout.specs.Shapes.{constants, size_operand, shape_of}
 use Rattle.rv_store.specs.declared.line_values.LineValues.TheVariants.{Operands, Padding}
 use Rattle.rv_store.specs.Changes.{program_after, is_new_or, differs_in_name, differs_in_place, differs_in_uses, is_invalidated}
-use Rattle.rv_store.specs.Codes.{is_text, values_of_body, values_by_shape, values_at, code_by_values}
+use Rattle.rv_store.specs.Codes.{values_of_body, values_by_shape, values_at, code_by_values}
 use Rattle.rv_store.specs.Constants.{constant_of}
 use Rattle.rv_store.specs.Edits.{line_before_edit}
 use Rattle.rv_store.specs.Kept.{IsKept}
@@ -76,7 +77,7 @@ module _ (base : ℕ) (before after : Program) (k j : ℕ) where
         let limited : IsLimited (shape_at before j) =
         subst IsLimited (sym (ap (shape_of (constant_of before j)) is)) (alignment-limited (constants (constant_of before j)) (size_operand d.operands)) in
         let size = size_at-follows base after before k j first last first' last' limited shape place.1 place.0 in
-        λ i. Padding (is_text (place.1 i)) (size i)
+        λ i. Padding (is_code (place.1 i)) (size i)
     values_of_body-kept (body.Equ d) is uses = absurd (true≢false uses.equ)
     values_of_body-kept b is uses =
         ap Operands

@@ -64,11 +64,20 @@ module _ (pair : LinePair) (name : List ℕ) (is : IsOpenPair pair) (value value
 
 -- A line that uses no symbol that differs, its own address on one place alone, and nothing that is not compared
 
-pub same-by_brief : (base : ℕ) (before after : Program) (k j : ℕ) (b : Body) → list_any (differs_in_name base before after k j) (names_used b) ≡ false → (uses_address b && differs_in_place base before after k j) ≡ false → (uses_local_label b || uses_paired_high b || is_equ b) ≡ false → differs_in_uses base before after k j b ≡ false
-same-by_brief base before after k j b names place uncompared =
+or_none : (b : Bool) → (b || false || false || false || false) ≡ b
+or_none true = refl
+or_none false = refl
+
+pub uses-by_names : (base : ℕ) (before after : Program) (k j : ℕ) (b : Body) → (uses_address b && differs_in_place base before after k j) ≡ false → (uses_local_label b || uses_paired_high b || is_equ b) ≡ false → differs_in_uses base before after k j b ≡ list_any (differs_in_name base before after k j) (names_used b)
+uses-by_names base before after k j b place uncompared =
     let all = or_parts (uses_local_label b || uses_paired_high b) (is_equ b) uncompared in
     let both = or_parts (uses_local_label b) (uses_paired_high b) all.0 in
-    λ i. names i || place i || both.0 i || both.1 i || all.1 i
+    let names = list_any (differs_in_name base before after k j) (names_used b) in
+    (λ i. names || place i || both.0 i || both.1 i || all.1 i) ∙ or_none names
+
+pub same-by_brief : (base : ℕ) (before after : Program) (k j : ℕ) (b : Body) → list_any (differs_in_name base before after k j) (names_used b) ≡ false → (uses_address b && differs_in_place base before after k j) ≡ false → (uses_local_label b || uses_paired_high b || is_equ b) ≡ false → differs_in_uses base before after k j b ≡ false
+same-by_brief base before after k j b names place uncompared =
+    uses-by_names base before after k j b place uncompared ∙ names
 
 -- The lines of an edit
 

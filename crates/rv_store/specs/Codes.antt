@@ -1,11 +1,10 @@
 -- The values and the code of each line of a text. (docs/LANGUAGE.md, Values of operands; Padding)
-use Rattle.std.specs.Prelude.{ℕ, Bool, true, false, [], ◌∷◌, if◌then◌else◌}
-use Rattle.rv_stmt.specs.declared.section.Sect.{Sect}
-use Rattle.rv_stmt.specs.declared.section.Sect.TheVariants.{Text}
+use Rattle.std.specs.Prelude.{ℕ, [], ◌∷◌, if◌then◌else◌}
 use Rattle.rv_stmt.specs.declared.statement.Body.{Body}
 use Rattle.rv_stmt.specs.declared.statement.Body.TheVariants as body
 use Rattle.rv_layout.specs.declared.measured.Measured.{Measured}
 use Rattle.rv_layout.specs.declared.measured.Measured.TheVariants.{Faulty}
+use Rattle.rv_layout.specs.Sections.{is_code}
 use Rattle.rv_fix.specs.declared.coded.Coded.{Coded}
 use Rattle.rv_fix.specs.Code.{code, code_of}
 use Rattle.rv_fix.specs.Padding.{padding}
@@ -19,14 +18,11 @@ use Rattle.rv_store.specs.Pairs.{names_at}
 use Rattle.rv_store.specs.Program.{Program, body_at}
 use Rattle.rv_store.specs.References.{references_at}
 
-abbrev pub is_text : Sect → Bool
-is_text Text = true
-is_text section = false
-
--- the values of a line with this body, where its shape is no fault: an alignment has its padding, and an `.equ` that is not
+-- the values of a line with this body, where its shape is no fault: an alignment has its padding, by instructions in the
+-- sections of code, and an `.equ` that is not
 -- the definition of its symbol has none
 abbrev pub values_of_body : (base : ℕ) → Program → (i : ℕ) → Body → LineValues
-values_of_body base program i (body.Align d) = Padding (is_text (section_at program i)) (size_at program i)
+values_of_body base program i (body.Align d) = Padding (is_code (section_at program i)) (size_at program i)
 values_of_body base program i (body.Equ d) =
     if is_equ_on i (definition_of program d.symbol)
     then Symbol (defined_value (references_at base program i) (body.Equ d))
@@ -46,7 +42,7 @@ abbrev pub code_by_values : Measured → Body → LineValues → Coded
 code_by_values shape b Nothing = code_of shape b []
 code_by_values shape b (Operands entries) = code_of shape b entries
 code_by_values shape b (Symbol entry) = code_of shape b (entry ∷ [])
-code_by_values shape b (Padding in_text count) = code (padding in_text count)
+code_by_values shape b (Padding in_code count) = code (padding in_code count)
 
 abbrev pub code_at : (base : ℕ) → Program → (i : ℕ) → Coded
 code_at base program i = code_by_values (shape_at program i) (body_at program i) (values_at base program i)

@@ -1,27 +1,26 @@
 -- Where the sections end after some lines, line by line. (docs/LANGUAGE.md, Layout)
-use Rattle.std.specs.Prelude.{ℕ, ◌+◌, List, [], ◌∷◌, set, slice_index}
+use Rattle.std.specs.Prelude.{ℕ, ◌+◌, List, map, set, slice_index}
+use Rattle.std.specs.List.{range_with_len}
 use Rattle.rv_stmt.specs.declared.section.Sect.TheVariants.{Text}
 use Rattle.rv_layout.specs.declared.effect.Effect.{Effect}
 use Rattle.rv_layout.specs.declared.measured.Measured.{Measured}
 use Rattle.rv_layout.specs.Effects.{section_reached, offset_reached}
 use Rattle.rv_layout.specs.Places.{section_after, section_through, size_at, section_of, line_size_of, section_end_of, address_of}
-use Rattle.rv_layout.specs.Sections.{section_number}
+use Rattle.rv_layout.specs.Sections.{sections, section_number}
 use Rattle.rv_store.specs.declared.ends.Ends.{Ends}
 use Rattle.rv_list.specs.declared.view.LinePlace.{LinePlace}
 
+-- a number for each section, in their order
+abbrev pub by_section : (ℕ → ℕ) → List ℕ
+by_section f = map f (range_with_len 0 sections)
+
 -- after some lines: the section of the next one, and the offset at which each section ends
 abbrev pub ends_of : List Measured → Ends
-ends_of ms = record {
-  section = section_through Text ms;
-  offsets = section_end_of ms 0 ∷ section_end_of ms 1 ∷ section_end_of ms 2 ∷ section_end_of ms 3 ∷ [];
-}
+ends_of ms = record { section = section_through Text ms; offsets = by_section (section_end_of ms) }
 
 -- the same by the layout of the lines
 abbrev pub ends_reached : Effect → Ends
-ends_reached l = record {
-  section = section_reached l;
-  offsets = offset_reached l 0 ∷ offset_reached l 1 ∷ offset_reached l 2 ∷ offset_reached l 3 ∷ [];
-}
+ends_reached l = record { section = section_reached l; offsets = by_section (offset_reached l) }
 
 -- the offset of the next line
 abbrev pub next_offset : Ends → ℕ

@@ -33,7 +33,7 @@ abbrev pub same_values : LineValues → LineValues → Bool
 same_values Nothing Nothing = true
 same_values (Operands xs) (Operands ys) = pointwise same_entry xs ys
 same_values (Symbol x) (Symbol y) = same_entry x y
-same_values (Padding in_text m) (Padding in_text' n) = beq in_text in_text' && m == n
+same_values (Padding in_code m) (Padding in_code' n) = beq in_code in_code' && m == n
 same_values x y = false
 
 -- the same bytes, and the same fault or none

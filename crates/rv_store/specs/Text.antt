@@ -6,7 +6,7 @@ use Rattle.rv_store.specs.declared.edit_error.EditError.{EditError}
 use Rattle.rv_store.specs.declared.edit_error.EditError.TheVariants.{Base, Place, Line, TooMany, Memory}
 use Rattle.rv_store.specs.declared.limits.TheConstants.{MAX_LINES}
 
--- what a store holds: where `.text` begins, and the lines
+-- what a store holds: where the first section begins, and the lines
 pub record Text : Type 0 where
   pub base : ℕ
   pub lines : List (List ℕ)

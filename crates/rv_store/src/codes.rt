@@ -71,7 +71,7 @@ fn code_of_values<C: Count>(
         LineValues::Nothing => Ok(no_bytes()),
         LineValues::Operands(entries) => encode_line(alloc, stmt, entries, counter),
         LineValues::Symbol(entry) => Ok(code_of_symbol(&stmt.body, *entry)),
-        LineValues::Padding(in_text, count) => Ok(Coded::padding(*in_text, *count)),
+        LineValues::Padding(in_code, count) => Ok(Coded::padding(*in_code, *count)),
     }
 }
 
@@ -93,7 +93,7 @@ fn code_by_values<C: Count>(
 {
     match shape {
         Measured::Faulty(fault) => match values {
-            LineValues::Padding(in_text, count) => Ok(Coded::padding(*in_text, *count)),
+            LineValues::Padding(in_code, count) => Ok(Coded::padding(*in_code, *count)),
             _ => Ok(Coded::faulty(fault)),
         },
         _ => code_of_values(alloc, stmt, values, counter),

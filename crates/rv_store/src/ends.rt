@@ -1,13 +1,12 @@
 //! Where the sections end after some lines of a text.
 
-ghost use Rattle.std.specs.Prelude.{◌≡◌, ℕ, ◌<◌, ◌≤◌, ◌^◌, []};
-ghost use Rattle.rv_layout.specs.Effects.{offset_reached};
-ghost use Rattle.rv_layout.specs.Sections.{sections};
+ghost use Rattle.std.specs.Prelude.{◌≡◌, ◌≤◌, ◌^◌, []};
 ghost use Rattle.rv_layout.specs.Places.{size_at, IsLimited};
 ghost use Rattle.rv_store.specs.Ends.{ends_of, ends_reached, next_offset, ends_after};
 
 use rv_layout::{Layout, Measured, SECTIONS, section_number};
 use rv_stmt::Sect;
+use std::array;
 
 /// After some lines of a text: the section of the next one, and the offset at which each section ends.
 #[derive(Clone, Copy)]
@@ -43,17 +42,11 @@ impl Ends {
 
     /// Those of lines with this layout, the first ones of a text.
     pub fn reached(layout: &Layout) -> Ends
-        requires { (t : ℕ) → t < sections → offset_reached layout.now t < 2 ^ 32 }
         ensures { result ≡ ends_reached layout.now }
     {
         Ends {
             section: layout.section(),
-            offsets: [
-                layout.offset(0) as u32,
-                layout.offset(1) as u32,
-                layout.offset(2) as u32,
-                layout.offset(3) as u32,
-            ],
+            offsets: array::from_fn(|section| layout.offset(section)),
         }
     }
 

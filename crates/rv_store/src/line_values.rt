@@ -4,7 +4,7 @@ ghost use Rattle.std.specs.Prelude.{◌≡◌, ◌≤◌, ◌<◌, ◌+◌, ◌^
 ghost use Rattle.rv_stmt.specs.declared.statement.Body.{Body};
 ghost use Rattle.rv_stmt.specs.Statement.{operands_of};
 ghost use Rattle.rv_store.specs.declared.limits.TheConstants.{MAX_LINES};
-ghost use Rattle.rv_store.specs.Codes.{is_text, values_of_body, values_at};
+ghost use Rattle.rv_store.specs.Codes.{values_of_body, values_at};
 ghost use Rattle.rv_store.specs.Program.{body_at};
 ghost use Rattle.rv_store.specs.Rows.{number_of};
 ghost use Rattle.rv_store.specs.SymbolRows.{AreSymbolRows};
@@ -19,9 +19,9 @@ use crate::text_lines::{place_on, statement_on};
 use crate::value_rows::{ValueRows, shape_on};
 use rv_expr::ValueFault;
 use rv_fix::{Entry, FixError, Values, is_same_entry, operand_values};
-use rv_layout::Measured;
+use rv_layout::{Measured, is_code};
 use rv_list::DefinitionPlace;
-use rv_stmt::{Body, Definition, Sect};
+use rv_stmt::{Body, Definition};
 use rv_text::Count;
 use std::alloc::Global;
 
@@ -34,7 +34,7 @@ pub enum LineValues {
     Operands(Values),
     /// The value of the symbol that it defines.
     Symbol(Entry),
-    /// The padding of an alignment: whether it is in `.text`, and how many bytes it has.
+    /// The padding of an alignment: whether it is in a section of code, and how many bytes it has.
     Padding(bool, u32),
 }
 
@@ -53,21 +53,14 @@ impl LineValues {
                 LineValues::Symbol(another) => is_same_entry(*entry, *another),
                 _ => false,
             },
-            LineValues::Padding(in_text, count) => match other {
-                LineValues::Padding(other_in_text, other_count) => {
-                    in_text == other_in_text && count == other_count
+            LineValues::Padding(in_code, count) => match other {
+                LineValues::Padding(other_in_code, other_count) => {
+                    in_code == other_in_code && count == other_count
                 }
                 _ => false,
             },
         }
     }
-}
-
-// Whether a section is `.text`.
-fn is_text(section: Sect) -> bool
-    ensures { result ≡ is_text section }
-{
-    section == Sect::Text
 }
 
 /// The value of the symbol of an `.equ`, if this defines it, by the symbol's number.
@@ -116,7 +109,7 @@ fn values_of_body<C: Count>(
     let stmt = statement_on(&rows.symbols.text, line);
     let place = place_on(&rows.symbols.text, line);
     match &stmt.body {
-        Body::Align(_) => Ok(LineValues::Padding(is_text(place.section), place.size)),
+        Body::Align(_) => Ok(LineValues::Padding(is_code(place.section), place.size)),
         Body::Equ(definition) => {
             let number = rows.symbols.text.names.number(definition.symbol.bytes());
             Ok(symbol_value(&rows.symbols, definition, number, line))

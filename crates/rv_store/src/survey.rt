@@ -251,7 +251,7 @@ impl Survey {
         layouts_tell_places();
         SectionPlace {
             base: bases(&self.total, base)[section],
-            size: self.total.offset(section) as u32,
+            size: self.total.offset(section),
         }
     }
 

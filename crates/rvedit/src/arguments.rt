@@ -79,7 +79,7 @@ pub fn arguments<S: AsStr>(alloc: Global, words: &[S]) -> Result<u32, ArgFault>
         .long("base")
         .value_name("ADDRESS")
         .help(
-            "Where .text begins [default: 0]: a multiple of 4096, at most 0x80000000, as a number of the language: decimal, 0x and hexadecimal, 0b and binary, or 0 and octal digits",
+            "Where the first section begins [default: 0]: a multiple of 4096, at most 0x80000000, as a number of the language: decimal, 0x and hexadecimal, 0b and binary, or 0 and octal digits",
         )
         .action(ArgAction::Set);
     let command = Command::new(alloc, "rvedit")

@@ -1,10 +1,6 @@
 use Rattle.std.proofs.Common.{◌∙◌}
-use Rattle.rv_store.proofs.Endings.{offsets-fit, place-fits, place-is}
+use Rattle.rv_store.proofs.Endings.{place-fits, place-is}
 use Rattle.rv_store.proofs.ending.place_at_end.Goals as goal
-
-pub reached-requires : goal.reached-requires
-reached-requires c =
-    offsets-fit c.args.survey.now.shapes.items c.args.shape.now c.requires.few c.requires.limited c.args.survey.now.total c.requires.before
 
 pub next_place-requires : goal.next_place-requires
 next_place-requires c =

@@ -6,7 +6,7 @@ use Rattle.rv_store.specs.LinePairs.{differs_in_name_on, program_before_pair, pr
 use Rattle.rv_store.specs.NameSets.{set_of, meets}
 use Rattle.rv_store.specs.Program.{body_at}
 use Rattle.rv_store.specs.Uses.{names_used, uses_address, uses_local_label, uses_paired_high, is_equ}
-use Rattle.rv_store.proofs.LinePairLaws.{same-by_brief}
+use Rattle.rv_store.proofs.LinePairLaws.{same-by_brief, uses-by_names}
 use Rattle.rv_store.proofs.NameSets.{none-passes}
 use Rattle.rv_store.proofs.invalidation.LinePair.differs_in_uses.Goals as goal
 use Rattle.rv_store.proofs.invalidation.LinePair.differs_in_uses.Goals.{then-brief-via-then-brief, then-brief-via-else-brief+then-differs_in_place, then-brief-2, else-brief-2}
@@ -32,6 +32,23 @@ returns-else-meets c =
     ] in
     c.if-meets.false
     ∙ sym (same-by_brief base (program_before_pair pair) (program_after_pair pair) pair.line pair.stood body names (ap (λ b. b && moved) (sym address) ∙ place) uncompared)
+
+pub returns-then-meets : goal.returns-then-meets
+returns-then-meets c =
+    let pair = c.args.self.now in
+    let base = pair.before.now.text.base in
+    let body = body_at (program_after_pair pair) pair.line in
+    let moved = differs_in_place base (program_before_pair pair) (program_after_pair pair) pair.line pair.stood in
+    let is = c.brief_on-brief.ensures in
+    let uncompared : (uses_local_label body || uses_paired_high body || is_equ body) ≡ false = sym (ap (λ b. b.uncompared) is) ∙ c.if-brief.false in
+    let place : (c.brief_on-brief.result.address && moved) ≡ false =
+    elim c.if-brief-2.branch [
+      | then-brief-2 w ↦ ap (λ b. b && moved) w.if-brief-2.true ∙ sym w.differs_in_place.ensures ∙ sym w.value-is ∙ c.if-differs_in_place.false
+      | else-brief-2 w ↦ ap (λ b. b && moved) w.if-brief-2.false
+    ] in
+    c.any_name.ensures
+    ∙ ap (λ b. list_any (differs_in_name_on pair) (names_used b)) (ap (λ s. s.body) c.statement_on.ensures)
+    ∙ sym (uses-by_names base (program_before_pair pair) (program_after_pair pair) pair.line pair.stood body (ap (λ b. b && moved) (sym (ap (λ b. b.address) is)) ∙ place) uncompared)
 
 -- one of some is true
 one_of : (x a b c : Bool) → (a || b || c) ≡ true → (x || a || b || c) ≡ true
