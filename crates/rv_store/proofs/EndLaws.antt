@@ -85,8 +85,8 @@ pub same-by_section : (f g : ℕ → ℕ) → ((t : ℕ) → t < sections → f 
 same-by_section f g same =
     let count : length (by_section f) ≡ sections = length-map-range_with_len f 0 sections in
     same_number_lists (by_section f) (by_section g) (count ∙ sym (length-map-range_with_len g 0 sections)) (λ t m.
-      let within : t < sections = omega (arith, m, count) in
-      at-number f t within ∙ same t within ∙ sym (at-number g t within))
+    let within : t < sections = omega (arith, m, count) in
+    at-number f t within ∙ same t within ∙ sym (at-number g t within))
 
 -- one section grows
 grown-at : (f g : ℕ → ℕ) (s t : ℕ) → s < sections → t < sections → (t ≡ s) ⊎ (t ≡ s → ⊥) → (if s == t then g (f t) else f t) ≡ slice_index (set (by_section f) s (g (f s))) t
@@ -103,8 +103,8 @@ one-grows f g s l =
     let same : length (by_section grown) ≡ length (set (by_section f) s (g (f s))) =
     count ∙ sym (length-set (by_section f) s (g (f s)) ∙ length-map-range_with_len f 0 sections) in
     same_number_lists (by_section grown) (set (by_section f) s (g (f s))) same (λ t m.
-      let within : t < sections = omega (arith, m, count) in
-      at-number grown t within ∙ grown-at f g s t l within (cases_eq t s))
+    let within : t < sections = omega (arith, m, count) in
+    at-number grown t within ∙ grown-at f g s t l within (cases_eq t s))
 
 pub ends_of-push : (ms : List Measured) (m : Measured) → ends_of (ms ++ m ∷ []) ≡ ends_after (ends_of ms) m
 ends_of-push ms m =
