@@ -17,7 +17,8 @@ const EDITS: [LineEdit<'static>; 3] = [
 ];
 
 // What is shown after all edits, as an independent program of the definitions in Python has it.
-const EDITED: &str = ".text 0x00000000 4
+const EDITED: &str = ".text.init 0x00000000 0
+.text 0x00000000 4
 00000000: 13 05 25 00
 .rodata 0x00001000 0
 .data 0x00001000 0
@@ -33,7 +34,8 @@ faults 0
 ";
 
 // What is shown of a text that only defines the symbol.
-const SYMBOL_ALONE: &str = ".text 0x00000000 0
+const SYMBOL_ALONE: &str = ".text.init 0x00000000 0
+.text 0x00000000 0
 .rodata 0x00000000 0
 .data 0x00000000 0
 .sdata 0x00000000 0
