@@ -1,2 +1,3 @@
 pub mod GivenNames
+pub mod ShownTables
 pub mod Tables

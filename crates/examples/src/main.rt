@@ -20,6 +20,7 @@ mod statements;
 mod streams;
 mod table;
 mod table_items;
+mod table_view;
 mod trees;
 
 use row::parts_of;

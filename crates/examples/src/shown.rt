@@ -36,10 +36,10 @@ fn write<W: Sink>(kind: Kind, table: &Table<'_>, sink: &mut W) -> Result<(), Lis
     requires { W.failures sink.old < 2 ^ 64 - 1 }
 {
     match kind {
-        Kind::Image => write_image(table, sink),
-        Kind::Listing => write_listing(table, sink),
-        Kind::Symbols => write_symbols(table, sink),
-        Kind::Faults => write_faults(table, sink),
+        Kind::Image => write_image(&table, sink),
+        Kind::Listing => write_listing(&table, sink),
+        Kind::Symbols => write_symbols(&table, sink),
+        Kind::Faults => write_faults(&table, sink),
     }
 }
 
@@ -82,7 +82,7 @@ pub fn bytes_of_section(alloc: Global, arguments: &str) -> Result<String, Fail> 
     if section >= SECTIONS {
         return Err(Fail::new("no section"));
     }
-    let bytes = section_bytes(alloc, &table_of(alloc, items)?, section)?;
+    let bytes = section_bytes(alloc, &&table_of(alloc, items)?, section)?;
     in_brackets(alloc, bytes.as_slice())
 }
 

@@ -1,14 +1,13 @@
-//! Texts whose lines, sections and names are given, as views.
+//! Texts whose lines, sections and names are given.
 
-ghost use Rattle.std.specs.Prelude.{◌≡◌, ◌≤◌, ◌<◌, ◌-◌, length, map, get_or};
+ghost use Rattle.std.specs.Prelude.{◌≡◌, ◌≤◌, ◌<◌, length, get_or};
 ghost use Rattle.rv_layout.specs.Sections.{sections};
-ghost use Rattle.rv_list.specs.Shown.{Shown, shown_line};
-ghost use Rattle.examples.specs.Tables.{no_line, no_section, known};
+ghost use Rattle.examples.specs.Tables.{no_section, known};
 
 use crate::defined::Defined;
 use rv_fix::Coded;
 use rv_layout::SECTIONS;
-use rv_list::{DefinitionPlace, LinePlace, LineView, SectionPlace, View};
+use rv_list::{DefinitionPlace, LinePlace, SectionPlace};
 use rv_stmt::Stmt;
 
 /// A line with what is shown of it.
@@ -43,38 +42,19 @@ fn known(mut names: &[Defined<'_>], name: &[u8]) -> (DefinitionPlace, Option<i64
     (DefinitionPlace::Nowhere, None)
 }
 
-impl<'a> View for Table<'a> {
-    ghost shown = { λ t. record {
-      count = length t.rows.items;
-      line = λ k. get_or (map (λ r. record { text = r.text.now; stmt = r.stmt; place = r.place; code = r.code }) t.rows.items) (k - 1) no_line;
-      section = λ s. get_or t.sections s no_section;
-      definition = λ name. (known t.names.items name).0;
-      value = λ name. (known t.names.items name).1;
-    } };
-
-    fn line_count(&self) -> u32 {
-        self.rows.len() as u32
-    }
-
-    fn line(&self, k: u32) -> LineView<'_> {
-        let row = &self.rows[k as usize - 1];
-        LineView {
-            text: row.text.as_bytes(),
-            stmt: &row.stmt,
-            place: row.place,
-            code: &row.code,
-        }
-    }
-
-    fn section(&self, section: usize) -> SectionPlace {
+impl Table<'_> {
+    /// Where a section lies, by its number.
+    pub fn section_place(&self, section: usize) -> SectionPlace
+        requires { section < sections }
+        ensures { result ≡ get_or self.now.sections section no_section }
+    {
         self.sections[section]
     }
 
-    fn definition(&self, name: &[u8]) -> DefinitionPlace {
-        known(self.names.as_slice(), name).0
-    }
-
-    fn value(&self, name: &[u8]) -> Option<i64> {
-        known(self.names.as_slice(), name).1
+    /// Where a name is defined, and its value.
+    pub fn known(&self, name: &[u8]) -> (DefinitionPlace, Option<i64>)
+        ensures { result ≡ known self.now.names.items name.now }
+    {
+        known(self.names.as_slice(), name)
     }
 }

@@ -20,7 +20,7 @@ pub fn bytes_of_section(alloc: Global) -> Answer {
     {
         return Answer::Refused;
     }
-    match section_bytes(alloc, &store, TEXT) {
+    match section_bytes(alloc, &&store, TEXT) {
         Ok(bytes) => Answer::of(bytes.as_slice() == [0x13, 0x05, 0x15, 0x00].as_slice()),
         Err(_) => Answer::Refused,
     }

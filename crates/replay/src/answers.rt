@@ -91,7 +91,7 @@ pub fn token_count(alloc: Global, store: &Store, place: u32) -> Result<String, F
 /// How many bytes the faults take as text, and their hash.
 pub fn fault_hash(alloc: Global, store: &Store) -> Result<String, Fail> {
     let mut sink = MemSink::new(alloc, 1_000_000)?;
-    write_faults(store, &mut sink)?;
+    write_faults(&store, &mut sink)?;
     let bytes = sink.bytes();
     Ok(format!(in alloc; "{} bytes, {:016x}", bytes.len(), hash_of(bytes))?)
 }

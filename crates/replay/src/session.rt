@@ -36,10 +36,10 @@ fn counts_of(row: &str) -> Option<[u64; 3]> {
 fn write_pages<W: Write>(store: &Store, sink: &mut StdSink<W>) -> Result<(), ListError>
     requires { sink.old.failures ≡ 0 }
 {
-    write_image(store, sink)?;
-    write_symbols(store, sink)?;
-    write_listing(store, sink)?;
-    write_faults(store, sink)
+    write_image(&store, sink)?;
+    write_symbols(&store, sink)?;
+    write_listing(&store, sink)?;
+    write_faults(&store, sink)
 }
 
 // Prints a line with its address and code.
@@ -68,7 +68,7 @@ fn show(rt: &HostRuntime, store: &Store) -> Result<(), Fail> {
 // Prints the faults.
 fn show_faults(rt: &HostRuntime, store: &Store) -> Result<(), Fail> {
     let mut sink = StdSink::new(io::writer(rt));
-    write_faults(store, &mut sink)?;
+    write_faults(&store, &mut sink)?;
     Ok(())
 }
 

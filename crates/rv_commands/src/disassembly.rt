@@ -23,7 +23,7 @@ pub fn section_rows(alloc: Global, store: &Store, section: Sect) -> Result<Vec<D
     ensures { IfOk result (λ rows. ShowsSection (shown_of store.now) section rows.items) }
 {
     let number = section_number(section);
-    let bytes = section_bytes(alloc, store, number)?;
+    let bytes = section_bytes(alloc, &store, number)?;
     disassemble(alloc, bytes.as_slice(), store.section(number).base)
 }
 

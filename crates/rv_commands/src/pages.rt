@@ -82,10 +82,10 @@ pub fn write_page<W: Sink>(page: Page, store: &Store, sink: &mut W) -> Result<()
     ensures count { W.failures sink.new ≡ failures_after (W.failures sink.old) result }
 {
     match page {
-        Page::Image => write_image(store, sink),
-        Page::Listing => write_listing(store, sink),
-        Page::Symbols => write_symbols(store, sink),
-        Page::Faults => write_faults(store, sink),
+        Page::Image => write_image(&store, sink),
+        Page::Listing => write_listing(&store, sink),
+        Page::Symbols => write_symbols(&store, sink),
+        Page::Faults => write_faults(&store, sink),
         Page::Lines => write_text(store, sink),
     }
 }

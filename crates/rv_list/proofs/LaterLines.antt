@@ -1,11 +1,11 @@
 -- The bytes of a section, line by line.
-use Rattle.std.proofs.Common.{◌≡◌, ℕ, zero, suc, ◌+◌, ◌-◌, ◌<◌, ◌≤◌, ◌⊎◌, inl, inr, List, [], ◌++◌, length, drop, get_or, Some, None, Option, refl, ap, sym, ◌∙◌, arith, append_assoc, add-one}
+use Rattle.std.proofs.Common.{◌≡◌, ℕ, zero, suc, ◌+◌, ◌-◌, ◌<◌, ◌≤◌, ◌⊎◌, inl, inr, List, [], ◌++◌, length, drop, get_or, Some, None, Option, refl, ap, sym, ◌∙◌, arith, append_assoc}
 use Rattle.std.proofs.lemmas.List.{append-nil, drop_all}
 use Rattle.std.proofs.lemmas.Option.{slice_get_cases, none-some}
-use Rattle.std.specs.Prelude.{slice_get, unwrap_or}
-use Rattle.rv_list.specs.Image.{bytes_in, section_bytes}
+use Rattle.std.specs.Prelude.{slice_get}
+use Rattle.rv_list.specs.Image.{section_bytes}
 use Rattle.rv_list.specs.Joined.{joined}
-use Rattle.rv_list.specs.Later.{later, bytes_after, bytes_left}
+use Rattle.rv_list.specs.Later.{later, bytes_after, bytes_of_last, bytes_left}
 use Rattle.rv_list.specs.Shown.{Shown}
 
 -- one more at the end
@@ -40,8 +40,8 @@ all_taken bytes taken none = at (slice_get_cases bytes taken).1
     at (inr (l, e)) = drop_all taken bytes l
 
 -- all of a line is taken, so that the next one comes
-pub next_line : (shown : Shown) (t passed taken : ℕ) (payload next : Option (List ℕ)) → None ≡ slice_get (unwrap_or payload []) taken → passed < shown.count → unwrap_or next [] ≡ bytes_in t (shown.line (passed + 1)) → bytes_left shown t (passed + 1) 0 next ≡ bytes_left shown t passed taken payload
-next_line shown t passed taken payload next none within e =
-    let rest = shown.count - (passed + 1) in
-    let count : shown.count - passed ≡ suc rest = omega (arith, within) in
-    rw (e, all_taken (unwrap_or payload []) taken none, count, add-one) refl
+pub next_line : (shown : Shown) (t passed taken : ℕ) → None ≡ slice_get (bytes_of_last shown t passed) taken → passed < shown.count → bytes_left shown t (passed + 1) 0 ≡ bytes_left shown t passed taken
+next_line shown t passed taken none within =
+    let one : passed + 1 ≡ suc passed = omega arith in
+    let count : shown.count - passed ≡ suc (shown.count - suc passed) = omega (arith, within) in
+    rw (one, all_taken (bytes_of_last shown t passed) taken none, count) refl

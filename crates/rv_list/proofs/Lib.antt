@@ -10,3 +10,4 @@ pub mod Sections
 pub mod Slices
 pub mod SymbolRows
 pub mod Written
+pub mod PassedLines

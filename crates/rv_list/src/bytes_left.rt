@@ -4,8 +4,10 @@ ghost use Rattle.std.specs.Prelude.{◌≡◌, ◌∷◌, [], ◌+◌, ◌-◌, 
 ghost use Rattle.std.specs.Option.{option_map};
 ghost use Rattle.rv_layout.specs.Sections.{sections};
 ghost use Rattle.rv_list.specs.Image.{bytes_in, section_bytes};
+ghost use Rattle.rv_list.specs.Later.{bytes_of_last};
+ghost use Rattle.rv_list.specs.Shown.{shown_line};
 
-use crate::view::{View, shows_bytes};
+use crate::view::{LineSource, LineView, View, shows_bytes};
 use arrayvec::ArrayVec;
 use rv_fix::Payload;
 use rv_layout::section_number;
@@ -14,27 +16,24 @@ use std::marker::Model;
 
 /// The bytes of a section that are left to take from some lines. Contracts see the list of them.
 #[derive(Drop)]
-pub struct SectionBytes<'a, V: View> {
-    view: &'a V,
+pub struct SectionBytes<V: View> {
+    lines: V::Lines,
     section: usize,
     count: u32,
-    // How many lines were passed.
+    // How many lines were passed, and how many bytes of the last of them are taken.
     passed: u32,
-    // The bytes of the last of them, if it lies in the section, and how many of these are taken.
-    payload: Option<&'a Payload>,
     taken: usize,
 }
 
-impl<'a, V: View> Model for SectionBytes<'a, V> {
+impl<V: View> Model for SectionBytes<V> {
     ghost use Rattle.std.specs.Prelude.{ℕ, List, ◌≡◌, ◌≤◌};
-    ghost use Rattle.std.specs.Option.{option_map};
     ghost use Rattle.rv_list.specs.Later.{bytes_left};
 
     ghost Value = { List ℕ };
 
-    ghost view = { λ b. bytes_left (V.shown b.view.now) b.section b.passed b.taken (option_map (λ p. p.now) b.payload) };
+    ghost view = { λ b. bytes_left (V.Lines.shown b.lines) b.section b.passed b.taken };
 
-    ghost invariant = { λ b. (b.count ≡ (V.shown b.view.now).count) × (b.passed ≤ b.count) };
+    ghost invariant = { λ b. (b.passed ≡ V.Lines.passed b.lines) × (b.count ≡ (V.Lines.shown b.lines).count) × (b.passed ≤ b.count) };
 }
 
 // The byte at a place of a payload, if there is one.
@@ -49,13 +48,10 @@ fn byte_at(payload: Option<&Payload>, place: usize) -> Option<u8>
     payload.byte(place)
 }
 
-// The bytes of line number `k`, if it lies in the section.
-fn payload_on<V: View>(view: &V, section: usize, k: u32) -> Option<&Payload>
-    requires first { 1 ≤ k }
-    requires last { k ≤ (V.shown view.now).count }
-    ensures { unwrap_or (option_map (λ p. p.now) result) [] ≡ bytes_in section ((V.shown view.now).line k) }
+// The bytes of a line, if it lies in the section.
+fn payload_in<'a>(line: &LineView<'a>, section: usize) -> Option<&'a Payload>
+    ensures { unwrap_or (option_map (λ p. p.now) result) [] ≡ bytes_in section (shown_line line.now) }
 {
-    let line = view.line(k);
     if section_number(line.place.section) == section {
         Some(&line.code.payload)
     } else {
@@ -63,17 +59,28 @@ fn payload_on<V: View>(view: &V, section: usize, k: u32) -> Option<&Payload>
     }
 }
 
-impl<'a, V: View> SectionBytes<'a, V> {
+// The byte at a place among those that the last of so many lines has in a section, if there is one.
+fn byte_of_last<L: LineSource>(lines: &L, section: usize, passed: u32, place: usize) -> Option<u8>
+    requires { passed ≡ L.passed lines.now }
+    ensures value { result ≡ slice_get (bytes_of_last (L.shown lines.now) section passed) place }
+    ensures within { IfSome result (λ _. place < 2 ^ 64 - 1) }
+{
+    if passed == 0 {
+        return None;
+    }
+    byte_at(payload_in(&lines.line(), section), place)
+}
+
+impl<V: View> SectionBytes<V> {
     /// All bytes of the section.
-    pub fn new(view: &'a V, section: usize) -> Self
+    pub fn new(view: &V, section: usize) -> Self
         ensures { result ≡ section_bytes (V.shown view.now) section }
     {
         SectionBytes {
-            view,
+            lines: view.lines(),
             section,
             count: view.line_count(),
             passed: 0,
-            payload: None,
             taken: 0,
         }
     }
@@ -84,15 +91,15 @@ impl<'a, V: View> SectionBytes<'a, V> {
         ensures end { IfNone result ((self.old ≡ []) × (self.new ≡ [])) }
     {
         'finding: loop {
-            if let Some(byte) = byte_at(self.payload, self.taken) {
+            if let Some(byte) = byte_of_last(&self.lines, self.section, self.passed, self.taken) {
                 self.taken += 1;
                 return Some(byte);
             }
             if self.passed == self.count {
                 return None;
             }
+            self.lines.advance();
             self.passed += 1;
-            self.payload = payload_on(self.view, self.section, self.passed);
             self.taken = 0;
         }
     }
@@ -124,18 +131,11 @@ fn shown_size<V: View>(view: &V, section: usize) -> usize
     }
 }
 
-// Appends the bytes that line number `k` has in a section.
-fn append_line<V: View>(
-    bytes: &mut Vec<u8>,
-    view: &V,
-    section: usize,
-    k: u32,
-) -> Result<(), AllocError>
-    requires first { 1 ≤ k }
-    requires last { k ≤ (V.shown view.now).count }
-    ensures { OnOk result (bytes.new.items ≡ bytes.old.items ++ bytes_in section ((V.shown view.now).line k)) }
+// Appends the bytes that a line has in a section.
+fn append_line(bytes: &mut Vec<u8>, line: &LineView<'_>, section: usize) -> Result<(), AllocError>
+    ensures { OnOk result (bytes.new.items ≡ bytes.old.items ++ bytes_in section (shown_line line.now)) }
 {
-    match payload_on(view, section, k) {
+    match payload_in(line, section) {
         Some(payload) => payload.append_to(bytes),
         None => Ok(()),
     }
@@ -155,8 +155,10 @@ pub fn section_bytes<V: View>(
     ensures { IfOk result (λ bytes. bytes.items ≡ section_bytes (V.shown view.now) section) }
 {
     let mut bytes = Vec::with_capacity(alloc, shown_size(view, section))?;
+    let mut lines = view.lines();
     for k in 0..view.line_count() {
-        append_line(&mut bytes, view, section, k + 1)?;
+        lines.advance();
+        append_line(&mut bytes, &lines.line(), section)?;
     }
     Ok(bytes)
 }

@@ -9,7 +9,7 @@ ghost use Rattle.rv_list.specs.Shown.{shown_line};
 
 use crate::error::ListError;
 use crate::rows::{push_count, push_field};
-use crate::view::{LinePlace, LineView, View, shows_bytes};
+use crate::view::{LinePlace, LineSource, LineView, View, shows_bytes};
 use arrayvec::ArrayVec;
 use rv_fix::Payload;
 use rv_layout::section_number;
@@ -184,8 +184,10 @@ fn count_faults<V: View>(view: &V) -> u32
 {
     let mut faults = ArrayVec::new();
     let mut count = 0;
+    let mut lines = view.lines();
     for k in 0..view.line_count() {
-        find_faults(&mut faults, view, k + 1, &view.line(k + 1));
+        lines.advance();
+        find_faults(&mut faults, view, k + 1, &lines.line());
         count += faults.len() as u32;
     }
     count
@@ -290,8 +292,10 @@ fn push_fault_rows<V: View, W: Sink>(
     ensures count { W.failures sink.new ≡ failures_after (W.failures sink.old) result }
 {
     let mut faults = ArrayVec::new();
+    let mut lines = view.lines();
     for k in 0..view.line_count() {
-        find_faults(&mut faults, view, k + 1, &view.line(k + 1));
+        lines.advance();
+        find_faults(&mut faults, view, k + 1, &lines.line());
         push_line_faults(block, sink, k + 1, faults.as_slice())?;
     }
     Ok(())

@@ -61,10 +61,10 @@ fn push_byte_rows<V: View, W: Sink>(
     block: &mut OutputBlock,
     sink: &mut W,
     start: u32,
-    mut bytes: SectionBytes<'_, V>,
+    mut bytes: SectionBytes<V>,
 ) -> Result<(), Failed>
     requires { W.failures sink.old < 2 ^ 64 - 1 }
-    ensures text { Gathers (W.taken sink.old) block.old (byte_rows start bytes.entry) result (W.taken sink.new) block.new }
+    ensures text { Gathers (W.taken sink.old) block.old (byte_rows start bytes) result (W.taken sink.new) block.new }
     ensures count { W.failures sink.new ≡ failures_after (W.failures sink.old) result }
 {
     let mut address = start;

@@ -17,4 +17,4 @@ pub use image::write_image;
 pub use listing::write_listing;
 pub use rows::push_row;
 pub use symbols::write_symbols;
-pub use view::{DefinitionPlace, LinePlace, LineView, SectionPlace, View};
+pub use view::{DefinitionPlace, LinePlace, LineSource, LineView, SectionPlace, View};

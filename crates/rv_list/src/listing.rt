@@ -10,7 +10,7 @@ ghost use Rattle.rv_list.specs.Shown.{shown_line};
 
 use crate::error::ListError;
 use crate::rows::{push_count, push_right, push_row, push_spaces};
-use crate::view::{LineView, View, shows_bytes};
+use crate::view::{LineSource, LineView, View, shows_bytes};
 use arrayvec::ArrayVec;
 use rv_fix::Payload;
 use rv_layout::section_number;
@@ -119,8 +119,10 @@ fn push_listing_rows<V: View, W: Sink>(
     ensures text { Gathers (W.taken sink.old) block.old (concat (listing_rows (V.shown view.now))) result (W.taken sink.new) block.new }
     ensures count { W.failures sink.new ≡ failures_after (W.failures sink.old) result }
 {
+    let mut lines = view.lines();
     for k in 0..view.line_count() {
-        push_listing_row(block, sink, k + 1, &view.line(k + 1))?;
+        lines.advance();
+        push_listing_row(block, sink, k + 1, &lines.line())?;
     }
     Ok(())
 }

@@ -9,7 +9,7 @@ ghost use Rattle.rv_list.specs.Symbols.{label_columns, label_row, value_text, eq
 
 use crate::error::ListError;
 use crate::rows::{push_count, push_field, push_number, push_row};
-use crate::view::{LineView, View};
+use crate::view::{LineSource, LineView, View};
 use rv_stmt::{Body, Label, LabelName};
 use rv_text::{Failed, OutputBlock, OutputRow, Sink};
 
@@ -145,8 +145,10 @@ fn count_symbols<V: View>(view: &V) -> u32
     ensures { result ≡ length (symbol_rows (V.shown view.now)) }
 {
     let mut count = 0;
+    let mut lines = view.lines();
     for k in 0..view.line_count() {
-        count += count_line(view, k + 1, &view.line(k + 1));
+        lines.advance();
+        count += count_line(view, k + 1, &lines.line());
     }
     count
 }
@@ -248,8 +250,10 @@ fn push_symbol_rows<V: View, W: Sink>(
     ensures text { Gathers (W.taken sink.old) block.old (concat (symbol_rows (V.shown view.now))) result (W.taken sink.new) block.new }
     ensures count { W.failures sink.new ≡ failures_after (W.failures sink.old) result }
 {
+    let mut lines = view.lines();
     for k in 0..view.line_count() {
-        push_line_symbols(block, sink, view, k + 1, &view.line(k + 1))?;
+        lines.advance();
+        push_line_symbols(block, sink, view, k + 1, &lines.line())?;
     }
     Ok(())
 }

@@ -1,6 +1,6 @@
 //! What a text has to tell for it to be shown.
 
-ghost use Rattle.std.specs.Prelude.{◌≡◌, ◌≤◌, ◌<◌, length};
+ghost use Rattle.std.specs.Prelude.{◌≡◌, ℕ, ◌+◌, ◌≤◌, ◌<◌, length};
 ghost use Rattle.rv_layout.specs.Sections.{sections};
 ghost use Rattle.rv_list.specs.Shown.{Shown, shown_line, is_label, is_equ, shows_bytes};
 
@@ -74,23 +74,45 @@ pub struct LineView<'a> {
     pub code: &'a Coded,
 }
 
+/// The lines of a text, one after another, from the first one on.
+pub trait LineSource: Drop {
+    /// The text.
+    ghost shown: { Self → Shown };
+
+    /// How many of its lines were passed.
+    ghost passed: { Self → ℕ };
+
+    /// Goes on to the next line. There has to be one.
+    fn advance(&mut self)
+        requires { passed self.old < (shown self.old).count }
+        ensures text { shown self.new ≡ shown self.old }
+        ensures passed { passed self.new ≡ passed self.old + 1 };
+
+    /// The line that was passed last. There has to be one; a line has at most 1,000 labels.
+    fn line(&self) -> LineView<'_>
+        requires { 1 ≤ passed self.now }
+        ensures value { shown_line result ≡ (shown self.now).line (passed self.now) }
+        ensures few { length result.stmt.now.labels ≤ 1000 };
+}
+
 /// A text that can be shown. Its lines are counted from 1; its sections have numbers, from 0 on, in the order in which they
 /// lie in memory.
 pub trait View {
     /// What is shown.
     ghost shown: { Self → Shown };
 
+    /// Its lines in order.
+    type Lines: LineSource;
+
     /// How many lines there are: at most 16,384.
     fn line_count(&self) -> u32
         ensures value { result ≡ (shown self.now).count }
         ensures few { result ≤ 16384 };
 
-    /// Line number `k`, which has to be one: a line has at most 1,000 labels.
-    fn line(&self, k: u32) -> LineView<'_>
-        requires first { 1 ≤ k }
-        requires last { k ≤ (shown self.now).count }
-        ensures value { shown_line result ≡ (shown self.now).line k }
-        ensures few { length result.stmt.now.labels ≤ 1000 };
+    /// The lines, from the first one on.
+    fn lines(&self) -> Self::Lines
+        ensures text { Self.Lines.shown result ≡ shown self.now }
+        ensures first { Self.Lines.passed result ≡ 0 };
 
     /// Where a section lies, by its number.
     fn section(&self, section: usize) -> SectionPlace

@@ -44,6 +44,7 @@ pub mod NameRows
 pub mod NameSets
 pub mod NextHighs
 pub mod OnlySymbols
+pub mod PassedItems
 pub mod Programs
 pub mod RenewalRuns
 pub mod Sameness

@@ -5,7 +5,7 @@ use Rattle.std.specs.Option.{option_map}
 use Rattle.std.proofs.lemmas.Bool.{cases_lt, ne_eqb}
 use Rattle.std.proofs.lemmas.Bool.Decides.{nat_tests}
 use Rattle.std.proofs.lemmas.Grind.{common_steps}
-use Rattle.std.proofs.lemmas.Option.{slice_get-get_or, slice_get_past, slice_get-map, slice_get_cases, get_or_from_slice_get, none-some}
+use Rattle.std.proofs.lemmas.Option.{slice_get-get_or, slice_get_past, slice_get-map}
 use Rattle.rv_store.specs.declared.survey.Survey.{Survey}
 use Rattle.rv_store.specs.Program.{Program, for_lines}
 use Rattle.rv_store.specs.Rows.{Grows}
@@ -68,24 +68,6 @@ part_at_line lines f v items zero made = refl
 part_at_line lines f v items (suc j) made =
     let there : (if suc j == 0 then None else slice_get (map v items) (suc j - 1)) ≡ at_line lines (suc j) (f (suc j)) = row_at_line lines f (map v items) (suc j) made in
     rw (past_zero j) (sym (slice_get-map v items (suc j - 1)) ∙ rw (past_zero j) at there)
-
--- a look-up of a line that there is finds it
-
-pub found_line : {A : Type 0} (xs : List A) (k : ℕ) (x : A) → 1 ≤ k → Some x ≡ (if k == 0 then None else slice_get xs (k - 1)) → x ≡ get_or xs (k - 1) x
-found_line xs zero x first found = absurd (let no : 1 ≤ 0 = first in omega (arith, no))
-found_line xs (suc j) x first found = sym (get_or_from_slice_get xs (suc j - 1) x x (sym (rw (past_zero j) at found)))
-
-pub line_in_list : {A : Type 0} (xs : List A) (k : ℕ) (x : A) → 1 ≤ k → Some x ≡ (if k == 0 then None else slice_get xs (k - 1)) → slice_get xs (k - 1) ≡ Some x
-line_in_list xs zero x first found = absurd (let no : 1 ≤ 0 = first in omega (arith, no))
-line_in_list xs (suc j) x first found = sym (rw (past_zero j) at found)
-
-pub missing_line : {A : Type 0} (xs : List A) (k : ℕ) → 1 ≤ k → k ≤ length xs → None ≡ (if k == 0 then None else slice_get xs (k - 1)) → ⊥
-missing_line xs zero first last missing = absurd (let no : 1 ≤ 0 = first in omega (arith, no))
-missing_line xs (suc j) first last missing = at (slice_get_cases xs (suc j - 1)).1
-  where
-    at : ((x : _) × (suc j - 1 < length xs) × (slice_get xs (suc j - 1) ≡ Some x) × (get_or xs (suc j - 1) x ≡ x)) ⊎ ((length xs ≤ suc j - 1) × (slice_get xs (suc j - 1) ≡ None)) → ⊥
-    at (inl there) = none-some there.0 (rw (past_zero j) at missing ∙ there.2)
-    at (inr past) = absurd (omega (arith, last, past.0))
 
 -- what is asked of a line that there is, and of one that there isn't
 

@@ -29,6 +29,7 @@ pub mod Locals
 pub mod NameSets
 pub mod NextHighs
 pub mod Pairs
+pub mod Passed
 pub mod Program
 pub mod ReadLines
 pub mod References

@@ -6,3 +6,5 @@ pub mod Root
 pub mod Shape
 pub mod SumLaws
 pub mod Sums
+pub mod Items
+pub mod ItemLaws

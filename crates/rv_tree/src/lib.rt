@@ -5,6 +5,7 @@
 mod balance;
 mod edits;
 mod error;
+mod items;
 mod limits;
 mod look_up;
 mod node;
@@ -14,6 +15,7 @@ mod sums;
 mod tree;
 
 pub use error::TreeError;
+pub use items::Items;
 pub use limits::{MAX_HEIGHT, MAX_ITEMS};
 pub use passes::Pass;
 pub use sums::{Joined, Summed};

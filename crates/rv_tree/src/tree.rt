@@ -7,6 +7,7 @@ ghost use Rattle.rv_tree.specs.Refusals.{insert_refusal, place_refusal};
 ghost use Rattle.rv_tree.specs.Sums.{total, AllSums};
 
 use crate::error::TreeError;
+use crate::items::Items;
 use crate::limits::{MAX_HEIGHT, MAX_ITEMS};
 use crate::node::Subtree;
 use crate::passes::Pass;
@@ -75,6 +76,16 @@ impl<T: Summed> SumTree<T> {
         }
         let root: &Subtree<T> = self.root.as_ref()?;
         Some(root.get(k - 1))
+    }
+
+    /// The items in order.
+    pub fn iter(&self) -> Items<'_, T>
+        ensures { result ≡ self.now.items }
+    {
+        let Some(root) = &self.root else {
+            return Items::new();
+        };
+        Items::of(root)
     }
 
     /// The sum of the first `k` items. There have to be so many.

@@ -1,46 +1,97 @@
 //! What a store shows of its text.
 
 ghost use Rattle.std.specs.Prelude.{◌≡◌, ◌≤◌, length};
-ghost use Rattle.rv_store.specs.Items.{IsItem};
+ghost use Rattle.rv_store.specs.Layout.{place_at};
+ghost use Rattle.rv_store.specs.Program.{program_of};
 ghost use Rattle.rv_store.specs.Shown.{shown_of};
 
 use crate::item::Item;
 use crate::names::entry_of;
 use crate::store::Store;
 use rv_expr::ValueFault;
-use rv_list::{DefinitionPlace, LineView, SectionPlace, View};
+use rv_list::{DefinitionPlace, LinePlace, LineSource, LineView, SectionPlace, View};
+use rv_tree::Items;
+use std::marker::Model;
 
-impl Store {
-    // What is kept of line number `k`.
-    #[tactic(auto, using(crate::proofs::Items::item_of_line))]
-    fn item(&self, k: u32) -> &Item
-        requires first { 1 ≤ k }
-        requires last { k ≤ length self.now.lines }
-        ensures { IsItem self.now.base self.now.lines k result.now }
-    {
-        let Some(item) = self.items.get(k) else {
+/// The lines of a store, one after another, from the first one on. Contracts see how many were passed.
+#[derive(Drop)]
+pub struct StoreLines<'a> {
+    store: &'a Store,
+    left: Items<'a, Item>,
+    last: Option<&'a Item>,
+    passed: u32,
+}
+
+impl<'a> Model for StoreLines<'a> {
+    ghost use Rattle.std.specs.Option.{option_map};
+    ghost use Rattle.rv_store.specs.Passed.{PassedLines, ArePassed};
+
+    ghost Value = { PassedLines };
+
+    ghost view = { λ s. record { text = s.store.now; count = s.passed } };
+
+    ghost invariant = { λ s. ArePassed s.store.now.base s.store.now.lines s.passed (option_map (λ i. i.now) s.last) s.left };
+}
+
+impl LineSource for StoreLines<'_> {
+    ghost shown = { λ l. shown_of l.text };
+
+    ghost passed = { λ l. l.count };
+
+    fn advance(&mut self) {
+        self.last = self.left.next();
+        self.passed += 1;
+    }
+
+    fn line(&self) -> LineView<'_> {
+        let Some(item) = self.last else {
             unreachable!()
         };
-        item
+        item.line.labels_are_few();
+        LineView {
+            text: item.line.text(),
+            stmt: item.line.stmt(),
+            place: self.store.place(self.passed),
+            code: &item.code,
+        }
     }
 }
 
-impl View for Store {
-    ghost shown = { λ text. shown_of text };
+impl Store {
+    // Where line number `k` lies.
+    fn place(&self, k: u32) -> LinePlace
+        requires first { 1 ≤ k }
+        requires last { k ≤ length self.now.lines }
+        ensures { result ≡ place_at self.now.base (program_of self.now.lines) k }
+    {
+        self.survey.places[k as usize - 1]
+    }
+
+    // Its lines.
+    fn passing(&self) -> StoreLines<'_>
+        ensures { result ≡ record { text = self.now; count = 0 } }
+    {
+        StoreLines {
+            store: self,
+            left: self.items.iter(),
+            last: None,
+            passed: 0,
+        }
+    }
+}
+
+impl<'a> View for &'a Store {
+    ghost shown = { λ store. shown_of store.now };
+
+    type Lines = StoreLines<'a>;
 
     fn line_count(&self) -> u32 {
         self.len() as u32
     }
 
-    fn line(&self, k: u32) -> LineView<'_> {
-        let item = self.item(k);
-        item.line.labels_are_few();
-        LineView {
-            text: item.line.text(),
-            stmt: item.line.stmt(),
-            place: self.survey.places[k as usize - 1],
-            code: &item.code,
-        }
+    fn lines(&self) -> StoreLines<'a> {
+        let store: &'a Store = *self;
+        store.passing()
     }
 
     fn section(&self, section: usize) -> SectionPlace {

@@ -8,4 +8,4 @@ unfolding section_bytes
 returns g c =
     let shown = g.V.View.shown c.args.view.now in
     let all : c.loop-k.k ≡ shown.count = omega (arith, c.line_count-k-end.ensures.value) in
-    c.loop-k.invariant ∙ ap (joined (λ k. bytes_in c.args.section (shown.line (k + 1)))) all
+    c.loop-k.invariant.bytes ∙ ap (joined (λ k. bytes_in c.args.section (shown.line (k + 1)))) all

@@ -5,4 +5,8 @@ use Rattle.rv_list.proofs.bytes_left.section_bytes.Given as goal
 
 -- the bytes of the lines so far
 abbrev pub invariant-loop-k : goal.invariant-loop-k
-invariant-loop-k g l = l.bytes.items ≡ joined (λ k. bytes_in l.section ((g.V.View.shown l.view).line (k + 1))) l.k
+invariant-loop-k g l = record {
+  bytes : l.bytes.items ≡ joined (λ k. bytes_in l.section ((g.V.View.shown l.view).line (k + 1))) l.k;
+  text : g.V.Lines.LineSource.shown l.lines ≡ g.V.View.shown l.view;
+  passed : g.V.Lines.LineSource.passed l.lines ≡ l.k;
+}

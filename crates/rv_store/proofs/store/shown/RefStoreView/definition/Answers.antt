@@ -1,5 +1,5 @@
 use Rattle.std.proofs.Common.{ap, ◌∙◌}
-use Rattle.rv_store.proofs.store.shown.StoreView.definition.Goals as goal
+use Rattle.rv_store.proofs.store.shown.RefStoreView.definition.Goals as goal
 
 pub returns : goal.returns
 returns c =
