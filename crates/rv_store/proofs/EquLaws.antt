@@ -1,5 +1,5 @@
 -- The values of `.equ`s, line by line, and the row of them.
-use Rattle.std.proofs.Common.{◌≡◌, ℕ, zero, suc, ◌+◌, ◌-◌, ◌<◌, ◌≤◌, Bool, true, false, List, length, set, replicate, if◌then◌else◌, Some, Err, arith, ap, sym, refl, ◌∙◌, ◌⊎◌, inl, inr}
+use Rattle.std.proofs.Common.{◌≡◌, ℕ, zero, suc, ◌+◌, ◌-◌, ◌<◌, ◌≤◌, Bool, true, false, List, length, set, replicate, if◌then◌else◌, Some, Err, arith, ap, sym, refl, subst, ◌∙◌, ◌⊎◌, inl, inr}
 use Rattle.std.proofs.lemmas.Bool.{cases_lt, ne_eqb}
 use Rattle.std.proofs.lemmas.List.{length-set, length-replicate}
 use Rattle.std.proofs.Math.Path.{fun_ext}
@@ -11,9 +11,11 @@ use Rattle.rv_fix.specs.Values.{Entry}
 use Rattle.rv_list.specs.declared.view.DefinitionPlace.TheVariants.{Equ}
 use Rattle.rv_store.specs.Constants.{defined_value}
 use Rattle.rv_store.specs.Definitions.{definition_of, is_equ_on}
+use Rattle.rv_store.specs.LinesWithout.{AreWithout}
 use Rattle.rv_store.specs.Program.{Program, body_at}
 use Rattle.rv_store.specs.References.{names_on, no_pairs, equ_value, symbol_through, usable_equs, references_at}
 use Rattle.rv_store.specs.Rows.{number_of, in_row, AreEquValues}
+use Rattle.rv_store.specs.Uses.{is_equ}
 use Rattle.rv_store.proofs.ConstantRows.{IsEquOf, is_equ_of, equ-defines}
 use Rattle.rv_store.proofs.DefinitionLaws.{is_equ_on-true}
 use Rattle.rv_store.proofs.NameRows.{row-set, row-empty}
@@ -107,3 +109,15 @@ equ_value-in_row base program k names row (suc i) d first last here defines are 
     ∙ equ_value-here base program i d.symbol defines
     ∙ ap (λ u. defined_value (names_on base program (suc i) (symbol_through base program u) no_pairs) (body_at program (suc i))) (sym usable)
     ∙ ap (defined_value (references_at base program (suc i))) here
+
+-- lines without an `.equ` leave the row
+pub equ_values-past : (base : ℕ) (program : Program) (i j : ℕ) (names : List (List ℕ)) (row : List Entry) → i ≤ j → AreWithout is_equ program i j → AreEquValues base program i names row → AreEquValues base program j names row
+equ_values-past base program i zero names row up passed are = subst (λ k. AreEquValues base program k names row) (let e : i ≡ 0 = omega (arith, up) in e) are
+equ_values-past base program i (suc j) names row up passed are = at (cases_lt j i) (λ above. equ_values-past base program i j names row above (record { each = λ k first last. passed.each k first (omega (arith, last)) }) are)
+  where
+    at : (j < i) ⊎ (i ≤ j) → (i ≤ j → AreEquValues base program j names row) → AreEquValues base program (suc j) names row
+    at (inl below) before = subst (λ k. AreEquValues base program k names row) (let e : i ≡ suc j = omega (arith, below, up) in e) are
+    at (inr above) before =
+        let none : is_equ (body_at program (suc j)) ≡ false = passed.each j above (omega arith) in
+        subst (λ k. AreEquValues base program k names row) (let e : j + 1 ≡ suc j = omega arith in e)
+        (equ_values-kept base program j names row (λ d is. absurd (let no : true ≡ false = sym (ap is_equ is) ∙ none in cc)) (before above))

@@ -34,6 +34,7 @@ pub mod KeptShapes
 pub mod LineNameLaws
 pub mod LinePairLaws
 pub mod LineSums
+pub mod LinesWithout
 pub mod ListedLines
 pub mod LastSymbols
 pub mod Lists

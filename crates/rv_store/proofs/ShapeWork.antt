@@ -18,7 +18,7 @@ operands-next operands program n =
     let next : n + 1 ≡ suc n = omega arith in
     ap (operands_through operands program) next ∙ ap (λ k. operands_through operands program n + operands (body_at program k)) (sym next)
 
-operands-more : (operands : Body → ℕ) (program : Program) (m n : ℕ) → m ≤ n → operands_through operands program m ≤ operands_through operands program n
+pub operands-more : (operands : Body → ℕ) (program : Program) (m n : ℕ) → m ≤ n → operands_through operands program m ≤ operands_through operands program n
 operands-more operands program m zero l =
     omega (arith, ap (operands_through operands program) (let e : m ≡ 0 = omega (arith, l) in e))
 operands-more operands program m (suc n) l = at (cases_lt n m) (operands-more operands program m n)

@@ -25,6 +25,7 @@ pub mod LinePairs
 pub mod LinesAhead
 pub mod LineSums
 pub mod Lines
+pub mod LinesWithout
 pub mod Locals
 pub mod NameSets
 pub mod NextHighs

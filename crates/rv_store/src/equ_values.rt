@@ -69,7 +69,8 @@ pub fn settle_equ<C: Count>(text: &TextRows<'_>, i: usize, row: &mut Vec<Entry>,
 }
 
 /// The values of the `.equ`s, by the numbers of their names. The counter's number of expressions computed rises by at most
-/// the operands of the `.equ`s. Fails only where there is no memory, before anything is computed.
+/// the operands of the `.equ`s. Fails only where there is no memory, before anything is computed. Lines without an `.equ` are
+/// gone past.
 pub fn equ_values<C: Count>(
     alloc: Global,
     text: &TextRows<'_>,
@@ -86,8 +87,10 @@ pub fn equ_values<C: Count>(
     ensures encoded { C.encoded_count counter.new ≡ C.encoded_count counter.old }
 {
     let mut row = vec![in alloc; Err(ValueFault::LaterEqu); text.names.len()]?;
-    for i in 0..text.lines.len() {
+    let mut i = text.lines.up_to_equ(0);
+    while i < text.lines.len() {
         settle_equ(text, i, &mut row, counter);
+        i = text.lines.up_to_equ(i + 1);
     }
     Ok(row)
 }

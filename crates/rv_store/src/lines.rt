@@ -1,6 +1,11 @@
 //! The lines of a text, in a column or in the items of a tree.
 
 ghost use Rattle.std.specs.Prelude.{◌≡◌, ◌≤◌, ◌-◌, length, map, get_or};
+ghost use Rattle.std.specs.Option.{is_some};
+ghost use Rattle.rv_store.specs.LinesWithout.{AreWithout};
+ghost use Rattle.rv_store.specs.Pairs.{pcrel_high_of};
+ghost use Rattle.rv_store.specs.Program.{program_of};
+ghost use Rattle.rv_store.specs.Uses.{is_equ};
 
 use crate::item::Item;
 use crate::line::Line;
@@ -29,6 +34,36 @@ impl<'a> Model for Lines<'a> {
     ghost Value = { List (List ℕ) };
 
     ghost view = { λ l. lines_in l.standing };
+}
+
+// How many lines come before the first `.equ` behind the first `i` lines.
+fn equ_from(lines: &[Line], i: usize) -> usize
+    requires within { i ≤ length lines.now }
+    ensures up { i ≤ result }
+    ensures within { result ≤ length lines.now }
+    ensures passed { AreWithout is_equ (program_of lines.now) i result }
+{
+    for k in i..lines.len() {
+        if lines[k].brief().equ {
+            return k;
+        }
+    }
+    lines.len()
+}
+
+// How many lines come before the first `auipc` with `%pcrel_hi` behind the first `i` lines.
+fn pcrel_high_from(lines: &[Line], i: usize) -> usize
+    requires within { i ≤ length lines.now }
+    ensures up { i ≤ result }
+    ensures within { result ≤ length lines.now }
+    ensures passed { AreWithout (λ b. is_some (pcrel_high_of b)) (program_of lines.now) i result }
+{
+    for k in i..lines.len() {
+        if lines[k].brief().pcrel_high {
+            return k;
+        }
+    }
+    lines.len()
 }
 
 impl<'a> Lines<'a> {
@@ -72,6 +107,33 @@ impl<'a> Lines<'a> {
                 Some(item) => &item.line,
                 None => unreachable!(),
             },
+        }
+    }
+    /// How many lines a loop over `.equ`s may go past that has gone past the first `i`: those of a column are looked at for
+    /// the next `.equ`.
+    pub(crate) fn up_to_equ(&self, i: usize) -> usize
+        requires within { i ≤ length self.now }
+        ensures up { i ≤ result }
+        ensures within { result ≤ length self.now }
+        ensures passed { AreWithout is_equ (program_of self.now) i result }
+    {
+        match self.standing {
+            Standing::Column(lines) => equ_from(lines, i),
+            Standing::Items(_) => i,
+        }
+    }
+
+    /// How many lines a loop over lines with `%pcrel_hi` may go past that has gone past the first `i`: those of a column are
+    /// looked at for the next one.
+    pub(crate) fn up_to_pcrel_high(&self, i: usize) -> usize
+        requires within { i ≤ length self.now }
+        ensures up { i ≤ result }
+        ensures within { result ≤ length self.now }
+        ensures passed { AreWithout (λ b. is_some (pcrel_high_of b)) (program_of self.now) i result }
+    {
+        match self.standing {
+            Standing::Column(lines) => pcrel_high_from(lines, i),
+            Standing::Items(_) => i,
         }
     }
 }

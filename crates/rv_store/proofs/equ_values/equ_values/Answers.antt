@@ -1,27 +1,54 @@
-use Rattle.std.proofs.Common.{◌≡◌, length, arith, subst, ◌∙◌}
+use Rattle.std.proofs.Common.{◌≡◌, ◌+◌, length, replicate, Err, rules, arith, ap, refl, subst, ◌∙◌}
+use Rattle.std.proofs.lemmas.List.{length-replicate}
+use Rattle.rv_expr.specs.declared.faults.ValueFault.TheVariants.{LaterEqu}
 use Rattle.rv_store.specs.TextRows.{program_in, AreEquValuesIn}
 use Rattle.rv_store.specs.Work.{equ_operands}
-use Rattle.rv_store.proofs.ShapeWork.{operands-next}
+use Rattle.rv_store.proofs.EquLaws.{equ_values-none, equ_values-past}
+use Rattle.rv_store.proofs.ShapeWork.{operands-next, operands-more}
 use Rattle.rv_store.proofs.equ_values.equ_values.Goals as goal
+
+pub loop-i-init : goal.loop-i-init
+loop-i-init g c =
+    let text = c.args.text.now in
+    let names = text.names.now in
+    let none : c.in_ok-row.row.items ≡ replicate (length names) (Err LaterEqu) = search rules in
+    let past = c.up_to_equ-i.ensures in
+    record {
+      within = past.within;
+      values = rw none (equ_values-past text.base (program_in text) 0 c.up_to_equ-i.result names (replicate (length names) (Err LaterEqu)) past.up past.passed (equ_values-none text.base (program_in text) names));
+      as_many = ap length none ∙ length-replicate (length names) (Err LaterEqu);
+      valued = omega arith;
+      valued_within = omega arith;
+      operands = omega arith;
+      parsed = refl;
+      encoded = refl;
+    }
 
 pub loop-i-preserved : goal.loop-i-preserved
 loop-i-preserved g c =
+    let text = c.args.text.now in
+    let program = program_in text in
     let before = c.loop-i.invariant in
-    let next = c.settle_equ.ensures in
+    let settled = c.settle_equ.ensures in
+    let past = c.up_to_equ-i-in-loop-i.ensures in
+    let i = c.loop-i.i in
+    let next = c.up_to_equ-i-in-loop-i.result in
+    let more = operands-more equ_operands program (i + 1) next past.up in
     record {
-      values = next.after;
-      as_many = next.as_many;
-      valued = omega (arith, before.valued, next.valued);
-      valued_within = omega (arith, before.valued_within, next.valued_within);
-      operands = omega (arith, before.operands, next.operands, operands-next equ_operands (program_in c.args.text.now) c.loop-i.i);
-      parsed = next.parsed ∙ before.parsed;
-      encoded = next.encoded ∙ before.encoded;
+      within = past.within;
+      values = equ_values-past text.base program (i + 1) next text.names.now c.settle_equ.new.row.items past.up past.passed settled.after;
+      as_many = settled.as_many;
+      valued = omega (arith, before.valued, settled.valued);
+      valued_within = omega (arith, before.valued_within, settled.valued_within, past.up);
+      operands = omega (arith, before.operands, settled.operands, operands-next equ_operands program i, more);
+      parsed = settled.parsed ∙ before.parsed;
+      encoded = settled.encoded ∙ before.encoded;
     }
 
 pub returns-clause-values : goal.returns-clause-values
 returns-clause-values g c =
     let text = c.args.text.now in
-    let end : c.loop-i.i ≡ length text.lines.now = omega (arith, c.loop-i-test.false, c.loop-i.auto.i-end) in
+    let end : c.loop-i.i ≡ length text.lines.now = omega (arith, c.loop-i-test.false, c.len-in-loop-i.ensures, c.loop-i.invariant.within) in
     subst (λ k. AreEquValuesIn text k c.loop-i.row.items) end c.loop-i.invariant.values
 
 pub returns-clause-parsed : goal.returns-clause-parsed

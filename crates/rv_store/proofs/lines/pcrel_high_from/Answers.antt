@@ -1,0 +1,21 @@
+use Rattle.std.proofs.Common.{◌≡◌, length, arith, sym, subst, ap, ◌∙◌}
+use Rattle.rv_store.specs.LinesWithout.{AreWithout}
+use Rattle.rv_store.specs.Program.{program_of}
+use Rattle.std.specs.Option.{is_some}
+use Rattle.rv_store.specs.Pairs.{pcrel_high_of}
+use Rattle.rv_store.proofs.LinesWithout.{without-none, without-next}
+use Rattle.rv_store.proofs.lines.pcrel_high_from.Goals as goal
+
+pub loop-k-init : goal.loop-k-init
+loop-k-init c = record { passed = without-none (λ b. is_some (pcrel_high_of b)) (program_of c.args.lines.now) c.args.i }
+
+pub loop-k-preserved : goal.loop-k-preserved
+loop-k-preserved c = record {
+  passed = without-next (λ b. is_some (pcrel_high_of b)) c.args.lines.now c.args.i c.loop-k.k c.index-lines-k.result c.loop-k-test.true c.index-lines-k.is
+      (sym (ap (λ b. b.pcrel_high) c.brief.ensures) ∙ c.if-brief.false) c.loop-k.invariant.passed;
+}
+
+pub returns-clause-passed : goal.returns-clause-passed
+returns-clause-passed c =
+    let end : c.loop-k.k ≡ length c.args.lines.now = omega (arith, c.loop-k-test.false, c.loop-k.auto.k-end c.requires.within) in
+    subst (λ k. AreWithout (λ b. is_some (pcrel_high_of b)) (program_of c.args.lines.now) c.args.i k) end c.loop-k.invariant.passed
