@@ -27,6 +27,7 @@ pub mod Examples
 pub mod FittingValues
 pub mod FormerItems
 pub mod HighLaws
+pub mod HighRows
 pub mod ImageExamples
 pub mod Items
 pub mod KeptLines

@@ -75,7 +75,7 @@ next_at_end program section =
     let none : length program - length program ≡ 0 = omega arith in
     ap (first_line (has_bytes_in program section) (length program)) none
 
-none_at : (n k : ℕ) (none : Entry) → get_or (replicate n none) k none ≡ none
+pub none_at : (n k : ℕ) (none : Entry) → get_or (replicate n none) k none ≡ none
 none_at zero k none = refl
 none_at (suc n) zero none = refl
 none_at (suc n) (suc k) none = none_at n k none

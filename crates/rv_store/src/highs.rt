@@ -16,7 +16,7 @@ use crate::before::Before;
 use crate::invalidation::is_invalidated;
 use crate::line_names::references_at;
 use crate::name_set::NameSet;
-use crate::room::room_for;
+use crate::room::row_of;
 use crate::symbol_rows::SymbolRows;
 use crate::text_lines::{place_on, statement_on};
 use crate::text_rows::TextRows;
@@ -133,7 +133,7 @@ fn high_after<C: Count>(
     high_on(&after.text, after.equ_values, line, counter)
 }
 
-/// The high half on each line of the text after an edit.
+/// The high half on each line of the text after an edit. Lines without `%pcrel_hi` are gone past.
 ///
 /// The counter's number of expressions computed rises by at most the high halves on the lines that the edit invalidates,
 /// whatever the outcome.
@@ -158,10 +158,12 @@ pub fn highs<C: Count>(
     ensures parsed { C.parsed_count counter.new ≡ C.parsed_count counter.old }
     ensures encoded { C.encoded_count counter.new ≡ C.encoded_count counter.old }
 {
-    let mut row = Vec::with_capacity(alloc, room_for(after.text.lines.len()))?;
-    for i in 0..after.text.lines.len() {
-        let line = i as u32 + 1;
-        row.push(high_after(before, after, line, counter))?;
+    let lines = after.text.lines;
+    let mut row = row_of(alloc, Err(ValueFault::NoPartner), lines.len())?;
+    let mut i = lines.up_to_pcrel_high(0);
+    while i < lines.len() {
+        row[i] = high_after(before, after, i as u32 + 1, counter);
+        i = lines.up_to_pcrel_high(i + 1);
     }
     Ok(row)
 }

@@ -1,5 +1,10 @@
 //! Room for the rows of a text.
 
+ghost use Rattle.std.specs.Prelude.{◌≡◌, replicate, IfOk};
+
+use rv_fix::Entry;
+use std::alloc::{AllocError, Global};
+
 // Rows have room for a multiple of so many lines, so that those of a text that grows line by line mostly fit where the rows before
 // them lay.
 const STEP: usize = 1024;
@@ -7,4 +12,17 @@ const STEP: usize = 1024;
 /// How many entries there is room for in a row of so many.
 pub fn room_for(count: usize) -> usize {
     (count / STEP).saturating_add(1).saturating_mul(STEP)
+}
+
+/// A row of so many entries, all of them this one.
+///
+/// # Errors
+///
+/// Fails only where there is no memory.
+pub fn row_of(alloc: Global, entry: Entry, count: usize) -> Result<Vec<Entry>, AllocError>
+    ensures { IfOk result (λ row. row.items ≡ replicate count entry) }
+{
+    let mut row = Vec::with_capacity(alloc, room_for(count))?;
+    row.resize(count, entry)?;
+    Ok(row)
 }

@@ -1,34 +1,68 @@
-use Rattle.std.proofs.Common.{◌≡◌, ◌≤◌, ◌+◌, ◌-◌, length, arith, ap, ◌∙◌}
+use Rattle.std.proofs.Common.{◌≡◌, ◌≤◌, ◌<◌, suc, ◌+◌, ◌-◌, length, set, replicate, Err, arith, ap, sym, refl, subst, ◌∙◌}
+use Rattle.std.proofs.lemmas.List.{length-set, length-replicate}
+use Rattle.rv_expr.specs.declared.faults.ValueFault.TheVariants.{NoPartner}
 use Rattle.rv_store.specs.Before.{base_before, lines_before, edit_on}
 use Rattle.rv_store.specs.Pairs.{high_at}
-use Rattle.rv_store.specs.Program.{for_lines}
 use Rattle.rv_store.specs.TextRows.{program_in}
 use Rattle.rv_store.specs.Work.{high_operands, work}
+use Rattle.rv_store.proofs.HighRows.{AreHighsThrough, highs-none, highs-past, highs-set, highs-all}
 use Rattle.rv_store.proofs.Programs.{length-program}
 use Rattle.rv_store.proofs.WorkLaws.{work-up}
 use Rattle.rv_store.proofs.highs.highs.Goals as goal
 
-pub returns-in_err-push-clause-work : goal.returns-in_err-push-clause-work
-returns-in_err-push-clause-work g c =
-    let before = c.args.before.now in
-    let lines = c.args.after.now.text.lines.now in
-    let next : c.loop-i.i + 1 ≤ length lines = omega (arith, c.loop-i-test.true) in
-    let more = work-up high_operands (base_before before) (lines_before before) (edit_on before) (c.loop-i.i + 1) (length lines) next in
-    let line : c.loop-i.i + 1 - 1 ≡ c.loop-i.i = omega arith in
-    let same = ap (work high_operands (base_before before) (lines_before before) (edit_on before)) line in
-    omega (arith, more, same, c.high_after.ensures.most, c.loop-i.invariant.work)
+pub loop-i-init : goal.loop-i-init
+loop-i-init g c =
+    let text = c.args.after.now.text in
+    let program = program_in text in
+    let count = c.len.result in
+    let none : c.in_ok-row.row.items ≡ replicate count (Err NoPartner) = c.in_ok-row.ensures in
+    let past = c.up_to_pcrel_high-i.ensures in
+    record {
+      within = past.within;
+      row = subst (AreHighsThrough text.base program c.up_to_pcrel_high-i.result) (sym none)
+          (highs-past text.base program 0 c.up_to_pcrel_high-i.result (replicate count (Err NoPartner)) past.up past.passed (highs-none text.base program count));
+      many = ap length none ∙ length-replicate count (Err NoPartner) ∙ c.len.ensures;
+      least = omega arith;
+      most = omega arith;
+      work = omega arith;
+      parsed = refl;
+      encoded = refl;
+    }
+
+pub loop-i-preserved : goal.loop-i-preserved
+loop-i-preserved g c =
+    let text = c.args.after.now.text in
+    let program = program_in text in
+    let before = c.loop-i.invariant in
+    let past = c.up_to_pcrel_high-i-in-loop-i.ensures in
+    let line = c.high_after.ensures in
+    let i = c.loop-i.i in
+    let next = c.up_to_pcrel_high-i-in-loop-i.result in
+    let row = c.loop-i.row.items in
+    let high = c.high_after.result in
+    let within : i < length row = omega (arith, c.loop-i-test.true, c.len-in-loop-i.ensures, before.many) in
+    let value = line.value ∙ ap (λ n. high_at text.base program n) (let e : i + 1 ≡ suc i = omega arith in e) in
+    let more = work-up high_operands (base_before c.args.before.now) (lines_before c.args.before.now) (edit_on c.args.before.now) (i + 1) next past.up in
+    let same = ap (work high_operands (base_before c.args.before.now) (lines_before c.args.before.now) (edit_on c.args.before.now)) (let e : i + 1 - 1 ≡ i = omega arith in e) in
+    record {
+      within = past.within;
+      row = highs-past text.base program (i + 1) next (set row i high) past.up past.passed (highs-set text.base program i row high within value before.row);
+      many = length-set row i high ∙ before.many;
+      least = omega (arith, before.least, line.least);
+      most = omega (arith, before.most, line.one, past.up);
+      work = omega (arith, before.work, line.most, more, same);
+      parsed = line.parsed ∙ before.parsed;
+      encoded = line.encoded ∙ before.encoded;
+    }
 
 pub returns-clause-highs : goal.returns-clause-highs
 returns-clause-highs g c =
     let text = c.args.after.now.text in
-    let end : c.loop-i.i ≡ length (program_in text) = omega (arith, c.loop-i-test.false, c.loop-i.auto.i-end, length-program text.lines.now) in
-    c.loop-i.invariant.row ∙ ap (for_lines (high_at text.base (program_in text))) end
-
-pub returns-in_err-push-clause-parsed : goal.returns-in_err-push-clause-parsed
-returns-in_err-push-clause-parsed g c = c.high_after.ensures.parsed ∙ c.loop-i.invariant.parsed
-
-pub returns-in_err-push-clause-encoded : goal.returns-in_err-push-clause-encoded
-returns-in_err-push-clause-encoded g c = c.high_after.ensures.encoded ∙ c.loop-i.invariant.encoded
+    let program = program_in text in
+    let count = length-program text.lines.now in
+    let end : c.loop-i.i ≡ length program = omega (arith, c.loop-i-test.false, c.len-in-loop-i.ensures, c.loop-i.invariant.within, count) in
+    highs-all text.base program c.loop-i.row.items (c.loop-i.invariant.many ∙ sym count)
+    (subst (λ n. AreHighsThrough text.base program n c.loop-i.row.items) end c.loop-i.invariant.row)
 
 pub returns-clause-parsed : goal.returns-clause-parsed
 returns-clause-parsed g c = c.loop-i.invariant.parsed
