@@ -1,5 +1,5 @@
 -- The row of high halves, which holds those of the first lines, and nothing for the lines after them.
-use Rattle.std.proofs.Common.{◌≡◌, ℕ, zero, suc, ◌+◌, ◌<◌, ◌≤◌, ◌⊎◌, inl, inr, List, length, get_or, set, replicate, is_some, Err, arith, ap, sym, ◌∙◌, get_or-set_same, get_or-set_other}
+use Rattle.std.proofs.Common.{◌≡◌, ℕ, zero, suc, ◌+◌, ◌<◌, ◌≤◌, ◌⊎◌, inl, inr, List, length, get_or, set, replicate, is_some, Err, arith, ap, sym, ◌∙◌, refl, get_or-set_same, get_or-set_other}
 use Rattle.std.proofs.lemmas.Bool.{cases_lt}
 use Rattle.std.proofs.lemmas.List.{ext_get_or}
 use Rattle.rv_expr.specs.declared.faults.ValueFault.TheVariants.{NoPartner}
@@ -11,8 +11,12 @@ use Rattle.rv_store.specs.Program.{Program, body_at, for_lines}
 use Rattle.rv_store.specs.References.{references_at}
 use Rattle.rv_store.specs.Rows.{AreHighs}
 use Rattle.rv_store.proofs.HighLaws.{no-high}
-use Rattle.rv_store.proofs.NextHighs.{none_at}
 use Rattle.rv_store.proofs.Programs.{length-for_lines, at-for_lines}
+
+pub none_at : (n k : ℕ) (none : Entry) → get_or (replicate n none) k none ≡ none
+none_at zero k none = refl
+none_at (suc n) zero none = refl
+none_at (suc n) (suc k) none = none_at n k none
 
 module _ (base : ℕ) (program : Program) where
   pub record AreHighsThrough (i : ℕ) (row : List Entry) : Type 0 where

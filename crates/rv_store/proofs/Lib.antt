@@ -44,8 +44,8 @@ pub mod LongerPrograms
 pub mod LongerTexts
 pub mod NameRows
 pub mod NameSets
-pub mod NextHighs
 pub mod OnlySymbols
+pub mod PairedHighs
 pub mod PassedItems
 pub mod Programs
 pub mod RenewalRuns

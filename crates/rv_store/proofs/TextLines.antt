@@ -1,9 +1,9 @@
 -- Lines of a text, by their numbers.
-use Rattle.std.proofs.Common.{◌≡◌, Bool, true, false, not, ◌&&◌, ◌==◌, nat_le, ℕ, zero, suc, ◌-◌, ◌<◌, ◌≤◌, List, [], ◌∷◌, ◌++◌, length, get_or, drop, reverse, Option, Some, None, true≢false, arith, ap, sym, ◌∙◌, drop-cons, refl}
+use Rattle.std.proofs.Common.{◌≡◌, Bool, true, false, not, ◌&&◌, ◌==◌, nat_le, ℕ, suc, ◌-◌, ◌<◌, ◌≤◌, List, length, get_or, Option, Some, None, true≢false, arith, ap, sym, ◌∙◌, refl}
 use Rattle.std.specs.List.{list_any}
 use Rattle.std.specs.Option.{is_some}
 use Rattle.std.proofs.lemmas.Bool.{leb-true}
-use Rattle.std.proofs.lemmas.List.{get_or-map, drop_all, reverse-append}
+use Rattle.std.proofs.lemmas.List.{get_or-map}
 use Rattle.rv_stmt.specs.declared.directive.Definition.{Definition}
 use Rattle.rv_stmt.specs.declared.statement.Body.{Body}
 use Rattle.rv_stmt.specs.declared.statement.Body.TheVariants.{Equ}
@@ -12,7 +12,7 @@ use Rattle.rv_list.specs.declared.view.LinePlace.{LinePlace}
 use Rattle.rv_layout.specs.declared.measured.Measured.{Measured}
 use Rattle.rv_store.specs.Jumps.{target_of}
 use Rattle.rv_store.specs.Layout.{shape_at, place_at}
-use Rattle.rv_store.specs.Program.{program_of, no_statement, statement_at, body_at, for_lines}
+use Rattle.rv_store.specs.Program.{program_of, no_statement, statement_at, body_at}
 use Rattle.rv_store.specs.Rows.{AreShapes, ArePlaces}
 use Rattle.rv_store.specs.Text.{is_line}
 use Rattle.rv_store.specs.Uses.{is_equ}
@@ -64,21 +64,6 @@ shape_of_line lines row i other are first last =
     let next : suc (i - 1) ≡ i = omega (arith, first) in
     ap (λ r. get_or r (i - 1) other) are ∙ at-for_lines (shape_at (program_of lines)) (length (program_of lines)) (i - 1) other within
     ∙ ap (shape_at (program_of lines)) next
-
--- A row that is made from the end
-
-pub none_from_end : {A : Type 0} (f : ℕ → A) (n i : ℕ) → n ≤ i → drop i (for_lines f n) ≡ []
-none_from_end f n i all = drop_all i (for_lines f n) (omega (arith, all, length-for_lines f n))
-
-pub one_from_end : {A : Type 0} (f : ℕ → A) (n i : ℕ) (x : A) (done : List A) → 1 ≤ i → i ≤ n → reverse done ≡ drop i (for_lines f n) → x ≡ f i → reverse (done ++ x ∷ []) ≡ drop (i - 1) (for_lines f n)
-one_from_end f n zero x done first last are is = absurd (let no : 1 ≤ 0 = first in omega (arith, no))
-one_from_end f n (suc j) x done first last are is =
-    let within : j < length (for_lines f n) = omega (arith, last, length-for_lines f n) in
-    let before : suc j - 1 ≡ j = omega arith in
-    reverse-append done (x ∷ []) ∙ ap (λ xs. x ∷ xs) are
-    ∙ ap (λ y. y ∷ drop (suc j) (for_lines f n)) (is ∙ sym (at-for_lines f n j x (omega (arith, last))))
-    ∙ sym (drop-cons (for_lines f n) j x within)
-    ∙ sym (ap (λ k. drop k (for_lines f n)) before)
 
 -- a body that is no definition is no `.equ`
 pub no_definition : (b : Body) → ((d : Definition) → b ≡ Equ d → ⊥) → is_equ b ≡ false

@@ -28,7 +28,7 @@ pub mod Lines
 pub mod LinesWithout
 pub mod Locals
 pub mod NameSets
-pub mod NextHighs
+pub mod PairedHighs
 pub mod Pairs
 pub mod Passed
 pub mod Program

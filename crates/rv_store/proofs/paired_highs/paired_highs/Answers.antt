@@ -1,33 +1,66 @@
-use Rattle.std.proofs.Common.{◌≡◌, ◌≤◌, ◌+◌, ◌-◌, ℕ, length, reverse, arith, ap, sym, ◌∙◌}
-use Rattle.rv_store.specs.Pairs.{paired_high_of}
+use Rattle.std.proofs.Common.{◌≡◌, ℕ, ◌+◌, ◌-◌, List, ◌++◌, length, get_or, take, drop, replicate, Ok, Err, pos, arith, ap, sym, subst, ◌∙◌}
+use Rattle.std.proofs.lemmas.List.{append-nil, take_all, drop_all}
+use Rattle.rv_expr.specs.declared.faults.ValueFault.TheVariants.{NoPartner}
+use Rattle.rv_fix.specs.Values.{Entry}
+use Rattle.rv_store.specs.PairedHighs.{ArePairedThrough}
 use Rattle.rv_store.specs.TextRows.{program_in}
-use Rattle.rv_store.proofs.NextHighs.{next_highs_at_end, next_highs_at}
+use Rattle.rv_store.proofs.HighLaws.{length_of_highs, high_of_line}
+use Rattle.rv_store.proofs.PairedHighs.{paired-none, paired-past, paired-all}
 use Rattle.rv_store.proofs.Programs.{length-program}
-use Rattle.rv_store.proofs.TextLines.{none_from_end, one_from_end}
 use Rattle.rv_store.proofs.paired_highs.paired_highs.Goals as goal
+
+-- a row of which all is written anew
+written : (n : ℕ) (new old : List Entry) → length new ≡ length old → n ≡ length old → take n (new ++ drop (length new) old) ≡ new
+written n new old same count =
+    ap (λ rest. take n (new ++ rest)) (drop_all (length new) old (omega (arith, same)))
+    ∙ ap (take n) (append-nil new) ∙ take_all n new (omega (arith, same, count))
 
 pub loop-i-init : goal.loop-i-init
 loop-i-init c =
     let text = c.args.text.now in
     let program = program_in text in
-    let many : c.len-i.result ≡ length program = c.len-i.ensures ∙ sym (length-program text.lines.now) in
+    let count = c.len.result in
+    let past = c.up_to_pcrel_high-i.ensures in
     record {
-      next = next_highs_at_end text.base program c.len-i.result many;
-      row = ap reverse c.in_ok-row.ensures.items ∙ sym (none_from_end (paired_high_of text.base program) (length program) c.len-i.result (omega (arith, many)));
+      within = past.within;
+      row = subst (ArePairedThrough text.base program c.up_to_pcrel_high-i.result) (sym c.in_ok-row.ensures)
+          (paired-past text.base program 0 c.up_to_pcrel_high-i.result (replicate count (Err NoPartner)) past.up past.passed
+          (paired-none text.base program count (c.len.ensures ∙ sym (length-program text.lines.now))));
     }
 
 pub loop-i-preserved : goal.loop-i-preserved
 loop-i-preserved c =
     let text = c.args.text.now in
     let program = program_in text in
-    let i : ℕ = c.loop-i.i in
-    let first : 1 ≤ i = omega (arith, c.loop-i-test.true) in
-    let last : i ≤ length program = omega (arith, c.loop-i.auto.i, length-program text.lines.now) in
-    let line : i - 1 + 1 ≡ i = omega (arith, first) in
-    let before : i - 1 + 1 - 1 ≡ i - 1 = omega arith in
-    let done = c.loop-i.row.items in
-    let x = c.paired_high.result in
+    let past = c.up_to_pcrel_high-i-in-loop-i.ensures in
+    let next = c.up_to_pcrel_high-i-in-loop-i.result in
+    let before = c.loop-i.invariant.row in
+    let after = c.give_high.ensures.after in
+    let row = c.give_high.new.row in
     record {
-      next = next_highs_at text.base program (i - 1 + 1 - 1) (i - 1) c.add_line.new.next before c.add_line.ensures.from;
-      row = ap reverse c.in_ok-push.ensures.items ∙ one_from_end (paired_high_of text.base program) (length program) i x done first last c.loop-i.invariant.row (c.paired_high.ensures ∙ ap (paired_high_of text.base program) line);
+      within = past.within;
+      row = subst (ArePairedThrough text.base program next) (sym (written c.loop-i.row.len row c.loop-i.row.items (after.many ∙ sym before.many) (omega (arith, c.loop-i.row.ok.0))))
+          (paired-past text.base program (c.loop-i.i + 1) next row past.up past.passed after);
     }
+
+pub returns : goal.returns
+returns c =
+    let text = c.args.text.now in
+    let program = program_in text in
+    let end : c.loop-i.i ≡ length program = omega (arith, c.loop-i-test.false, c.len-in-loop-i.ensures, c.loop-i.invariant.within, length-program text.lines.now) in
+    paired-all text.base program c.loop-i.row.items (subst (λ n. ArePairedThrough text.base program n c.loop-i.row.items) end c.loop-i.invariant.row)
+
+pub bounds-highs-i : goal.bounds-highs-i
+bounds-highs-i c =
+    let text = c.args.text.now in
+    let count = length_of_highs text.base text.lines.now c.args.highs.now c.requires.highs in
+    omega (arith, count, c.loop-i-test.true, c.len-in-loop-i.ensures)
+
+pub give_high-requires-clause-high : goal.give_high-requires-clause-high
+give_high-requires-clause-high c =
+    let text = c.args.text.now in
+    let highs = c.args.highs.now in
+    let i = c.loop-i.i in
+    let place : i ≡ i + 1 - 1 = omega arith in
+    ap (λ n. get_or highs n (Ok (pos 0))) place
+    ∙ high_of_line text.base text.lines.now highs (i + 1) (Ok (pos 0)) c.requires.highs (omega arith) (omega (arith, c.loop-i-test.true, c.len-in-loop-i.ensures))

@@ -1,12 +1,14 @@
-use Rattle.std.proofs.Common.{◌≡◌, length, drop, reverse}
-use Rattle.rv_store.specs.NextHighs.{AreNextHighs}
-use Rattle.rv_store.specs.Pairs.{paired_high_of}
-use Rattle.rv_store.specs.Program.{for_lines}
+use Rattle.std.proofs.Common.{◌≤◌, ◌-◌, length}
+use Rattle.rv_store.specs.PairedHighs.{ArePairedThrough}
 use Rattle.rv_store.specs.TextRows.{program_in}
 use Rattle.rv_store.proofs.paired_highs.paired_highs.Given as goal
 
+-- what the high halves on the lines so far give
 abbrev pub invariant-loop-i : goal.invariant-loop-i
 invariant-loop-i l = record {
-  next : AreNextHighs l.text.base (program_in l.text) l.i l.next;
-  row : reverse l.row.items ≡ drop l.i (for_lines (paired_high_of l.text.base (program_in l.text)) (length (program_in l.text)));
+  within : l.i ≤ length l.text.lines.now;
+  row : ArePairedThrough l.text.base (program_in l.text) l.i l.row.items;
 }
+
+abbrev pub decreases-loop-i : goal.decreases-loop-i
+decreases-loop-i l = length l.text.lines.now - l.i
