@@ -33,7 +33,7 @@ use Rattle.rv_store.specs.Uses.{is_equ}
 
 -- Labels that define the same
 
-place_among-same : (line index : ℕ) (ls ms : List Label) (name : List ℕ) → label_names ms ≡ label_names ls → place_among_labels line index ms name ≡ place_among_labels line index ls name
+pub place_among-same : (line index : ℕ) (ls ms : List Label) (name : List ℕ) → label_names ms ≡ label_names ls → place_among_labels line index ms name ≡ place_among_labels line index ls name
 place_among-same line index [] [] name e = refl
 place_among-same line index [] (m ∷ ms) name e = absurd (cc)
 place_among-same line index (l ∷ ls) [] name e = absurd (cc)

@@ -51,7 +51,7 @@ labels-step line index l ls = fun_ext (λ name. at (defines_symbol l.name name) 
     at false later = refl
 
 -- a statement with no labels, which is no `.equ`, defines nothing
-nowhere : (line : ℕ) (b : Body) (name : List ℕ) → is_equ b ≡ false → place_in_body line b name ≡ Nowhere
+pub nowhere : (line : ℕ) (b : Body) (name : List ℕ) → is_equ b ≡ false → place_in_body line b name ≡ Nowhere
 nowhere line (EquBody d) name other = absurd (true≢false other)
 nowhere line b name other = refl
 

@@ -42,6 +42,7 @@ pub mod Lists
 pub mod LocalLines
 pub mod LongerPrograms
 pub mod LongerTexts
+pub mod MovedDefinitions
 pub mod NameRows
 pub mod NameSets
 pub mod OnlySymbols

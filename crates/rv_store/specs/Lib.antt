@@ -27,6 +27,7 @@ pub mod LineSums
 pub mod Lines
 pub mod LinesWithout
 pub mod Locals
+pub mod MovedDefinitions
 pub mod NameSets
 pub mod PairedHighs
 pub mod Pairs

@@ -30,8 +30,8 @@ fn is_same_name(name: &LabelName, other: &LabelName) -> bool
     }
 }
 
-// Whether the labels of two lines define the same.
-fn are_same_labels(mut labels: &[Label], mut others: &[Label]) -> bool
+/// Whether the labels of two lines define the same.
+pub fn are_same_labels(mut labels: &[Label], mut others: &[Label]) -> bool
     ensures { result ≡ same_labels labels.entry.now others.entry.now }
 {
     while let [label, rest @ ..] = labels {

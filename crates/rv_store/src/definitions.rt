@@ -177,6 +177,7 @@ fn define_equ(
 }
 
 // Writes what a statement defines.
+#[inline(never)]
 fn define_statement(
     alloc: Global,
     stmt: &Stmt,
@@ -194,8 +195,8 @@ fn define_statement(
     Ok(())
 }
 
-// Whether a line has labels or an `.equ`. Other lines define nothing.
-fn may_define(line: &Line) -> bool
+/// Whether a line has labels or an `.equ`. Other lines define nothing.
+pub fn may_define(line: &Line) -> bool
     ensures { result ≡ (not (length (statement_of line.now).labels == 0) || is_equ (statement_of line.now).body) }
 {
     let brief = line.brief();
@@ -203,6 +204,7 @@ fn may_define(line: &Line) -> bool
 }
 
 // Writes what a line defines. One that defines nothing is gone past without a look at its statement.
+#[inline(always)]
 fn define_line(
     alloc: Global,
     line: &Line,

@@ -31,6 +31,7 @@ mod line_sum;
 mod line_values;
 mod lines;
 mod locals;
+mod moved_definitions;
 mod name_set;
 mod names;
 mod only_symbol;

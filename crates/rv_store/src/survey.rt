@@ -15,7 +15,6 @@ ghost use Rattle.rv_store.specs.ValueRows.{AreValueRows, base_of};
 ghost use Rattle.rv_store.specs.Work.{equ_operands, high_operands, survey_operands, operands_through, work};
 
 use crate::before::Before;
-use crate::definitions::definitions;
 use crate::edit::LineEdit;
 use crate::equ_values::equ_values;
 use crate::highs::highs;
@@ -23,6 +22,7 @@ use crate::limits::MAX_LINES;
 use crate::line::Line;
 use crate::lines::Lines;
 use crate::locals::Locals;
+use crate::moved_definitions::definitions_after;
 use crate::names::NameTable;
 use crate::paired_highs::paired_highs;
 use crate::places::{places, total_layout};
@@ -37,7 +37,7 @@ use rv_text::Count;
 use std::alloc::{AllocError, Global};
 
 /// What the lines of a text say, in rows: one value for each name, by its number, or one for each line. All rows are made from
-/// the first line on.
+/// the first line on, but that of the definitions moves with the lines where an edit changes none of them.
 #[derive(Drop)]
 pub struct Survey {
     /// The lines.
@@ -113,7 +113,7 @@ impl Survey {
         ensures encoded { C.encoded_count counter.new ≡ C.encoded_count counter.old }
     {
         let lines = self.lines.as_slice();
-        let definitions = definitions(alloc, lines, names)?;
+        let definitions = definitions_after(alloc, &self.definitions, old, lines, edit, names)?;
         let before = self.before(old, base, names, edit);
         let sized = shapes(alloc, &before, lines, names, &definitions, counter)?;
         let locals = Locals::of(alloc, lines)?;

@@ -9,7 +9,7 @@ use Rattle.rv_store.proofs.SurveyWork.{survey_counted}
 use Rattle.rv_store.proofs.survey.Survey.after.Goals as goal
 
 pub before-before-requires-clause-survey : goal.before-before-requires-clause-survey
-before-before-requires-clause-survey g c = survey_grown _ _ _ _ _ c.definitions.ensures.names c.requires.old
+before-before-requires-clause-survey g c = survey_grown _ _ _ _ _ c.definitions_after.ensures.names c.requires.old
 
 pub returns-in_err-sized-clause-work : goal.returns-in_err-sized-clause-work
 returns-in_err-sized-clause-work g c =
