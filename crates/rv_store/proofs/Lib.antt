@@ -26,6 +26,7 @@ pub mod EquLaws
 pub mod Examples
 pub mod FittingValues
 pub mod FormerItems
+pub mod FormerShapes
 pub mod HighLaws
 pub mod HighRows
 pub mod ImageExamples

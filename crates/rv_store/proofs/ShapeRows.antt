@@ -1,5 +1,5 @@
 -- The row of shapes, line by line.
-use Rattle.std.proofs.Common.{◌≡◌, ℕ, suc, ◌+◌, List, [], ◌∷◌, ◌++◌, arith, ap, sym, ◌∙◌}
+use Rattle.std.proofs.Common.{◌≡◌, ℕ, suc, ◌+◌, List, [], ◌∷◌, ◌++◌, arith, ap, sym, subst, refl, ◌∙◌}
 use Rattle.rv_layout.specs.declared.measured.Measured.{Measured}
 use Rattle.rv_layout.specs.Places.{IsLimited, AreLimited}
 use Rattle.rv_store.specs.Layout.{shape_at}
@@ -14,3 +14,7 @@ shapes-push program i done m so_far is =
 pub limited-push : (ms : List Measured) (m : Measured) → AreLimited ms → IsLimited m → AreLimited (ms ++ m ∷ [])
 limited-push [] m all one = (one, tt)
 limited-push (k ∷ ms) m all one = (all.0, limited-push ms m all.1 one)
+
+pub limited-next : (program : Program) (i : ℕ) → AreLimited (for_lines (shape_at program) i) → IsLimited (shape_at program (i + 1)) → AreLimited (for_lines (shape_at program) (i + 1))
+limited-next program i all one =
+    subst (λ ms. AreLimited ms) (shapes-push program i (for_lines (shape_at program) i) (shape_at program (i + 1)) refl refl) (limited-push (for_lines (shape_at program) i) (shape_at program (i + 1)) all one)

@@ -10,7 +10,6 @@ use Rattle.rv_store.specs.Program.{Program, body_at, lines_that}
 use Rattle.rv_store.specs.Text.{Edit}
 use Rattle.rv_store.specs.Work.{equ_operands, constant_operands, operands_through, work}
 use Rattle.rv_store.proofs.SurveyWork.{equ-work}
-use Rattle.rv_store.proofs.WorkLaws.{work-up}
 
 -- the operands of one line more
 pub operands-next : (operands : Body → ℕ) (program : Program) (n : ℕ) → operands_through operands program (n + 1) ≡ operands_through operands program n + operands (body_at program (n + 1))
@@ -44,9 +43,3 @@ constant-work base lines edit n =
     let body : ℕ → Body = body_at (program_after lines edit) in
     sum_of_two (λ k. size_operands (body k)) (λ k. equ_operands (body k)) (lines_that (is_invalidated base lines edit) n)
     ∙ ap (λ x. work size_operands base lines edit n + x) (sym (equ-work base lines edit n))
-
-pub constant-work-more : (base : ℕ) (lines : List (List ℕ)) (edit : Edit) (i n : ℕ) → i < n → work size_operands base lines edit (i + 1) + operands_through equ_operands (program_after lines edit) i ≤ work constant_operands base lines edit n
-constant-work-more base lines edit i n l =
-    let sizes = work-up size_operands base lines edit (i + 1) n (omega (arith, l)) in
-    let equs = operands-more equ_operands (program_after lines edit) i n (omega (arith, l)) in
-    omega (arith, sizes, equs, constant-work base lines edit n)

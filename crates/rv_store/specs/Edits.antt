@@ -23,3 +23,9 @@ line_before_edit (Insert place line) k =
     if nat_lt k place then Some k else (if k == place then None else Some (k - 1))
 line_before_edit (Delete place) k = if nat_lt k place then Some k else Some (k + 1)
 line_before_edit (Replace place line) k = if k == place then None else Some k
+
+-- the number of the line that an edit puts in, or before which it takes one out
+abbrev pub place_of_edit : Edit → ℕ
+place_of_edit (Insert place line) = place
+place_of_edit (Delete place) = place
+place_of_edit (Replace place line) = place

@@ -16,6 +16,7 @@ pub mod Edits
 pub mod Ends
 pub mod Fits
 pub mod Former
+pub mod FormerShapes
 pub mod Items
 pub mod Jumps
 pub mod Kept

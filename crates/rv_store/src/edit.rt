@@ -1,7 +1,7 @@
 //! Edits of a text.
 
 ghost use Rattle.std.specs.Prelude.{◌≡◌, ◌<◌, ◌-◌, ◌^◌, ℕ, List, length};
-ghost use Rattle.rv_store.specs.Edits.{edit_of, line_before_edit};
+ghost use Rattle.rv_store.specs.Edits.{edit_of, line_before_edit, place_of_edit};
 ghost use Rattle.rv_store.specs.Text.{refusal_of};
 
 use crate::edit_error::EditError;
@@ -52,6 +52,15 @@ impl LineEdit<'_> {
             LineEdit::Delete(_) => Some(line + 1),
             LineEdit::Replace(k, _) if line == k => None,
             LineEdit::Replace(_, _) => Some(line),
+        }
+    }
+
+    /// The number of the line that it puts in, or before which it takes one out.
+    pub fn place(&self) -> u32
+        ensures { result ≡ place_of_edit (edit_of self.now) }
+    {
+        match *self {
+            LineEdit::Insert(k, _) | LineEdit::Delete(k) | LineEdit::Replace(k, _) => k,
         }
     }
 }

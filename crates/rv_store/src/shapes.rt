@@ -1,6 +1,6 @@
 //! The shapes of the lines of a text, with its constants.
 
-ghost use Rattle.std.specs.Prelude.{◌≡◌, ◌≤◌, ◌<◌, ◌+◌, ◌*◌, ◌-◌, ◌^◌, ◌&&◌, None, length, IfOk};
+ghost use Rattle.std.specs.Prelude.{◌≡◌, ◌≤◌, ◌<◌, ◌+◌, ◌*◌, ◌-◌, ◌^◌, ◌&&◌, ◌||◌, None, length, set, IfOk};
 ghost use Rattle.std.specs.List.{list_any};
 ghost use Rattle.rv_stmt.specs.Statement.{statement_of};
 ghost use Rattle.rv_layout.specs.Places.{IsLimited, AreLimited};
@@ -8,15 +8,17 @@ ghost use Rattle.rv_layout.specs.Shapes.{shape_of, size_operands};
 ghost use Rattle.rv_store.specs.declared.limits.TheConstants.{MAX_LINES};
 ghost use Rattle.rv_store.specs.Before.{IsBefore, base_before, lines_before, edit_on};
 ghost use Rattle.rv_store.specs.ConstantPairs.{IsConstantPair, differs_in_constant};
+ghost use Rattle.rv_store.specs.FormerShapes.{former_shapes};
 ghost use Rattle.rv_store.specs.Layout.{shape_at};
-ghost use Rattle.rv_store.specs.Program.{program_of};
+ghost use Rattle.rv_store.specs.Program.{program_of, body_at};
 ghost use Rattle.rv_store.specs.Rows.{in_row, AreDefinitions, AreConstants, AreShapes};
 ghost use Rattle.rv_store.specs.Text.{lines_after};
-ghost use Rattle.rv_store.specs.Uses.{is_sized, names_used, uses_symbols};
-ghost use Rattle.rv_store.specs.Work.{constant_operands, work};
+ghost use Rattle.rv_store.specs.Uses.{is_sized, is_equ, names_used, uses_symbols};
+ghost use Rattle.rv_store.specs.Work.{constant_operands, equ_operands, work};
 
 use crate::before::Before;
 use crate::constants::{LineConstants, settle_constant};
+use crate::edit::LineEdit;
 use crate::line::Line;
 use crate::names::NameTable;
 use crate::room::room_for;
@@ -119,8 +121,78 @@ fn shape_after<C: Count>(
     shape_of_line(&lines[i], given, counter)
 }
 
+// The shapes that the lines of the text after an edit had before it, in a row with room for so many. A line that the edit puts
+// in has none of its own there.
+fn former_shapes(
+    alloc: Global,
+    before: &Before<'_, '_>,
+    count: usize,
+) -> Result<Vec<Measured>, AllocError>
+    requires { IsBefore before.now }
+    ensures { IfOk result (λ row. row.items ≡ former_shapes before.now.shapes.now (edit_on before.now)) }
+{
+    let mut row = Vec::with_capacity(alloc, room_for(count))?;
+    row.extend_from_slice(before.shapes)?;
+    match before.edit {
+        LineEdit::Insert(k, _) => row.insert(k as usize - 1, Measured::Nothing)?,
+        LineEdit::Delete(k) => {
+            let _ = row.remove(k as usize - 1);
+        }
+        LineEdit::Replace(_, _) => {}
+    }
+    Ok(row)
+}
+
+// Whether a line has a part in the constants: its shape may follow from them, or it may define one. Its statement is not looked at.
+fn has_part(line: &Line) -> bool
+    ensures { result ≡ (is_sized (statement_of line.now).body || is_equ (statement_of line.now).body) }
+{
+    let brief = line.brief();
+    brief.sized || brief.equ
+}
+
+// Writes the shape of line `i + 1` of the text after an edit, and its constant if it defines one.
+fn settle_line<C: Count>(
+    before: &Before<'_, '_>,
+    lines: &[Line],
+    i: usize,
+    names: &NameTable,
+    definitions: &[DefinitionPlace],
+    rows: &mut ShapeRows,
+    counter: &mut C,
+)
+    requires before { IsBefore before.now }
+    requires after { lines.now ≡ lines_after (lines_before before.now) (edit_on before.now) }
+    requires few { length lines.now ≤ MAX_LINES }
+    requires within { i < length lines.now }
+    requires definitions { AreDefinitions (program_of lines.now) names.now definitions.now }
+    requires shapes { i < length rows.old.shapes.items }
+    requires as_many { length rows.old.constants.items ≡ length definitions.now }
+    requires constants { AreConstants (program_of lines.now) i names.now rows.old.constants.items }
+    requires valued { C.valued_count counter.old < 2 ^ 64 - 2 }
+    ensures shapes { rows.new.shapes.items ≡ set rows.old.shapes.items i (shape_at (program_of lines.now) (i + 1)) }
+    ensures constants { AreConstants (program_of lines.now) (i + 1) names.now rows.new.constants.items }
+    ensures as_many { length rows.new.constants.items ≡ length definitions.now }
+    ensures least { C.valued_count counter.old ≤ C.valued_count counter.new }
+    ensures two { C.valued_count counter.new ≤ C.valued_count counter.old + 2 }
+    ensures work { C.valued_count counter.new + work size_operands (base_before before.now) (lines_before before.now) (edit_on before.now) i
+        ≤ C.valued_count counter.old + work size_operands (base_before before.now) (lines_before before.now) (edit_on before.now) (i + 1)
+        + equ_operands (body_at (program_of lines.now) (i + 1)) }
+    ensures parsed { C.parsed_count counter.new ≡ C.parsed_count counter.old }
+    ensures encoded { C.encoded_count counter.new ≡ C.encoded_count counter.old }
+{
+    let given = LineConstants {
+        names,
+        row: rows.constants.as_slice(),
+    };
+    let shape = shape_after(before, lines, i, &given, counter);
+    rows.shapes[i] = shape;
+    settle_constant(lines, i, names, definitions, &mut rows.constants, counter);
+}
+
 /// The shapes of all lines of the text after an edit, with its constants: one loop over the lines, since the shape of a line
-/// follows from the constants of the lines before it.
+/// follows from the constants of the lines before it. Those that stood in the text before and have no part in the constants keep
+/// their shapes.
 ///
 /// The counter's number of expressions computed rises by at most the size operands and the `.equ`s on the lines that the edit
 /// invalidates.
@@ -146,15 +218,16 @@ pub fn shapes<C: Count>(
     ensures parsed { C.parsed_count counter.new ≡ C.parsed_count counter.old }
     ensures encoded { C.encoded_count counter.new ≡ C.encoded_count counter.old }
 {
-    let mut constants = vec![in alloc; None; definitions.len()]?;
-    let mut shapes = Vec::with_capacity(alloc, room_for(lines.len()))?;
+    shapes_are_limited();
+    let constants = vec![in alloc; None; definitions.len()]?;
+    let shapes = former_shapes(alloc, before, lines.len())?;
+    let mut rows = ShapeRows { shapes, constants };
+    let place = before.edit.place() as usize;
     for i in 0..lines.len() {
-        let given = LineConstants {
-            names,
-            row: constants.as_slice(),
-        };
-        shapes.push(shape_after(before, lines, i, &given, counter))?;
-        settle_constant(lines, i, names, definitions, &mut constants, counter);
+        lines[i].data_are_few();
+        if i + 1 == place || has_part(&lines[i]) {
+            settle_line(before, lines, i, names, definitions, &mut rows, counter);
+        }
     }
-    Ok(ShapeRows { shapes, constants })
+    Ok(rows)
 }

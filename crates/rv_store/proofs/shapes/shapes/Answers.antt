@@ -1,24 +1,35 @@
-use Rattle.std.proofs.Common.{◌≡◌, ◌+◌, length, replicate, None, rules, arith, ap, refl, subst, ◌∙◌}
+use Rattle.std.proofs.Common.{◌≡◌, ◌+◌, ◌≤◌, ◌<◌, ◌||◌, false, length, replicate, None, rules, arith, ap, sym, refl, subst, set, ◌∙◌}
 use Rattle.std.proofs.lemmas.List.{length-replicate}
+use Rattle.rv_stmt.specs.Statement.{statement_of, data_size_of}
+use Rattle.rv_layout.specs.Places.{IsLimited, AreLimited}
+use Rattle.rv_layout.specs.Shapes.{shape_of, size_operands}
 use Rattle.rv_store.specs.Before.{base_before, lines_before, edit_on}
 use Rattle.rv_store.specs.Changes.{program_after}
+use Rattle.rv_store.specs.Constants.{constant_of}
+use Rattle.rv_store.specs.Edits.{place_of_edit}
+use Rattle.rv_store.specs.FormerShapes.{shapes_through}
 use Rattle.rv_store.specs.Layout.{shape_at}
 use Rattle.rv_store.specs.Program.{program_of, for_lines}
 use Rattle.rv_store.specs.Rows.{AreConstants}
+use Rattle.rv_store.specs.Uses.{is_sized, is_equ}
 use Rattle.rv_store.specs.Work.{equ_operands, constant_operands, operands_through, work}
 use Rattle.rv_store.proofs.ConstantRows.{constants-none}
+use Rattle.rv_store.proofs.FormerShapes.{former, former-length, former-stays, constants-stay, through-length, through-kept, through-set, through-all, neither}
+use Rattle.rv_store.proofs.KeptShapes.{body-on}
 use Rattle.rv_store.proofs.Programs.{length-program}
-use Rattle.rv_store.proofs.ShapeRows.{shapes-push, limited-push}
-use Rattle.rv_store.proofs.ShapeWork.{operands-next, constant-work, constant-work-more}
+use Rattle.rv_store.proofs.ShapeRows.{limited-next}
+use Rattle.rv_store.proofs.ShapeWork.{operands-next, constant-work}
+use Rattle.rv_store.proofs.WorkLaws.{work-up}
 use Rattle.rv_store.proofs.shapes.shapes.Goals as goal
+use Rattle.rv_store.proofs.shapes.shapes.Goals.{then-i-place, else-i-place+else-has_part}
 
 pub loop-i-init : goal.loop-i-init
 loop-i-init g c =
     let none : c.in_ok-constants.constants.items ≡ replicate (length c.args.definitions.now) None = search rules in
     record {
       within = omega arith;
-      shapes = c.in_ok-shapes.ensures.items;
-      limited = rw c.in_ok-shapes.ensures.items tt;
+      shapes = c.in_ok-shapes.ensures;
+      limited = tt;
       constants = rw none (constants-none (program_of c.args.lines.now) c.args.names.now (length c.args.definitions.now) c.requires.definitions.within);
       as_many = rw none (length-replicate (length c.args.definitions.now) None);
       least = omega arith;
@@ -28,48 +39,108 @@ loop-i-init g c =
       encoded = refl;
     }
 
-pub shape_after-requires-clause-constants : goal.shape_after-requires-clause-constants
-shape_after-requires-clause-constants g c = rw c.as_slice.ensures.value c.loop-i.invariant.constants
-
-pub returns-in_err-push-clause-work : goal.returns-in_err-push-clause-work
-returns-in_err-push-clause-work g c =
+pub settle_line-requires-clause-shapes : goal.settle_line-requires-clause-shapes
+settle_line-requires-clause-shapes g c =
     let before = c.args.before.now in
-    let more = constant-work-more (base_before before) (lines_before before) (edit_on before) c.loop-i.i (length c.args.lines.now) c.loop-i-test.true in
-    omega (arith, c.loop-i.invariant.work, c.shape_after.ensures.work, more)
+    let lines = c.args.lines.now in
+    let rest = former before c.requires.before lines c.requires.after in
+    let count = former-length before c.requires.before lines c.requires.after in
+    let through = through-length (program_of lines) rest c.loop-i.i (omega (arith, count, c.loop-i-test.true)) in
+    subst (λ row. c.loop-i.i < length row) (sym c.loop-i.invariant.shapes) (omega (arith, through, count, c.loop-i-test.true))
+
+pub settle_line-requires-clause-as_many : goal.settle_line-requires-clause-as_many
+settle_line-requires-clause-as_many g c = c.loop-i.invariant.as_many
+
+pub settle_line-requires-clause-constants : goal.settle_line-requires-clause-constants
+settle_line-requires-clause-constants g c = c.loop-i.invariant.constants
+
+pub settle_line-requires-clause-valued : goal.settle_line-requires-clause-valued
+settle_line-requires-clause-valued g c =
+    omega (arith, c.loop-i.invariant.most, c.loop-i-test.true, c.requires.few, c.requires.valued)
 
 pub loop-i-preserved : goal.loop-i-preserved
 loop-i-preserved g c =
-    let before = c.loop-i.invariant in
-    let shape = c.shape_after in
-    let settled = c.settle_constant.ensures in
-    let program = program_of c.args.lines.now in
-    let after = program_after (lines_before c.args.before.now) (edit_on c.args.before.now) in
-    let operands = operands-next equ_operands program c.loop-i.i in
-    let same = ap (λ l. operands_through equ_operands (program_of l) (c.loop-i.i + 1)) c.requires.after in
-    let same' = ap (λ l. operands_through equ_operands (program_of l) c.loop-i.i) c.requires.after in
-    record {
-      within = omega (arith, c.loop-i-test.true);
-      shapes = rw c.in_ok-push.ensures.items (shapes-push program c.loop-i.i c.loop-i.shapes.items shape.result before.shapes shape.ensures.shape);
-      limited = rw c.in_ok-push.ensures.items (limited-push c.loop-i.shapes.items shape.result before.limited shape.ensures.limited);
-      constants = settled.after;
-      as_many = settled.as_many;
-      least = omega (arith, before.least, shape.ensures.least, settled.least);
-      most = omega (arith, before.most, shape.ensures.one, settled.most);
-      work = omega (arith, before.work, shape.ensures.work, settled.operands, operands, same, same');
-      parsed = omega (arith, settled.parsed, shape.ensures.parsed, before.parsed);
-      encoded = omega (arith, settled.encoded, shape.ensures.encoded, before.encoded);
-    }
+    let so_far = c.loop-i.invariant in
+    let before = c.args.before.now in
+    let lines = c.args.lines.now in
+    let i = c.loop-i.i in
+    let program = program_of lines in
+    let rest = former before c.requires.before lines c.requires.after in
+    let there : i < length rest = omega (arith, former-length before c.requires.before lines c.requires.after, c.loop-i-test.true) in
+    let text = c.index-lines-i.result in
+    let few : data_size_of (statement_of text).body ≤ 65536 = omega (arith, c.data_are_few.ensures) in
+    let limited : IsLimited (shape_at program (i + 1)) =
+    subst IsLimited (ap (shape_of (constant_of program (i + 1))) (body-on lines i text c.loop-i-test.true c.index-lines-i.is)) (c.shapes_are_limited.ensures (constant_of program (i + 1)) (statement_of text).body few) in
+    let operands = operands-next equ_operands program i in
+    let same = ap (λ l. operands_through equ_operands (program_of l) (i + 1)) c.requires.after in
+    let same' = ap (λ l. operands_through equ_operands (program_of l) i) c.requires.after in
+    elim c.if-i-place.branch [
+      | then-i-place w ↦
+          let settled = w.settle_line.ensures in
+          let counter = ap g.C.Count.valued_count w.counter-is in
+          record {
+            within = omega (arith, c.loop-i-test.true);
+            shapes = ap (λ r. r.shapes.items) w.rows-is ∙ settled.shapes ∙ ap (λ row. set row i (shape_at program (i + 1))) so_far.shapes ∙ through-set program rest i there;
+            limited = limited-next program i so_far.limited limited;
+            constants = subst (λ r. AreConstants program (i + 1) c.args.names.now r.constants.items) (sym w.rows-is) settled.constants;
+            as_many = ap (λ r. length r.constants.items) w.rows-is ∙ settled.as_many;
+            least = omega (arith, so_far.least, settled.least, counter);
+            most = omega (arith, so_far.most, settled.two, counter);
+            work = omega (arith, so_far.work, settled.work, operands, same, same', counter);
+            parsed = ap g.C.Count.parsed_count w.counter-is ∙ settled.parsed ∙ so_far.parsed;
+            encoded = ap g.C.Count.encoded_count w.counter-is ∙ settled.encoded ∙ so_far.encoded;
+          }
+      | else-i-place+else-has_part w ↦
+          let here = w.index-lines-i-else-i-place in
+          let body = (statement_of here.result).body in
+          let none : (is_sized body ≡ false) × (is_equ body ≡ false) = neither (is_sized body) (is_equ body) (sym w.has_part.ensures ∙ w.if-has_part.false) in
+          let apart : i + 1 ≡ place_of_edit (edit_on before) → ⊥ = λ e. omega (arith, e, w.if-i-place.false, c.place-place.ensures) in
+          let other = shape_at program (i + 1) in
+          let kept = former-stays before c.requires.before lines c.requires.after i here.result other c.loop-i-test.true here.is apart none.0 in
+          let counter = ap g.C.Count.valued_count w.counter-is in
+          let more = work-up size_operands (base_before before) (lines_before before) (edit_on before) i (i + 1) (omega arith) in
+          record {
+            within = omega (arith, c.loop-i-test.true);
+            shapes = ap (λ r. r.shapes.items) w.rows-is ∙ so_far.shapes ∙ through-kept program rest i other there kept;
+            limited = limited-next program i so_far.limited limited;
+            constants = constants-stay lines i here.result c.args.names.now c.if-i-place.rows.constants.items c.loop-i-test.true here.is none.1 (subst (λ r. AreConstants program i c.args.names.now r.constants.items) (sym w.rows-is) so_far.constants);
+            as_many = ap (λ r. length r.constants.items) w.rows-is ∙ so_far.as_many;
+            least = omega (arith, so_far.least, counter);
+            most = omega (arith, so_far.most, counter);
+            work = omega (arith, so_far.work, more, operands, same, same', counter);
+            parsed = ap g.C.Count.parsed_count w.counter-is ∙ so_far.parsed;
+            encoded = ap g.C.Count.encoded_count w.counter-is ∙ so_far.encoded;
+          }
+    ]
 
 pub returns-clause-shapes : goal.returns-clause-shapes
 returns-clause-shapes g c =
-    let program = program_of c.args.lines.now in
-    let all : c.loop-i.i ≡ length program = omega (arith, c.loop-i.invariant.within, c.loop-i-test.false, length-program c.args.lines.now) in
-    c.loop-i.invariant.shapes ∙ ap (for_lines (shape_at program)) all
+    let lines = c.args.lines.now in
+    let program = program_of lines in
+    let before = c.args.before.now in
+    let rest = former before c.requires.before lines c.requires.after in
+    let all : c.loop-i.i ≡ length program = omega (arith, c.loop-i.invariant.within, c.loop-i-test.false, length-program lines) in
+    let none : length rest ≤ c.loop-i.i = omega (arith, former-length before c.requires.before lines c.requires.after, c.loop-i-test.false) in
+    c.loop-i.invariant.shapes ∙ through-all program rest c.loop-i.i none ∙ ap (for_lines (shape_at program)) all
+
+pub returns-clause-limited : goal.returns-clause-limited
+returns-clause-limited g c =
+    let lines = c.args.lines.now in
+    let before = c.args.before.now in
+    let rest = former before c.requires.before lines c.requires.after in
+    let none : length rest ≤ c.loop-i.i = omega (arith, former-length before c.requires.before lines c.requires.after, c.loop-i-test.false) in
+    subst AreLimited (sym (c.loop-i.invariant.shapes ∙ through-all (program_of lines) rest c.loop-i.i none)) c.loop-i.invariant.limited
 
 pub returns-clause-constants : goal.returns-clause-constants
 returns-clause-constants g c =
     let all : c.loop-i.i ≡ length c.args.lines.now = omega (arith, c.loop-i.invariant.within, c.loop-i-test.false) in
-    subst (λ n. AreConstants (program_of c.args.lines.now) n c.args.names.now c.loop-i.constants.items) all c.loop-i.invariant.constants
+    subst (λ n. AreConstants (program_of c.args.lines.now) n c.args.names.now c.loop-i.rows.constants.items) all c.loop-i.invariant.constants
+
+pub returns-clause-least : goal.returns-clause-least
+returns-clause-least g c = c.loop-i.invariant.least
+
+pub returns-clause-most : goal.returns-clause-most
+returns-clause-most g c = omega (arith, c.loop-i.invariant.most, c.loop-i.invariant.within)
 
 pub returns-clause-work : goal.returns-clause-work
 returns-clause-work g c =
@@ -78,12 +149,6 @@ returns-clause-work g c =
     let sum = constant-work (base_before before) (lines_before before) (edit_on before) c.loop-i.i in
     let last = ap (work constant_operands (base_before before) (lines_before before) (edit_on before)) all in
     omega (arith, c.loop-i.invariant.work, sum, last)
-
-pub returns-in_err-push-clause-parsed : goal.returns-in_err-push-clause-parsed
-returns-in_err-push-clause-parsed g c = c.shape_after.ensures.parsed ∙ c.loop-i.invariant.parsed
-
-pub returns-in_err-push-clause-encoded : goal.returns-in_err-push-clause-encoded
-returns-in_err-push-clause-encoded g c = c.shape_after.ensures.encoded ∙ c.loop-i.invariant.encoded
 
 pub returns-clause-parsed : goal.returns-clause-parsed
 returns-clause-parsed g c = c.loop-i.invariant.parsed

@@ -3,6 +3,7 @@ use Rattle.rv_layout.specs.Places.{AreLimited}
 use Rattle.rv_layout.specs.Shapes.{size_operands}
 use Rattle.rv_store.specs.Before.{base_before, lines_before, edit_on}
 use Rattle.rv_store.specs.Changes.{program_after}
+use Rattle.rv_store.specs.FormerShapes.{former_shapes, shapes_through}
 use Rattle.rv_store.specs.Layout.{shape_at}
 use Rattle.rv_store.specs.Program.{program_of, for_lines}
 use Rattle.rv_store.specs.Rows.{AreConstants}
@@ -13,10 +14,10 @@ use Rattle.rv_store.proofs.shapes.shapes.Given as goal
 abbrev pub invariant-loop-i : goal.invariant-loop-i
 invariant-loop-i g l = record {
   within : l.i ≤ length l.lines;
-  shapes : l.shapes.items ≡ for_lines (shape_at (program_of l.lines)) l.i;
-  limited : AreLimited l.shapes.items;
-  constants : AreConstants (program_of l.lines) l.i l.names l.constants.items;
-  as_many : length l.constants.items ≡ length l.definitions;
+  shapes : l.rows.shapes.items ≡ shapes_through (program_of l.lines) (former_shapes l.before.shapes.now (edit_on l.before)) l.i;
+  limited : AreLimited (for_lines (shape_at (program_of l.lines)) l.i);
+  constants : AreConstants (program_of l.lines) l.i l.names l.rows.constants.items;
+  as_many : length l.rows.constants.items ≡ length l.definitions;
   least : g.C.Count.valued_count l.initial.counter ≤ g.C.Count.valued_count l.counter;
   most : g.C.Count.valued_count l.counter ≤ g.C.Count.valued_count l.initial.counter + 2 * l.i;
   work : g.C.Count.valued_count l.counter ≤ g.C.Count.valued_count l.initial.counter

@@ -1,0 +1,187 @@
+-- The shapes of the lines of a text after an edit, line by line from those before it.
+use Rattle.std.proofs.Common.{◌≡◌, ℕ, suc, ℤ, ◌+◌, ◌-◌, ◌<◌, ◌≤◌, ◌⊎◌, inl, inr, Bool, true, false, ◌&&◌, ◌||◌, List, [], ◌∷◌, ◌++◌, length, get_or, set, drop, Option, Some, None, arith, ap, sym, ◌∙◌, refl}
+use Rattle.std.specs.Prelude.{insert, remove}
+use Rattle.std.specs.List.{list_any}
+use Rattle.std.proofs.Math.Seq.{set-append_seam}
+use Rattle.std.proofs.lemmas.Bool.Decides.{nat_tests}
+use Rattle.std.proofs.lemmas.Grind.{common_steps}
+use Rattle.std.proofs.lemmas.List.{append_assoc, drop_all, drop_more, length-append, length-drop}
+use Rattle.std.proofs.lemmas.List.Edits.{length-insert, get_or-insert_below, get_or-insert_above, length-remove, get_or-remove_below, get_or-remove_above}
+use Rattle.std.proofs.lemmas.List.{length-set}
+use Rattle.rv_stmt.specs.declared.directive.Definition.{Definition}
+use Rattle.rv_stmt.specs.declared.statement.Body.{Body}
+use Rattle.rv_stmt.specs.declared.statement.Body.TheVariants.{Equ as EquBody}
+use Rattle.rv_stmt.specs.Statement.{statement_of}
+use Rattle.rv_layout.specs.declared.measured.Measured.{Measured}
+use Rattle.rv_layout.specs.declared.measured.Measured.TheVariants.{Nothing}
+use Rattle.rv_store.specs.declared.before.Before.{Before}
+use Rattle.rv_store.specs.Before.{IsBefore, lines_before, edit_on}
+use Rattle.rv_store.specs.Column.{HasPlace}
+use Rattle.rv_store.specs.Constants.{constant_through, constant_of}
+use Rattle.rv_store.specs.Edits.{line_before_edit, place_of_edit}
+use Rattle.rv_store.specs.FormerShapes.{former_shapes, shapes_through}
+use Rattle.rv_store.specs.Layout.{shape_at}
+use Rattle.rv_store.specs.Program.{Program, program_of, body_at, for_lines}
+use Rattle.rv_store.specs.Rows.{AreConstants}
+use Rattle.rv_store.specs.Text.{Edit, Insert, Delete, Replace, lines_after}
+use Rattle.rv_store.specs.Uses.{names_used, is_sized, is_equ, uses_symbols}
+use Rattle.rv_store.proofs.Columns.{has_place}
+use Rattle.rv_store.proofs.ConstantRows.{constants-kept}
+use Rattle.rv_store.proofs.EarlierLines.{insert_before, delete_before, replace_before}
+use Rattle.rv_store.proofs.KeptShapes.{body-on, differs_from, shape-before, shape-stays}
+use Rattle.rv_store.proofs.Programs.{length-for_lines, length-program}
+
+-- How many there are
+
+pub former-count : (ms : List Measured) (lines : List (List ℕ)) (edit : Edit) → length ms ≡ length lines → HasPlace lines edit → length (former_shapes ms edit) ≡ length (lines_after lines edit)
+former-count ms lines (Insert place line) count has =
+    length-insert ms (place - 1) Nothing (omega (arith, has.0, has.1, count))
+    ∙ ap (λ n. n + 1) count
+    ∙ sym (length-insert lines (place - 1) line (omega (arith, has.0, has.1)))
+former-count ms lines (Delete place) count has =
+    let shapes = length-remove ms (place - 1) (omega (arith, has.0, has.1, count)) in
+    let texts = length-remove lines (place - 1) (omega (arith, has.0, has.1)) in
+    omega (arith, shapes, texts, count)
+former-count ms lines (Replace place line) count has = count ∙ sym (length-set lines (place - 1) line)
+
+-- That of a line that stood in the text before
+
+pub former-at : (ms : List Measured) (lines : List (List ℕ)) (edit : Edit) (k j : ℕ) (other : Measured) → length ms ≡ length lines → HasPlace lines edit → 1 ≤ k → line_before_edit edit k ≡ Some j → get_or (former_shapes ms edit) (k - 1) other ≡ get_or ms (j - 1) other
+former-at ms lines (Insert place line) k j other count has first h = at (insert_before place line k j h)
+  where
+    room : place - 1 ≤ length ms
+    room = omega (arith, has.0, has.1, count)
+
+    at : ((k < place) × (j ≡ k)) ⊎ ((place < k) × (j ≡ k - 1)) → get_or (insert ms (place - 1) Nothing) (k - 1) other ≡ get_or ms (j - 1) other
+    at (inl (less, same)) =
+        get_or-insert_below ms (place - 1) Nothing other (k - 1) (omega (arith, first, less)) room ∙ ap (λ i. get_or ms (i - 1) other) (sym same)
+    at (inr (more, same)) =
+        let back : k - 2 + 1 ≡ k - 1 = omega (arith, more, has.0) in
+        let above : place - 1 ≤ k - 2 = omega (arith, more) in
+        let one : k - 2 ≡ j - 1 = omega (arith, same) in
+        ap (λ i. get_or (insert ms (place - 1) Nothing) i other) (sym back)
+        ∙ get_or-insert_above ms (place - 1) Nothing other (k - 2) above room
+        ∙ ap (λ i. get_or ms i other) one
+former-at ms lines (Delete place) k j other count has first h = at (delete_before place k j h)
+  where
+    there : place - 1 < length ms
+    there = omega (arith, has.0, has.1, count)
+
+    at : ((k < place) × (j ≡ k)) ⊎ ((place ≤ k) × (j ≡ k + 1)) → get_or (remove ms (place - 1)) (k - 1) other ≡ get_or ms (j - 1) other
+    at (inl (less, same)) =
+        get_or-remove_below ms (place - 1) other (k - 1) (omega (arith, first, less)) there ∙ ap (λ i. get_or ms (i - 1) other) (sym same)
+    at (inr (more, same)) =
+        let one : k - 1 + 1 ≡ j - 1 = omega (arith, first, same) in
+        get_or-remove_above ms (place - 1) other (k - 1) (omega (arith, more)) there ∙ ap (λ i. get_or ms i other) one
+former-at ms lines (Replace place line) k j other count has first h =
+    ap (λ i. get_or ms (i - 1) other) (sym (replace_before place line k j h).1)
+
+-- Only the line at the edit's place is new
+
+new-at-place : (edit : Edit) (k : ℕ) → line_before_edit edit k ≡ None → k ≡ place_of_edit edit
+new-at-place (Insert place line) k h = grind (arith, nat_tests, common_steps)
+new-at-place (Delete place) k h = grind (arith, nat_tests, common_steps)
+new-at-place (Replace place line) k h = grind (arith, nat_tests, common_steps)
+
+elsewhere : (edit : Edit) (k : ℕ) → (k ≡ place_of_edit edit → ⊥) → (j : ℕ) × (line_before_edit edit k ≡ Some j)
+elsewhere edit k apart = at (line_before_edit edit k) refl
+  where
+    at : (stood : Option ℕ) → line_before_edit edit k ≡ stood → (j : ℕ) × (line_before_edit edit k ≡ Some j)
+    at None h = absurd (apart (new-at-place edit k h))
+    at (Some j) h = (j, h)
+
+-- Lines without a part in the constants
+
+module _ (before : Before) (is : IsBefore before) where
+  pub shape_count : length before.shapes.now ≡ length (lines_before before)
+  shape_count =
+      let old = program_of (lines_before before) in
+      ap length is.shapes ∙ length-for_lines (shape_at old) (length old) ∙ length-program (lines_before before)
+
+  pub place : HasPlace (lines_before before) (edit_on before)
+  place = has_place (lines_before before) (edit_on before) is.allowed
+
+module _ (before : Before) (is : IsBefore before) (lines : List (List ℕ)) (after : lines ≡ lines_after (lines_before before) (edit_on before)) where
+  abbrev pub former : List Measured
+  former = former_shapes before.shapes.now (edit_on before)
+
+  pub former-length : length former ≡ length lines
+  former-length =
+      former-count before.shapes.now (lines_before before) (edit_on before) (shape_count before is) (place before is) ∙ sym (ap length after)
+
+  pub former-stays : (i : ℕ) (text : List ℕ) (other : Measured) → i < length lines → text ≡ get_or lines i text → (i + 1 ≡ place_of_edit (edit_on before) → ⊥) → is_sized (statement_of text).body ≡ false → get_or former i other ≡ shape_at (program_of lines) (i + 1)
+  former-stays i text other within read apart unsized =
+      let stood = elsewhere (edit_on before) (i + 1) apart in
+      let j = stood.0 in
+      let body : Body = (statement_of text).body in
+      let program : Program = program_of lines in
+      let differs = λ (name : List ℕ). differs_from (program_of (lines_before before)) j (constant_of program (i + 1)) name in
+      let same : (is_sized body && (uses_symbols body && list_any differs (names_used body))) ≡ false =
+      ap (λ t. t && (uses_symbols body && list_any differs (names_used body))) unsized in
+      let back : i ≡ i + 1 - 1 = omega arith in
+      ap (λ n. get_or former n other) back
+      ∙ former-at before.shapes.now (lines_before before) (edit_on before) (i + 1) j other (shape_count before is) (place before is) (omega arith) stood.1
+      ∙ shape-before before is lines after i j within stood.1 other
+      ∙ sym (shape-stays before is lines after i j within stood.1 (constant_of program (i + 1)) refl body (body-on lines i text within read) same)
+
+pub neither : (a b : Bool) → (a || b) ≡ false → (a ≡ false) × (b ≡ false)
+neither true b h = absurd (let wrong : false ≡ true = sym h in cc)
+neither false b h = (refl, h)
+
+-- a line without an `.equ` leaves the constants
+not-equ : (body : Body) (d : Definition) → is_equ body ≡ false → body ≡ EquBody d → ⊥
+not-equ body d apart is = absurd (let wrong : false ≡ true = sym apart ∙ ap is_equ is in cc)
+
+pub constants-stay : (lines : List (List ℕ)) (i : ℕ) (text : List ℕ) (names : List (List ℕ)) (row : List (Option ℤ)) → i < length lines → text ≡ get_or lines i text → is_equ (statement_of text).body ≡ false → AreConstants (program_of lines) i names row → AreConstants (program_of lines) (i + 1) names row
+constants-stay lines i text names row within read apart are =
+    let program : Program = program_of lines in
+    let next : suc i ≡ i + 1 = omega arith in
+    let here : (statement_of text).body ≡ body_at program (suc i) = body-on lines i text within read ∙ ap (body_at program) (sym next) in
+    record {
+      each = are.each
+          ∙ sym (constants-kept program i (λ d is. absurd (not-equ (statement_of text).body d apart (here ∙ is))))
+          ∙ ap (constant_through program) next;
+      within = are.within;
+    }
+
+-- The row, line by line
+
+module _ (program : Program) (former : List Measured) where
+  pub through-length : (i : ℕ) → i ≤ length former → length (shapes_through program former i) ≡ length former
+  through-length i within =
+      let parts = length-append (for_lines (shape_at program) i) (drop i former) in
+      let first = length-for_lines (shape_at program) i in
+      let rest = length-drop i former in
+      omega (arith, parts, first, rest, within)
+
+  split : (i : ℕ) (other : Measured) → i < length former → shapes_through program former i ≡ for_lines (shape_at program) i ++ get_or former i other ∷ drop (i + 1) former
+  split i other within = ap (λ rest. for_lines (shape_at program) i ++ rest) (drop_more former i other within)
+
+  next : (i : ℕ) → for_lines (shape_at program) i ++ shape_at program (i + 1) ∷ drop (i + 1) former ≡ shapes_through program former (i + 1)
+  next i =
+      let one : i + 1 ≡ suc i = omega arith in
+      ap (λ k. for_lines (shape_at program) i ++ shape_at program k ∷ drop (i + 1) former) one
+      ∙ sym (append_assoc (for_lines (shape_at program) i) (shape_at program (suc i) ∷ []) (drop (i + 1) former))
+      ∙ ap (λ k. for_lines (shape_at program) k ++ drop (i + 1) former) (sym one)
+
+  pub through-kept : (i : ℕ) (other : Measured) → i < length former → get_or former i other ≡ shape_at program (i + 1) → shapes_through program former i ≡ shapes_through program former (i + 1)
+  through-kept i other within same =
+      split i other within
+      ∙ ap (λ m. for_lines (shape_at program) i ++ m ∷ drop (i + 1) former) same
+      ∙ next i
+
+  pub through-set : (i : ℕ) → i < length former → set (shapes_through program former i) i (shape_at program (i + 1)) ≡ shapes_through program former (i + 1)
+  through-set i within =
+      let m = shape_at program (i + 1) in
+      let count = length-for_lines (shape_at program) i in
+      ap (λ row. set row i m) (split i Nothing within)
+      ∙ ap (λ k. set (for_lines (shape_at program) i ++ get_or former i Nothing ∷ drop (i + 1) former) k m) (sym count)
+      ∙ set-append_seam (for_lines (shape_at program) i) (get_or former i Nothing) (drop (i + 1) former) m
+      ∙ next i
+
+  pub through-all : (i : ℕ) → length former ≤ i → shapes_through program former i ≡ for_lines (shape_at program) i
+  through-all i all = ap (λ rest. for_lines (shape_at program) i ++ rest) (drop_all i former all) ∙ end (for_lines (shape_at program) i)
+    where
+      end : (xs : List Measured) → xs ++ [] ≡ xs
+      end [] = refl
+      end (x ∷ xs) = ap (λ ys. x ∷ ys) (end xs)

@@ -1,0 +1,18 @@
+use Rattle.std.proofs.Common.{◌≡◌, length, arith, ap, subst}
+use Rattle.rv_store.specs.Before.{lines_before}
+use Rattle.rv_store.specs.Column.{HasPlace}
+use Rattle.rv_store.specs.Edits.{edit_of}
+use Rattle.rv_store.proofs.FormerShapes.{shape_count, place}
+use Rattle.rv_store.proofs.shapes.former_shapes.Goals as goal
+
+pub insert-requires : goal.insert-requires
+insert-requires c =
+    let before = c.args.before.now in
+    let has = subst (λ e. HasPlace (lines_before before) (edit_of e)) c.in-Insert.is (place before c.requires) in
+    omega (arith, has.0, has.1, shape_count before c.requires, c.in_ok-extend_from_slice.ensures.len, c.in_ok-row.ensures.len)
+
+pub remove-requires : goal.remove-requires
+remove-requires c =
+    let before = c.args.before.now in
+    let has = subst (λ e. HasPlace (lines_before before) (edit_of e)) c.in-Delete.is (place before c.requires) in
+    omega (arith, has.0, has.1, shape_count before c.requires, c.in_ok-extend_from_slice.ensures.len, c.in_ok-row.ensures.len)
