@@ -18,8 +18,9 @@ use Rattle.rv_layout.specs.Sections.{sections, section_number}
 use Rattle.rv_layout.specs.BaseLaws.{base-bound, base_from-fits, sum_below-grows}
 use Rattle.rv_layout.specs.PlaceLaws.{part_within, ends_together, number_below, base-layout}
 use Rattle.rv_store.specs.declared.ends.Ends.{Ends}
+use Rattle.rv_store.specs.declared.places.Reached.{Reached}
 use Rattle.rv_list.specs.declared.view.LinePlace.{LinePlace}
-use Rattle.rv_store.specs.Ends.{by_section, ends_of, next_offset, ends_after, next_place, place_by_shapes}
+use Rattle.rv_store.specs.Ends.{by_section, ends_of, ends_at, next_offset, ends_after, next_place, place_by_shapes}
 use Rattle.rv_store.specs.Program.{for_lines}
 use Rattle.rv_store.proofs.Programs.{at-for_lines, length-for_lines}
 
@@ -114,6 +115,23 @@ ends_of-push ms m =
     (λ j. record { section = section_through-push Text ms m j; offsets = by_section (λ t. offset_through-push t Text 0 ms m j) })
     ∙ ap (λ xs. record { section = section_after s m; offsets = xs }) (one-grows ends (λ x. offset_after x m) here (number_below s))
     ∙ ap (λ x. record { section = section_after s m; offsets = set (by_section ends) here x }) (offset_after-size (ends here) m ∙ ap (λ x. x + size_at x m) (sym (at-section ends s)))
+
+-- Where the end of the next line's section stands apart
+
+twice : {A : Type 0} (xs : List A) (i : ℕ) (a b : A) → set (set xs i a) i b ≡ set xs i b
+twice [] i a b = refl
+twice (x ∷ xs) zero a b = refl
+twice (x ∷ xs) (suc i) a b = ap (λ ys. x ∷ ys) (twice xs i a b)
+
+-- a line of bytes
+pub bytes-on : (r : Reached) (size : ℕ) → length r.ends.offsets ≡ sections → ends_at (record { ends = r.ends; base = r.base; offset = r.offset + size }) ≡ ends_after (ends_at r) (Bytes size)
+bytes-on r size count =
+    let n = section_number r.ends.section in
+    let xs = r.ends.offsets in
+    let within : n < length xs = omega (arith, number_below r.ends.section, count) in
+    let here : slice_index (set xs n r.offset) n ≡ r.offset = get_or-set_same xs n r.offset 0 within in
+    ap (λ ys. record { section = r.ends.section; offsets = ys }) (sym (twice xs n r.offset (r.offset + size)))
+    ∙ ap (λ x. record { section = r.ends.section; offsets = set (set xs n r.offset) n (x + size) }) (sym here)
 
 -- The places
 

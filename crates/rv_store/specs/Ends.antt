@@ -8,6 +8,7 @@ use Rattle.rv_layout.specs.Effects.{section_reached, offset_reached}
 use Rattle.rv_layout.specs.Places.{section_after, section_through, size_at, section_of, line_size_of, section_end_of, address_of}
 use Rattle.rv_layout.specs.Sections.{sections, section_number}
 use Rattle.rv_store.specs.declared.ends.Ends.{Ends}
+use Rattle.rv_store.specs.declared.places.Reached.{Reached}
 use Rattle.rv_list.specs.declared.view.LinePlace.{LinePlace}
 
 -- a number for each section, in their order
@@ -32,6 +33,10 @@ ends_after ends m = record {
   section = section_after ends.section m;
   offsets = set ends.offsets (section_number ends.section) (next_offset ends + size_at (next_offset ends) m);
 }
+
+-- the ends where that of the next line's section stands apart
+abbrev pub ends_at : Reached → Ends
+ends_at r = record { section = r.ends.section; offsets = set r.ends.offsets (section_number r.ends.section) r.offset }
 
 -- the place of the next line, where the sections begin at these addresses
 abbrev pub next_place : (bases : List ℕ) → Ends → Measured → LinePlace

@@ -3,13 +3,13 @@
 ghost use Rattle.std.specs.Prelude.{◌≡◌, ◌≤◌, ◌<◌, ◌+◌, ◌^◌, All, length, slice_index, true, IfOk, IfSome};
 ghost use Rattle.rv_layout.specs.Effects.{join, effect_of, layout_of};
 ghost use Rattle.rv_layout.specs.declared.measured.Measured.{Measured};
-ghost use Rattle.rv_layout.specs.Places.{section_of, address_of, line_size_of, is_base, AreLimited};
+ghost use Rattle.rv_layout.specs.Places.{section_of, address_of, line_size_of, is_base, IsLimited, AreLimited};
 ghost use Rattle.rv_layout.specs.Sections.{section_number};
-ghost use Rattle.rv_store.specs.Ends.{next_offset, next_place};
+ghost use Rattle.rv_store.specs.Ends.{ends_after, ends_at, next_offset, next_place};
 ghost use Rattle.rv_store.specs.Program.{for_lines};
 
 use crate::ends::Ends;
-use crate::room::room_for;
+use crate::room::row_for;
 use rv_layout::{Layout, Measured, SECTIONS, bases, section_number};
 use rv_list::LinePlace;
 use std::alloc::{AllocError, Global};
@@ -58,6 +58,87 @@ pub(crate) fn next_place(bases: &[u32; SECTIONS], ends: &Ends, shape: &Measured)
     }
 }
 
+// Where the next line of a text lies. Of the ends of the sections, that of its own stands apart, at `offset`: lines that stay in the
+// section look up nothing.
+#[derive(Clone, Copy)]
+struct Reached {
+    ends: Ends,
+    base: u32,
+    offset: u32,
+}
+
+impl Reached {
+    // The next line after these ends, where the sections begin at these addresses.
+    fn of(ends: Ends, bases: &[u32; SECTIONS]) -> Reached
+        ensures ends { ends_at result ≡ ends }
+        ensures base { result.base ≡ slice_index bases.now (section_number result.ends.section) }
+    {
+        Reached {
+            ends,
+            base: bases[section_number(ends.section)],
+            offset: ends.next_offset(),
+        }
+    }
+
+    // All ends of the sections.
+    fn ends(&self) -> Ends
+        ensures { result ≡ ends_at self.now }
+    {
+        let mut ends = self.ends;
+        ends.offsets[section_number(ends.section)] = self.offset;
+        ends
+    }
+
+    // Goes on by a line of so many bytes, and answers its place.
+    fn go_over(&mut self, size: u32) -> LinePlace
+        requires address { self.old.base + self.old.offset < 2 ^ 32 }
+        requires end { self.old.offset + size < 2 ^ 32 }
+        ensures place { result ≡ record { section = self.old.ends.section; address = self.old.base + self.old.offset; size = size } }
+        ensures on { self.new ≡ record { ends = self.old.ends; base = self.old.base; offset = self.old.offset + size } }
+    {
+        let place = LinePlace {
+            section: self.ends.section,
+            address: self.base + self.offset,
+            size,
+        };
+        self.offset += size;
+        place
+    }
+
+    // Goes on by a line whose place or whose next one has to be looked up, and answers its place.
+    fn turn(&mut self, bases: &[u32; SECTIONS], shape: &Measured) -> LinePlace
+        requires address { slice_index bases.now (section_number self.old.ends.section) + next_offset (ends_at self.old) < 2 ^ 32 }
+        requires short { next_offset (ends_at self.old) ≤ 2 ^ 30 }
+        requires limited { IsLimited shape.now }
+        ensures place { result ≡ next_place bases.now (ends_at self.old) shape.now }
+        ensures ends { ends_at self.new ≡ ends_after (ends_at self.old) shape.now }
+        ensures base { self.new.base ≡ slice_index bases.now (section_number self.new.ends.section) }
+    {
+        let mut ends = self.ends();
+        let place = next_place(bases, &ends, shape);
+        ends.advance(shape);
+        *self = Reached::of(ends, bases);
+        place
+    }
+
+    // Goes on by a line, and answers its place.
+    fn advance(&mut self, bases: &[u32; SECTIONS], shape: &Measured) -> LinePlace
+        requires base { self.old.base ≡ slice_index bases.now (section_number self.old.ends.section) }
+        requires address { slice_index bases.now (section_number self.old.ends.section) + next_offset (ends_at self.old) < 2 ^ 32 }
+        requires short { next_offset (ends_at self.old) ≤ 2 ^ 30 }
+        requires limited { IsLimited shape.now }
+        ensures place { result ≡ next_place bases.now (ends_at self.old) shape.now }
+        ensures ends { ends_at self.new ≡ ends_after (ends_at self.old) shape.now }
+        ensures base { self.new.base ≡ slice_index bases.now (section_number self.new.ends.section) }
+    {
+        match shape {
+            Measured::Bytes(count) => self.go_over(*count),
+            Measured::Nothing | Measured::Faulty(_) => self.go_over(0),
+            Measured::Align(_) | Measured::Switch(_) => self.turn(bases, shape),
+        }
+    }
+}
+
 /// Where the lines lie, by their shapes: addresses from `base` on. `total` is the layout of all of them.
 pub fn places(
     alloc: Global,
@@ -73,11 +154,10 @@ pub fn places(
     ensures small { IfOk result (λ row. All (λ p. p.size ≤ 65536) row.items) }
 {
     let bases = bases(total, base);
-    let mut ends = Ends::start();
-    let mut row = Vec::with_capacity(alloc, room_for(shapes.len()))?;
+    let mut reached = Reached::of(Ends::start(), &bases);
+    let mut row = row_for(alloc, shapes.len())?;
     for shape in shapes {
-        row.push(next_place(&bases, &ends, shape))?;
-        ends.advance(shape);
+        row.push_reserved(reached.advance(&bases, shape));
     }
     Ok(row)
 }

@@ -1,4 +1,4 @@
-use Rattle.std.proofs.Common.{◌≡◌, suc, ◌+◌, ◌^◌, ◌≤◌, ◌∷◌, [], ◌++◌, All, take, arith, ap, sym, ◌∙◌, subst}
+use Rattle.std.proofs.Common.{◌≡◌, suc, ◌+◌, ◌^◌, ◌≤◌, ◌∷◌, [], ◌++◌, All, length, take, rules, arith, ap, sym, ◌∙◌, subst}
 use Rattle.rv_layout.specs.Effects.{offset_reached}
 use Rattle.rv_layout.specs.Places.{sum_below}
 use Rattle.rv_layout.specs.Sections.{sections}
@@ -13,8 +13,20 @@ pub bases-bases-requires-clause-ends : goal.bases-bases-requires-clause-ends
 bases-bases-requires-clause-ends c =
     subst (λ l. sum_below (offset_reached l) sections ≤ 2 ^ 30) (sym c.requires.total) (reached_together c.args.shapes.now c.requires.limited c.requires.few)
 
-pub next_place-requires : goal.next_place-requires
-next_place-requires c =
+pub loop-shape-init : goal.loop-shape-init
+loop-shape-init c = record {
+  ends = c.of-reached.ensures.ends ∙ c.start.ensures;
+  base = c.of-reached.ensures.base;
+  places = c.in_ok-row.ensures.empty;
+  count = omega (arith, ap length c.in_ok-row.ensures.empty, c.in_ok-row.row.ok.0);
+  room = c.in_ok-row.ensures.room;
+}
+
+pub advance-requires-clause-base : goal.advance-requires-clause-base
+advance-requires-clause-base c = c.loop-shape.invariant.base
+
+pub advance-requires-clause-address : goal.advance-requires-clause-address
+advance-requires-clause-address c =
     let ms = c.args.shapes.now in
     let are = bases-AreBases c.args.base ms c.args.total.now c.bases-bases.result c.requires.total c.requires.few c.requires.limited c.bases-bases.ensures in
     let fits = next_place-fits c.args.base ms c.loop-shape.shape-index c.bases-bases.result c.requires.base c.requires.few c.requires.limited are in
@@ -31,6 +43,10 @@ pub advance-requires-clause-limited : goal.advance-requires-clause-limited
 advance-requires-clause-limited c =
     next-IsLimited c.args.shapes.now c.loop-shape.shape-index c.shape-item.result c.requires.limited c.loop-shape-test.true c.shape-item.is
 
+pub push_reserved-requires : goal.push_reserved-requires
+push_reserved-requires c =
+    omega (arith, c.loop-shape.invariant.count, c.loop-shape.invariant.room, c.loop-shape-test.true)
+
 pub loop-shape-preserved : goal.loop-shape-preserved
 loop-shape-preserved c =
     let ms = c.args.shapes.now in
@@ -40,18 +56,26 @@ loop-shape-preserved c =
     let next : i + 1 ≡ suc i = omega arith in
     record {
       ends =
-          c.advance.ensures
+          c.advance.ensures.ends
           ∙ ap (λ e. ends_after e m) c.loop-shape.invariant.ends
           ∙ sym (ap ends_of (take-next ms i m c.loop-shape-test.true c.shape-item.is) ∙ ends_of-push (take i ms) m);
+      base = c.advance.ensures.base;
       places =
-          c.in_ok-push.ensures.items
-          ∙ ap (λ row. row ++ c.next_place.result ∷ []) c.loop-shape.invariant.places
+          c.push_reserved.ensures.items
+          ∙ ap (λ row. row ++ c.advance.result ∷ []) c.loop-shape.invariant.places
           ∙ ap (λ p. for_lines (place_by_shapes c.args.base ms) i ++ p ∷ [])
-          (c.next_place.ensures
+          (c.advance.ensures.place
           ∙ ap (λ e. next_place c.bases-bases.result e m) c.loop-shape.invariant.ends
           ∙ next_place-is c.args.base ms i m c.bases-bases.result are (next-is ms i m c.loop-shape-test.true c.shape-item.is))
           ∙ ap (for_lines (place_by_shapes c.args.base ms)) (sym next);
+      count = omega (arith, c.push_reserved.ensures.len, c.loop-shape.invariant.count);
+      room = subst (λ n. length ms ≤ n) (sym c.push_reserved.ensures.capacity) c.loop-shape.invariant.room;
     }
+
+pub returns-clause-places : goal.returns-clause-places
+returns-clause-places c =
+    let all : c.loop-shape.shape-index ≡ length c.args.shapes.now = search rules in
+    c.loop-shape.invariant.places ∙ ap (for_lines (place_by_shapes c.args.base c.args.shapes.now)) all
 
 pub returns-clause-small : goal.returns-clause-small
 returns-clause-small c =

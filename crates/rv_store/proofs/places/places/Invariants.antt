@@ -1,10 +1,15 @@
-use Rattle.std.proofs.Common.{◌≡◌, take}
-use Rattle.rv_store.specs.Ends.{ends_of, place_by_shapes}
+use Rattle.std.proofs.Common.{◌≡◌, ◌≤◌, length, take}
+use Rattle.std.specs.Prelude.{slice_index, vec_len, vec_capacity}
+use Rattle.rv_layout.specs.Sections.{section_number}
+use Rattle.rv_store.specs.Ends.{ends_at, ends_of, place_by_shapes}
 use Rattle.rv_store.specs.Program.{for_lines}
 use Rattle.rv_store.proofs.places.places.Given as goal
 
 abbrev pub invariant-loop-shape : goal.invariant-loop-shape
 invariant-loop-shape l = record {
-  ends : l.ends ≡ ends_of (take l.shape-index l.shapes);
+  ends : ends_at l.reached ≡ ends_of (take l.shape-index l.shapes);
+  base : l.reached.base ≡ slice_index l.bases (section_number l.reached.ends.section);
   places : l.row.items ≡ for_lines (place_by_shapes l.base l.shapes) l.shape-index;
+  count : vec_len l.row ≡ l.shape-index;
+  room : length l.shapes ≤ vec_capacity l.row;
 }
