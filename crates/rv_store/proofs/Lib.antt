@@ -65,6 +65,7 @@ pub mod TextLines
 pub mod UseExamples
 pub mod UsedConstants
 pub mod UsedValues
+pub mod ValidLines
 pub mod ValueLaws
 pub mod WorkLaws
 pub mod WorkSums

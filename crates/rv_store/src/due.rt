@@ -3,20 +3,22 @@
 ghost use Rattle.std.specs.Prelude.{◌≡◌, ◌≤◌, not, true, false, Some, length, IfOk};
 ghost use Rattle.rv_stmt.specs.declared.statement.Body.TheVariants.{Equ as EquBody};
 ghost use Rattle.rv_store.specs.Before.{IsBefore, IsAfter, base_before, lines_before, edit_on};
-ghost use Rattle.rv_store.specs.Changes.{is_invalidated, is_reencoded, is_due};
+ghost use Rattle.rv_store.specs.Briefs.{brief_of};
+ghost use Rattle.rv_store.specs.Changes.{is_reencoded, is_due};
 ghost use Rattle.rv_store.specs.Codes.{values_of_body};
 ghost use Rattle.rv_store.specs.Differing.{HasDiffering};
 ghost use Rattle.rv_store.specs.Jumps.{target_of};
-ghost use Rattle.rv_store.specs.Program.{body_at, lines_that};
+ghost use Rattle.rv_store.specs.Program.{statement_at, body_at, lines_that};
 ghost use Rattle.rv_store.specs.Sameness.{same_values};
 ghost use Rattle.rv_store.specs.SymbolRows.{AreSymbolRows};
 ghost use Rattle.rv_store.specs.TextRows.{program_in};
-ghost use Rattle.rv_store.specs.Uses.{is_equ};
 
 use crate::before::Before;
+use crate::brief::Brief;
 use crate::differing::differing_names;
-use crate::invalidation::is_invalidated;
+use crate::invalidation::{is_invalidated, may_be_invalidated};
 use crate::jumps::differs_in_distance;
+use crate::line::Line;
 use crate::line_values::symbol_value;
 use crate::name_set::NameSet;
 use crate::symbol_rows::SymbolRows;
@@ -86,23 +88,6 @@ fn is_jump_due(before: &Before<'_, '_>, after: &SymbolRows<'_>, target: &[u8], l
     }
 }
 
-// Whether a line that an edit invalidates, and that is no `.equ`, is due.
-fn is_invalid_due(before: &Before<'_, '_>, after: &SymbolRows<'_>, line: u32) -> bool
-    requires before { IsBefore before.now }
-    requires rows { AreSymbolRows after.now }
-    requires after { IsAfter before.now after.now.text }
-    requires first { 1 ≤ line }
-    requires last { line ≤ length after.now.text.lines.now }
-    requires no_equ { is_equ (body_at (program_in after.now.text) line) ≡ false }
-    requires invalidated { is_invalidated (base_before before.now) (lines_before before.now) (edit_on before.now) line ≡ true }
-    ensures { result ≡ is_due (base_before before.now) (lines_before before.now) (edit_on before.now) line }
-{
-    match target_on(&after.text, line) {
-        Some(target) => is_jump_due(before, after, target, line),
-        None => true,
-    }
-}
-
 // Whether a line of the text after an edit is due. `differing` has each symbol that differs on one of the lines.
 fn is_due(before: &Before<'_, '_>, after: &SymbolRows<'_>, differing: NameSet, line: u32) -> bool
     requires before { IsBefore before.now }
@@ -116,10 +101,82 @@ fn is_due(before: &Before<'_, '_>, after: &SymbolRows<'_>, differing: NameSet, l
     if let Some(definition) = equ_on(&after.text, line) {
         return is_equ_due(before, after, definition, line);
     }
-    if !is_invalidated(before, after, differing, line) {
+    match target_on(&after.text, line) {
+        Some(target) => is_jump_due(before, after, target, line),
+        None => is_invalidated(before, after, differing, line),
+    }
+}
+
+// It is as for `is_due`, by the brief of the line, which is mostly enough.
+#[inline(always)]
+fn is_due_by_brief(
+    before: &Before<'_, '_>,
+    after: &SymbolRows<'_>,
+    differing: NameSet,
+    brief: Brief,
+    line: u32,
+) -> bool
+    requires before { IsBefore before.now }
+    requires rows { AreSymbolRows after.now }
+    requires after { IsAfter before.now after.now.text }
+    requires differing { HasDiffering (base_before before.now) (lines_before before.now) (edit_on before.now) differing }
+    requires brief { brief ≡ brief_of (statement_at (program_in after.now.text) line) }
+    requires first { 1 ≤ line }
+    requires last { line ≤ length after.now.text.lines.now }
+    ensures { result ≡ is_due (base_before before.now) (lines_before before.now) (edit_on before.now) line }
+{
+    if !may_be_invalidated(before, after, differing, brief, line) {
         return false;
     }
-    is_invalid_due(before, after, line)
+    is_due(before, after, differing, line)
+}
+
+// The lines that are due, rising, where the lines of the text after the edit stand in a column.
+fn due_in_column(
+    alloc: Global,
+    before: &Before<'_, '_>,
+    after: &SymbolRows<'_>,
+    differing: NameSet,
+    lines: &[Line],
+) -> Result<Vec<u32>, AllocError>
+    requires before { IsBefore before.now }
+    requires rows { AreSymbolRows after.now }
+    requires after { IsAfter before.now after.now.text }
+    requires differing { HasDiffering (base_before before.now) (lines_before before.now) (edit_on before.now) differing }
+    requires column { lines.now ≡ after.now.text.lines.now }
+    ensures { IfOk result (λ row. row.items ≡ lines_that (is_due (base_before before.now) (lines_before before.now) (edit_on before.now)) (length after.now.text.lines.now)) }
+{
+    let mut row = Vec::new(alloc);
+    for (i, line) in lines.iter().enumerate() {
+        let number = i as u32 + 1;
+        if is_due_by_brief(before, after, differing, line.brief(), number) {
+            row.push(number)?;
+        }
+    }
+    Ok(row)
+}
+
+// The lines that are due, rising, wherever the lines stand.
+fn due_anywhere(
+    alloc: Global,
+    before: &Before<'_, '_>,
+    after: &SymbolRows<'_>,
+    differing: NameSet,
+) -> Result<Vec<u32>, AllocError>
+    requires before { IsBefore before.now }
+    requires rows { AreSymbolRows after.now }
+    requires after { IsAfter before.now after.now.text }
+    requires differing { HasDiffering (base_before before.now) (lines_before before.now) (edit_on before.now) differing }
+    ensures { IfOk result (λ row. row.items ≡ lines_that (is_due (base_before before.now) (lines_before before.now) (edit_on before.now)) (length after.now.text.lines.now)) }
+{
+    let mut row = Vec::new(alloc);
+    for i in 0..after.text.lines.len() {
+        let line = i as u32 + 1;
+        if is_due(before, after, differing, line) {
+            row.push(line)?;
+        }
+    }
+    Ok(row)
 }
 
 /// The lines of the text after an edit that are due, rising.
@@ -134,12 +191,8 @@ pub fn due_lines(
     ensures { IfOk result (λ row. row.items ≡ lines_that (is_due (base_before before.now) (lines_before before.now) (edit_on before.now)) (length after.now.text.lines.now)) }
 {
     let differing = differing_names(before, after);
-    let mut row = Vec::new(alloc);
-    for i in 0..after.text.lines.len() {
-        let line = i as u32 + 1;
-        if is_due(before, after, differing, line) {
-            row.push(line)?;
-        }
+    match after.text.lines.column() {
+        Some(lines) => due_in_column(alloc, before, after, differing, lines),
+        None => due_anywhere(alloc, before, after, differing),
     }
-    Ok(row)
 }

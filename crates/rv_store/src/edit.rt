@@ -1,6 +1,6 @@
 //! Edits of a text.
 
-ghost use Rattle.std.specs.Prelude.{◌≡◌, ◌<◌, ◌-◌, ◌^◌, ℕ, List, length};
+ghost use Rattle.std.specs.Prelude.{◌≡◌, ◌<◌, ◌-◌, ◌^◌, ℕ, List, None, length};
 ghost use Rattle.rv_store.specs.Edits.{edit_of, line_before_edit, place_of_edit};
 ghost use Rattle.rv_store.specs.Text.{refusal_of};
 
@@ -39,6 +39,16 @@ impl LineEdit<'_> {
         }
     }
 
+    /// The number of the line that it puts in, or before which it takes one out. No other line of the text after it is new.
+    pub fn place(&self) -> u32
+        ensures value { result ≡ place_of_edit (edit_of self.now) }
+        ensures only { (line : ℕ) → line_before_edit (edit_of self.now) line ≡ None → line ≡ result }
+    {
+        match *self {
+            LineEdit::Insert(k, _) | LineEdit::Delete(k) | LineEdit::Replace(k, _) => k,
+        }
+    }
+
     /// Where a line of the text after the edit stood before it. The line that the edit puts in stood nowhere.
     pub fn line_before(&self, line: u32) -> Option<u32>
         requires { line < 2 ^ 32 - 1 }
@@ -52,15 +62,6 @@ impl LineEdit<'_> {
             LineEdit::Delete(_) => Some(line + 1),
             LineEdit::Replace(k, _) if line == k => None,
             LineEdit::Replace(_, _) => Some(line),
-        }
-    }
-
-    /// The number of the line that it puts in, or before which it takes one out.
-    pub fn place(&self) -> u32
-        ensures { result ≡ place_of_edit (edit_of self.now) }
-    {
-        match *self {
-            LineEdit::Insert(k, _) | LineEdit::Delete(k) | LineEdit::Replace(k, _) => k,
         }
     }
 }

@@ -1,14 +1,18 @@
 //! Which lines an edit invalidates: their values may differ from those that they had.
 
-ghost use Rattle.std.specs.Prelude.{◌≡◌, ◌≤◌, length};
+ghost use Rattle.std.specs.Prelude.{◌≡◌, ◌≤◌, ℕ, false, Some, length};
 ghost use Rattle.rv_store.specs.Before.{IsBefore, IsAfter, base_before, lines_before, edit_on};
+ghost use Rattle.rv_store.specs.Briefs.{brief_of};
 ghost use Rattle.rv_store.specs.Changes.{differs_in_place, differs_in_uses, is_invalidated};
 ghost use Rattle.rv_store.specs.Differing.{HasDiffering};
+ghost use Rattle.rv_store.specs.Edits.{line_before_edit};
 ghost use Rattle.rv_store.specs.LinePairs.{IsLinePair, IsOpenPair, HasDifferingOn, differs_in_name_on, program_before_pair, program_after_pair};
-ghost use Rattle.rv_store.specs.Program.{body_at};
+ghost use Rattle.rv_store.specs.Program.{statement_at, body_at};
 ghost use Rattle.rv_store.specs.SymbolRows.{AreSymbolRows};
+ghost use Rattle.rv_store.specs.TextRows.{program_in};
 
 use crate::before::Before;
+use crate::brief::Brief;
 use crate::name_set::NameSet;
 use crate::symbol_rows::SymbolRows;
 use crate::text_lines::{brief_on, place_on, statement_on};
@@ -64,6 +68,50 @@ impl LinePair<'_> {
         brief.names.meets(differing)
             && any_name(&statement_on(&self.after.text, self.line).body, self)
     }
+}
+
+// Whether a line is new, has another address than it had, or is in another section.
+#[inline]
+fn has_moved(before: &Before<'_, '_>, after: &SymbolRows<'_>, line: u32) -> bool
+    requires before { IsBefore before.now }
+    requires rows { AreSymbolRows after.now }
+    requires after { IsAfter before.now after.now.text }
+    requires first { 1 ≤ line }
+    requires last { line ≤ length after.now.text.lines.now }
+    ensures { result ≡ false → (stood : ℕ) → line_before_edit (edit_on before.now) line ≡ Some stood
+        → differs_in_place (base_before before.now) (program_in before.now.symbols.text) (program_in after.now.text) line stood ≡ false }
+{
+    let Some(stood) = before.edit.line_before(line) else {
+        return true;
+    };
+    let after = place_on(&after.text, line);
+    let before = place_on(&before.symbols.text, stood);
+    after.address != before.address || after.section != before.section
+}
+
+/// Whether an edit may invalidate a line of the text after it, which has this brief: a test without a look at its statement,
+/// which almost all other lines fail. `differing` has each symbol that differs on one of the lines.
+#[inline]
+pub fn may_be_invalidated(
+    before: &Before<'_, '_>,
+    after: &SymbolRows<'_>,
+    differing: NameSet,
+    brief: Brief,
+    line: u32,
+) -> bool
+    requires before { IsBefore before.now }
+    requires rows { AreSymbolRows after.now }
+    requires after { IsAfter before.now after.now.text }
+    requires differing { HasDiffering (base_before before.now) (lines_before before.now) (edit_on before.now) differing }
+    requires brief { brief ≡ brief_of (statement_at (program_in after.now.text) line) }
+    requires first { 1 ≤ line }
+    requires last { line ≤ length after.now.text.lines.now }
+    ensures { result ≡ false → is_invalidated (base_before before.now) (lines_before before.now) (edit_on before.now) line ≡ false }
+{
+    if line == before.edit.place() || brief.uncompared || brief.names.meets(differing) {
+        return true;
+    }
+    brief.address && has_moved(before, after, line)
 }
 
 /// Whether an edit invalidates a line of the text after it. `differing` has each symbol that differs on one of the lines.

@@ -1,6 +1,6 @@
 //! The lines of a text, in a column or in the items of a tree.
 
-ghost use Rattle.std.specs.Prelude.{◌≡◌, ◌≤◌, ◌-◌, length, map, get_or};
+ghost use Rattle.std.specs.Prelude.{◌≡◌, ◌≤◌, ◌-◌, length, map, get_or, IfSome};
 ghost use Rattle.std.specs.Option.{is_some};
 ghost use Rattle.rv_store.specs.LinesWithout.{AreWithout};
 ghost use Rattle.rv_store.specs.Pairs.{pcrel_high_of};
@@ -92,6 +92,16 @@ impl<'a> Lines<'a> {
         match self.standing {
             Standing::Column(lines) => lines.len(),
             Standing::Items(items) => items.len() as usize,
+        }
+    }
+
+    /// All of them, where they stand in a column.
+    pub fn column(&self) -> Option<&'a [Line]>
+        ensures { IfSome result (λ lines. lines.now ≡ self.now) }
+    {
+        match self.standing {
+            Standing::Column(lines) => Some(lines),
+            Standing::Items(_) => None,
         }
     }
 

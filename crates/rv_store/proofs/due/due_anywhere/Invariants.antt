@@ -2,7 +2,7 @@ use Rattle.std.proofs.Common.{◌≡◌, ◌≤◌, length}
 use Rattle.rv_store.specs.Before.{base_before, lines_before, edit_on}
 use Rattle.rv_store.specs.Changes.{is_due}
 use Rattle.rv_store.specs.Program.{lines_that}
-use Rattle.rv_store.proofs.due.due_lines.Given as goal
+use Rattle.rv_store.proofs.due.due_anywhere.Given as goal
 
 -- the row holds those of the lines so far
 abbrev pub invariant-loop-i : goal.invariant-loop-i

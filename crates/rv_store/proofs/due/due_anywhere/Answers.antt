@@ -2,8 +2,8 @@ use Rattle.std.proofs.Common.{ap, sym, ◌∙◌, arith}
 use Rattle.rv_store.specs.Before.{base_before, lines_before, edit_on}
 use Rattle.rv_store.specs.Changes.{is_due}
 use Rattle.rv_store.proofs.DueLines.{row-added, row-kept}
-use Rattle.rv_store.proofs.due.due_lines.Goals as goal
-use Rattle.rv_store.proofs.due.due_lines.Goals.{then-is_due+in_ok-push, else-is_due}
+use Rattle.rv_store.proofs.due.due_anywhere.Goals as goal
+use Rattle.rv_store.proofs.due.due_anywhere.Goals.{then-is_due+in_ok-push, else-is_due}
 
 pub loop-i-preserved : goal.loop-i-preserved
 loop-i-preserved c =

@@ -1,0 +1,31 @@
+use Rattle.std.proofs.Common.{◌≡◌, ◌<◌, ◌+◌, length, ap, sym, subst, ◌∙◌, arith}
+use Rattle.rv_stmt.specs.Statement.{statement_of}
+use Rattle.rv_store.specs.Before.{base_before, lines_before, edit_on}
+use Rattle.rv_store.specs.Briefs.{brief_of}
+use Rattle.rv_store.specs.Changes.{is_due}
+use Rattle.rv_store.specs.Program.{program_of, statement_at}
+use Rattle.rv_store.proofs.DueLines.{row-added, row-kept}
+use Rattle.rv_store.proofs.LocalLines.{statement-of-line}
+use Rattle.rv_store.proofs.due.due_in_column.Goals as goal
+use Rattle.rv_store.proofs.due.due_in_column.Goals.{then-is_due_by_brief+in_ok-push, else-is_due_by_brief}
+
+pub is_due_by_brief-requires-clause-brief : goal.is_due_by_brief-requires-clause-brief
+is_due_by_brief-requires-clause-brief c =
+    let i = c.loop-i.i in
+    let statement = statement-of-line c.args.lines.now i c.index-lines-i.result (omega (arith, c.loop-i-test.true)) c.index-lines-i.is in
+    c.brief.ensures ∙ ap brief_of (sym statement ∙ ap (λ lines. statement_at (program_of lines) (i + 1)) c.requires.column)
+
+pub loop-i-preserved : goal.loop-i-preserved
+loop-i-preserved c =
+    let before = c.args.before.now in
+    let test = is_due (base_before before) (lines_before before) (edit_on before) in
+    let n = c.loop-i.i in
+    let row = c.loop-i.row.items in
+    let count = ap length c.requires.column in
+    record {
+      within = omega (arith, c.loop-i-test.true, count);
+      row = elim c.if-is_due_by_brief.branch [
+        | then-is_due_by_brief+in_ok-push w ↦ ap (λ v. v.items) w.row-is ∙ w.in_ok-push.ensures.items ∙ row-added test n row c.loop-i.invariant.row (sym c.is_due_by_brief.ensures ∙ w.if-is_due_by_brief.true)
+        | else-is_due_by_brief w ↦ ap (λ v. v.items) w.row-is ∙ row-kept test n row c.loop-i.invariant.row (sym c.is_due_by_brief.ensures ∙ w.if-is_due_by_brief.false)
+      ];
+    }
