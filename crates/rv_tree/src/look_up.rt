@@ -32,11 +32,10 @@ impl<T: Summed> Subtree<T> {
     {
         match &self.node {
             Node::Leaf(item) => {
-                let unit = T::Sum::unit();
                 if count == 0 {
-                    unit
+                    T::Sum::unit()
                 } else {
-                    item.sum().join(&unit)
+                    item.sum()
                 }
             }
             Node::Fork { left, right, .. } => {
@@ -45,7 +44,7 @@ impl<T: Summed> Subtree<T> {
                     left.prefix(count)
                 } else {
                     let rest = right.prefix(count - left_len);
-                    left.sum().join(&rest)
+                    left.sum_ahead(&rest)
                 }
             }
         }
