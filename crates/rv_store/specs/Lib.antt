@@ -29,6 +29,8 @@ pub mod Lines
 pub mod LinesWithout
 pub mod Locals
 pub mod MovedDefinitions
+pub mod MovedLines
+pub mod MovedLocals
 pub mod NameSets
 pub mod PairedHighs
 pub mod Pairs
