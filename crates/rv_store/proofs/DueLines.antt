@@ -5,7 +5,7 @@ use Rattle.std.proofs.lemmas.Bool.{not_from_true, or_left, or_right, or_from}
 use Rattle.std.proofs.lemmas.List.{append-nil}
 use Rattle.rv_stmt.specs.declared.directive.Definition.{Definition}
 use Rattle.rv_expr.specs.Tree as Tree
-use Rattle.rv_expr.specs.Value.{Environment}
+use Rattle.rv_expr.specs.Value.{Environment, value_of}
 use Rattle.rv_stmt.specs.declared.operand.Operand.{Operand}
 use Rattle.rv_stmt.specs.declared.operand.OperandValue.{OperandValue}
 use Rattle.rv_stmt.specs.declared.operand.OperandValue.TheVariants.{Plain}
@@ -17,7 +17,7 @@ use Rattle.rv_stmt.specs.declared.statement.Body.TheVariants.{Equ}
 use Rattle.rv_stmt.specs.Readings.{and_then}
 use Rattle.rv_layout.specs.declared.measured.Measured.TheVariants.{Bytes}
 use Rattle.rv_layout.specs.Shapes.{constants, is_size, shape_of_instructions, shape_of}
-use Rattle.rv_fix.specs.Values.{given_to, operand_value, counted_from, entry_of}
+use Rattle.rv_fix.specs.Values.{Entry, given_to, operand_value, counted_from, entry_of}
 use Rattle.rv_store.specs.declared.before.Before.{Before}
 use Rattle.rv_store.specs.declared.text_rows.TextRows.{TextRows}
 use Rattle.rv_store.specs.Before.{IsAfter, base_before, lines_before, edit_on}
@@ -26,11 +26,10 @@ use Rattle.rv_store.specs.Changes.{program_after, is_new_or, differs_in_values, 
 use Rattle.rv_store.specs.Codes.{values_of_body, values_by_shape, values_at}
 use Rattle.rv_store.specs.Constants.{constant_of}
 use Rattle.rv_store.specs.Edits.{line_before_edit}
-use Rattle.rv_store.specs.Jumps.{target_in, target_among, target_of, distance}
+use Rattle.rv_store.specs.Jumps.{label_in, target_in, target_among, target_of, distance}
 use Rattle.rv_store.specs.Layout.{shape_at, address_at}
 use Rattle.rv_store.specs.Pairs.{names_at}
 use Rattle.rv_store.specs.Program.{Program, program_of, body_at, lines_that}
-use Rattle.rv_store.specs.References.{reference_of}
 use Rattle.rv_store.specs.Sameness.{same_entry, same_values}
 use Rattle.rv_store.specs.Text.{Edit, refusal_of, lines_after}
 use Rattle.rv_store.specs.TextRows.{program_in}
@@ -75,77 +74,86 @@ reencoded-by_symbol before after line stood d is_after stands here there =
 none≢some : {A : Type 0} {x : A} {P : Type 0} → None ≡ Some x → P
 none≢some h = absurd (let no : None ≡ Some _ = h in cc)
 
-target-entry : (given : Environment) (here : ℕ) (value : OperandValue) (role : Role) (name : List ℕ) → target_in value role ≡ Some name → and_then (operand_value (given_to role given) here value) (λ v. Ok (counted_from here role v)) ≡ distance here (given.symbol name)
-target-entry given here (Plain (Tree.Symbol m)) Target name h = ap (λ n. distance here (given.symbol n)) (let same : m ≡ name = cc in same)
-target-entry given here (Plain (Tree.Symbol m)) PairTarget name h = ap (λ n. distance here (given.symbol n)) (let same : m ≡ name = cc in same)
-target-entry given here value role name h = none≢some h
+label-is : (e target : Tree.Tree) → label_in e ≡ Some target → e ≡ target
+label-is (Tree.Symbol name) target h = let same : Some (Tree.Symbol name) ≡ Some target = h in cc
+label-is (Tree.Local number direction) target h = let same : Some (Tree.Local number direction) ≡ Some target = h in cc
+label-is e target h = none≢some h
 
-target-entries : (given : Environment) (here : ℕ) (os : List Operand) (name : List ℕ) → target_among os ≡ Some name → map (entry_of given here) os ≡ distance here (given.symbol name) ∷ []
-target-entries given here [] name h = none≢some h
-target-entries given here (o ∷ []) name h = ap (λ e. e ∷ []) (target-entry given here o.value o.role name h)
-target-entries given here (o ∷ p ∷ os) name h = none≢some h
+target-entry : (given : Environment) (here : ℕ) (value : OperandValue) (role : Role) (target : Tree.Tree) → target_in value role ≡ Some target → and_then (operand_value (given_to role given) here value) (λ v. Ok (counted_from here role v)) ≡ distance here (value_of given target)
+target-entry given here (Plain e) Target target h = ap (λ t. distance here (value_of given t)) (label-is e target h)
+target-entry given here (Plain e) PairTarget target h = ap (λ t. distance here (value_of given t)) (label-is e target h)
+target-entry given here value role target h = none≢some h
 
-jump-values : (base : ℕ) (program : Program) (k : ℕ) (b : Body) (name : List ℕ) → target_of b ≡ Some name → values_of_body base program k b ≡ Operands (distance (address_at base program k) (reference_of base program k name) ∷ [])
-jump-values base program k (body.Instr i) name h = ap Operands (target-entries (names_at base program k) (address_at base program k) i.operands name h)
-jump-values base program k (body.Pseudo i) name h = ap Operands (target-entries (names_at base program k) (address_at base program k) i.operands name h)
-jump-values base program k b name h = none≢some h
+target-entries : (given : Environment) (here : ℕ) (os : List Operand) (target : Tree.Tree) → target_among os ≡ Some target → map (entry_of given here) os ≡ distance here (value_of given target) ∷ []
+target-entries given here [] target h = none≢some h
+target-entries given here (o ∷ []) target h = ap (λ e. e ∷ []) (target-entry given here o.value o.role target h)
+target-entries given here (o ∷ p ∷ os) target h = none≢some h
 
-target-unsized : (value : OperandValue) (role : Role) (name : List ℕ) → target_in value role ≡ Some name → is_size role ≡ false
-target-unsized (Plain (Tree.Symbol m)) Target name h = refl
-target-unsized (Plain (Tree.Symbol m)) PairTarget name h = refl
-target-unsized value role name h = none≢some h
+-- what its target gives on line k
+abbrev pub target_value : (base : ℕ) → Program → (k : ℕ) → (target : Tree.Tree) → Entry
+target_value base program k target = value_of (names_at base program k) target
 
-targets-unsized : (os : List Operand) (name : List ℕ) → target_among os ≡ Some name → list_any (λ o. is_size o.role) os ≡ false
-targets-unsized [] name h = none≢some h
-targets-unsized (o ∷ []) name h = or_from (is_size o.role) false (target-unsized o.value o.role name h) refl
-targets-unsized (o ∷ p ∷ os) name h = none≢some h
+jump-values : (base : ℕ) (program : Program) (k : ℕ) (b : Body) (target : Tree.Tree) → target_of b ≡ Some target → values_of_body base program k b ≡ Operands (distance (address_at base program k) (target_value base program k target) ∷ [])
+jump-values base program k (body.Instr i) target h = ap Operands (target-entries (names_at base program k) (address_at base program k) i.operands target h)
+jump-values base program k (body.Pseudo i) target h = ap Operands (target-entries (names_at base program k) (address_at base program k) i.operands target h)
+jump-values base program k b target h = none≢some h
+
+target-unsized : (value : OperandValue) (role : Role) (target : Tree.Tree) → target_in value role ≡ Some target → is_size role ≡ false
+target-unsized (Plain e) Target target h = refl
+target-unsized (Plain e) PairTarget target h = refl
+target-unsized value role target h = none≢some h
+
+targets-unsized : (os : List Operand) (target : Tree.Tree) → target_among os ≡ Some target → list_any (λ o. is_size o.role) os ≡ false
+targets-unsized [] target h = none≢some h
+targets-unsized (o ∷ []) target h = or_from (is_size o.role) false (target-unsized o.value o.role target h) refl
+targets-unsized (o ∷ p ∷ os) target h = none≢some h
 
 -- their shape follows from no constant, and is no fault
-jump-shape : (b : Body) (name : List ℕ) → target_of b ≡ Some name → (n : ℕ) × ((f : List ℕ → Option ℤ) → shape_of f b ≡ Bytes n)
-jump-shape (body.Instr i) name h =
-    (_, λ f. ap (shape_of_instructions (constants f) i) (no-size_operand i.operands (targets-unsized i.operands name h)))
-jump-shape (body.Pseudo i) name h =
-    (_, λ f. ap (shape_of_instructions (constants f) i) (no-size_operand i.operands (targets-unsized i.operands name h)))
-jump-shape b name h = none≢some h
+jump-shape : (b : Body) (target : Tree.Tree) → target_of b ≡ Some target → (n : ℕ) × ((f : List ℕ → Option ℤ) → shape_of f b ≡ Bytes n)
+jump-shape (body.Instr i) target h =
+    (_, λ f. ap (shape_of_instructions (constants f) i) (no-size_operand i.operands (targets-unsized i.operands target h)))
+jump-shape (body.Pseudo i) target h =
+    (_, λ f. ap (shape_of_instructions (constants f) i) (no-size_operand i.operands (targets-unsized i.operands target h)))
+jump-shape b target h = none≢some h
 
 -- so they have the values of their bodies
-jump-values_at : (base : ℕ) (program : Program) (k : ℕ) (b : Body) (name : List ℕ) → body_at program k ≡ b → target_of b ≡ Some name → values_at base program k ≡ Operands (distance (address_at base program k) (reference_of base program k name) ∷ [])
-jump-values_at base program k b name is h =
-    let shape : shape_at program k ≡ Bytes (jump-shape b name h).0 = ap (shape_of (constant_of program k)) is ∙ (jump-shape b name h).1 (constant_of program k) in
-    let values = ap (values_of_body base program k) is ∙ jump-values base program k b name h in
+jump-values_at : (base : ℕ) (program : Program) (k : ℕ) (b : Body) (target : Tree.Tree) → body_at program k ≡ b → target_of b ≡ Some target → values_at base program k ≡ Operands (distance (address_at base program k) (target_value base program k target) ∷ [])
+jump-values_at base program k b target is h =
+    let shape : shape_at program k ≡ Bytes (jump-shape b target h).0 = ap (shape_of (constant_of program k)) is ∙ (jump-shape b target h).1 (constant_of program k) in
+    let values = ap (values_of_body base program k) is ∙ jump-values base program k b target h in
     λ i. values_by_shape (shape i) (values i)
 
 and_no_more : (x : Bool) → (x && true) ≡ x
 and_no_more true = refl
 and_no_more false = refl
 
-jump-differs : (base : ℕ) (before after : Program) (k j : ℕ) (b : Body) (name : List ℕ) → body_at after k ≡ b → body_at before j ≡ b → target_of b ≡ Some name → not (same_entry (distance (address_at base after k) (reference_of base after k name)) (distance (address_at base before j) (reference_of base before j name))) ≡ differs_in_values base before after k j
-jump-differs base before after k j b name here there h =
-    let x = distance (address_at base after k) (reference_of base after k name) in
-    let y = distance (address_at base before j) (reference_of base before j name) in
+jump-differs : (base : ℕ) (before after : Program) (k j : ℕ) (b : Body) (target : Tree.Tree) → body_at after k ≡ b → body_at before j ≡ b → target_of b ≡ Some target → not (same_entry (distance (address_at base after k) (target_value base after k target)) (distance (address_at base before j) (target_value base before j target))) ≡ differs_in_values base before after k j
+jump-differs base before after k j b target here there h =
+    let x = distance (address_at base after k) (target_value base after k target) in
+    let y = distance (address_at base before j) (target_value base before j target) in
     let values = not (same_values (values_at base after k) (values_at base before j)) in
-    let n = jump-shape b name h in
+    let n = jump-shape b target h in
     let shape : shape_at after k ≡ shape_at before j =
     ap (shape_of (constant_of after k)) here ∙ n.1 (constant_of after k) ∙ sym (ap (shape_of (constant_of before j)) there ∙ n.1 (constant_of before j)) in
     let same = not_from_true _ ((same_shape-Decides _ _).1 shape) in
     ap not (sym (and_no_more (same_entry x y)))
-    ∙ (λ i. not (same_values (sym (jump-values_at base after k b name here h) i) (sym (jump-values_at base before j b name there h) i)))
+    ∙ (λ i. not (same_values (sym (jump-values_at base after k b target here h) i) (sym (jump-values_at base before j b target there h) i)))
     ∙ sym (no_more values)
     ∙ ap (λ b. values || b) (sym same)
 
 -- one that stood somewhere is reencoded where its target is another distance from it
-pub reencoded-by_distance : (before : Before) (after : TextRows) (line stood : ℕ) (name : List ℕ) → IsAfter before after → line_before_edit (edit_on before) line ≡ Some stood → target_of (body_at (program_in after) line) ≡ Some name → body_at (program_in before.symbols.text) stood ≡ body_at (program_in after) line → not (same_entry (distance (address_at after.base (program_in after) line) (reference_of after.base (program_in after) line name)) (distance (address_at (base_before before) (program_in before.symbols.text) stood) (reference_of (base_before before) (program_in before.symbols.text) stood name))) ≡ is_reencoded (base_before before) (lines_before before) (edit_on before) line
-reencoded-by_distance before after line stood name is_after stands target there =
+pub reencoded-by_distance : (before : Before) (after : TextRows) (line stood : ℕ) (target : Tree.Tree) → IsAfter before after → line_before_edit (edit_on before) line ≡ Some stood → target_of (body_at (program_in after) line) ≡ Some target → body_at (program_in before.symbols.text) stood ≡ body_at (program_in after) line → not (same_entry (distance (address_at after.base (program_in after) line) (target_value after.base (program_in after) line target)) (distance (address_at (base_before before) (program_in before.symbols.text) stood) (target_value (base_before before) (program_in before.symbols.text) stood target))) ≡ is_reencoded (base_before before) (lines_before before) (edit_on before) line
+reencoded-by_distance before after line stood target is_after stands is_target there =
     let edited = ap program_of is_after.lines in
     let b = body_at (program_in after) line in
-    (λ i. not (same_entry (distance (address_at (is_after.base i) (edited i) line) (reference_of (is_after.base i) (edited i) line name)) (distance (address_at (base_before before) (program_in before.symbols.text) stood) (reference_of (base_before before) (program_in before.symbols.text) stood name))))
-    ∙ jump-differs (base_before before) (program_of (lines_before before)) (program_after (lines_before before) (edit_on before)) line stood b name (sym (ap (λ p. body_at p line) edited)) there target
+    (λ i. not (same_entry (distance (address_at (is_after.base i) (edited i) line) (target_value (is_after.base i) (edited i) line target)) (distance (address_at (base_before before) (program_in before.symbols.text) stood) (target_value (base_before before) (program_in before.symbols.text) stood target))))
+    ∙ jump-differs (base_before before) (program_of (lines_before before)) (program_after (lines_before before) (edit_on before)) line stood b target (sym (ap (λ p. body_at p line) edited)) there is_target
     ∙ sym (ap (is_new_or (differs_in_values (base_before before) (program_of (lines_before before)) (program_after (lines_before before) (edit_on before)) line)) stands)
 
 -- a jump is no `.equ`
-pub jump-open : (b : Body) (name : List ℕ) → target_of b ≡ Some name → is_equ b ≡ false
-jump-open (Equ d) name h = none≢some h
-jump-open b name h = refl
+pub jump-open : (b : Body) (target : Tree.Tree) → target_of b ≡ Some target → is_equ b ≡ false
+jump-open (Equ d) target h = none≢some h
+jump-open b target h = refl
 
 -- Whether a line is due
 
@@ -158,9 +166,9 @@ module _ (base : ℕ) (lines : List (List ℕ)) (edit : Edit) (k : ℕ) where
   unfolding due-by
   due-equ equ = sym (ap due-by (or_left (is_equ (body_at (program_after lines edit) k)) (is_some (target_of (body_at (program_after lines edit) k))) equ))
 
-  pub due-jump : (name : List ℕ) → target_of (body_at (program_after lines edit) k) ≡ Some name → is_reencoded base lines edit k ≡ is_due base lines edit k
+  pub due-jump : (target : Tree.Tree) → target_of (body_at (program_after lines edit) k) ≡ Some target → is_reencoded base lines edit k ≡ is_due base lines edit k
   unfolding due-by
-  due-jump name target = sym (ap due-by (or_right (is_equ (body_at (program_after lines edit) k)) (is_some (target_of (body_at (program_after lines edit) k))) (ap is_some target)))
+  due-jump target goes = sym (ap due-by (or_right (is_equ (body_at (program_after lines edit) k)) (is_some (target_of (body_at (program_after lines edit) k))) (ap is_some goes)))
 
   -- and one that is not
   pub due-other : is_equ (body_at (program_after lines edit) k) ≡ false → target_of (body_at (program_after lines edit) k) ≡ None → is_invalidated base lines edit k ≡ is_due base lines edit k

@@ -18,6 +18,7 @@ use Rattle.rv_store.specs.declared.text_rows.TextRows.{TextRows}
 use Rattle.rv_store.specs.Definitions.{definition_of}
 use Rattle.rv_store.specs.Layout.{address_at, place_at}
 use Rattle.rv_store.specs.LineNames.{address_of_found, paired_high_in, label_line_in, names_by, rows_for}
+use Rattle.rv_store.specs.Locals.{local_line_in}
 use Rattle.rv_store.specs.Pairs.{paired_high_of}
 use Rattle.rv_store.specs.Program.{Program, for_lines, last_line, first_line}
 use Rattle.rv_store.specs.References.{has_local, local_line, line_of_place, label_line, by_definition, address_of_line, names_on, no_pairs, equ_value, symbol_through}
@@ -124,6 +125,13 @@ label_line-same text row highs line usable reference.Here are last = refl
 same_names : (symbol symbol' : List ℕ → Entry) (local local' : ℕ → Direction → Entry) (here here' : Entry) (high high' : LabelReference → Entry) → symbol ≡ symbol' → local ≡ local' → here ≡ here' → high ≡ high' → ◌≡◌ {A = Environment} (record { symbol = symbol; local = local; here = here; paired_high = high }) (record { symbol = symbol'; local = local'; here = here'; paired_high = high' })
 same_names symbol symbol' local local' here here' high high' a b c d = cc
 
+-- the address of a local label by the rows of a text
+pub local_by-rows : (text : TextRows) (line number : ℕ) (direction : Direction) → AreTextRows text → line ≤ length (program_in text) → address_of_found text.places.now (local_line_in text.locals.now line number direction) ≡ address_of_line text.base (program_in text) (local_line (program_in text) line number direction)
+local_by-rows text line number direction are last =
+    let program : Program = program_in text in
+    ap (address_of_found text.places.now) (local_line-row program text.locals.now line number direction are.located last)
+    ∙ address-found text.base program text.places.now (local_line program line number direction) are.placed (local_line-is program line number direction last)
+
 -- what names give by the rows of a text, where the `.equ`s of the first lines may be used and the row of their values has
 -- these
 pub names_by-rows : (text : TextRows) (row highs : List Entry) (k line usable : ℕ) (high : ℕ → Entry) → AreTextRows text → AreEquValuesIn text k row → usable ≤ k → line ≤ length (program_in text) → 1 ≤ line → ((l : ℕ) → 1 ≤ l → l ≤ length (program_in text) → paired_high_in highs l ≡ high l) → names_by (rows_for text row highs line usable) (address_in_text text line) ≡ names_on text.base (program_in text) line (symbol_through text.base (program_in text) usable) high
@@ -133,9 +141,7 @@ names_by-rows text row highs k line usable high are values less last first same 
     (fun_ext (λ name.
     ap (λ f. by_definition (address_in text.places.now) usable (f name) (in_row text.names.now row (Err LaterEqu) name)) are.defined.each
     ∙ symbol_by-rows text row k usable name are values less))
-    (fun_ext (λ number. fun_ext (λ direction.
-    ap (address_of_found text.places.now) (local_line-row program text.locals.now line number direction are.located last)
-    ∙ address-found text.base program text.places.now (local_line program line number direction) are.placed (local_line-is program line number direction last))))
+    (fun_ext (λ number. fun_ext (λ direction. local_by-rows text line number direction are last)))
     refl
     (fun_ext (λ label.
     ap (λ found. and_then found (paired_high_in highs)) (label_line-same text row highs line usable label are last)

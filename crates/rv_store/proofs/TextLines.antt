@@ -4,6 +4,7 @@ use Rattle.std.specs.List.{list_any}
 use Rattle.std.specs.Option.{is_some}
 use Rattle.std.proofs.lemmas.Bool.{leb-true}
 use Rattle.std.proofs.lemmas.List.{get_or-map}
+use Rattle.rv_expr.specs.Tree.{Tree}
 use Rattle.rv_stmt.specs.declared.directive.Definition.{Definition}
 use Rattle.rv_stmt.specs.declared.statement.Body.{Body}
 use Rattle.rv_stmt.specs.declared.statement.Body.TheVariants.{Equ}
@@ -74,6 +75,6 @@ no_definition b other = refl
 pub no_target : (b : Body) → is_some (target_of b) ≡ false → None ≡ target_of b
 no_target b none = at (target_of b) none
   where
-    at : (o : Option (List ℕ)) → is_some o ≡ false → None ≡ o
+    at : (o : Option Tree) → is_some o ≡ false → None ≡ o
     at None h = refl
-    at (Some name) h = absurd (true≢false h)
+    at (Some target) h = absurd (true≢false h)

@@ -1,7 +1,7 @@
--- Jumps and the like: lines that use the address of one symbol, counted from their own, and nothing else.
+-- Jumps and the like: lines that use the address of one label, counted from their own, and nothing else.
 -- (docs/LANGUAGE.md, Values of operands)
 use Rattle.std.specs.Prelude.{ℕ, List, [], ◌∷◌, Option, Some, None, Ok}
-use Rattle.rv_expr.specs.Tree.{Symbol}
+use Rattle.rv_expr.specs.Tree.{Tree, Symbol, Local}
 use Rattle.rv_stmt.specs.declared.operand.Operand.{Operand}
 use Rattle.rv_stmt.specs.declared.operand.OperandValue.{OperandValue}
 use Rattle.rv_stmt.specs.declared.operand.OperandValue.TheVariants.{Plain}
@@ -13,18 +13,24 @@ use Rattle.rv_stmt.specs.Readings.{and_then}
 use Rattle.rv_fix.specs.Displacements.{displacement}
 use Rattle.rv_fix.specs.Values.{Entry}
 
--- the symbol that an operand is, where its role is that of a target
-abbrev pub target_in : OperandValue → Role → Option (List ℕ)
-target_in (Plain (Symbol name)) Target = Some name
-target_in (Plain (Symbol name)) PairTarget = Some name
+-- an expression that is a symbol or a local label
+abbrev pub label_in : Tree → Option Tree
+label_in (Symbol name) = Some (Symbol name)
+label_in (Local number direction) = Some (Local number direction)
+label_in e = None
+
+-- the symbol or local label that an operand is, where its role is that of a target
+abbrev pub target_in : OperandValue → Role → Option Tree
+target_in (Plain e) Target = label_in e
+target_in (Plain e) PairTarget = label_in e
 target_in value role = None
 
-abbrev pub target_among : List Operand → Option (List ℕ)
+abbrev pub target_among : List Operand → Option Tree
 target_among (o ∷ []) = target_in o.value o.role
 target_among os = None
 
--- the symbol that a line goes to, if that is its only operand
-abbrev pub target_of : Body → Option (List ℕ)
+-- the symbol or local label that a line goes to, if that is its only operand
+abbrev pub target_of : Body → Option Tree
 target_of (Instr i) = target_among i.operands
 target_of (Pseudo i) = target_among i.operands
 target_of body = None

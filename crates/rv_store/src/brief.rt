@@ -33,7 +33,7 @@ pub struct Brief {
     pub names: NameSet,
     /// It uses its own address.
     pub address: bool,
-    /// It uses the address of one symbol, counted from its own, and nothing else.
+    /// It uses the address of one label, counted from its own, and nothing else.
     pub jump: bool,
     /// It uses a local label or `%pcrel_lo`, or is an `.equ`: what such a line uses is not compared.
     pub uncompared: bool,

@@ -17,12 +17,13 @@ use crate::before::Before;
 use crate::brief::Brief;
 use crate::differing::differing_names;
 use crate::invalidation::{is_invalidated, may_be_invalidated};
-use crate::jumps::differs_in_distance;
+use crate::jumps::{differs_in_distance, differs_in_local_distance};
 use crate::line::Line;
 use crate::line_values::symbol_value;
 use crate::name_set::NameSet;
 use crate::symbol_rows::SymbolRows;
 use crate::text_lines::{equ_on, target_on};
+use rv_expr::{Expr, Node};
 use rv_stmt::Definition;
 use std::alloc::{AllocError, Global};
 
@@ -73,7 +74,7 @@ fn is_equ_due(
 }
 
 // Whether a jump is due: it is new, or its target is another distance from it than it was.
-fn is_jump_due(before: &Before<'_, '_>, after: &SymbolRows<'_>, target: &[u8], line: u32) -> bool
+fn is_jump_due(before: &Before<'_, '_>, after: &SymbolRows<'_>, target: &Expr, line: u32) -> bool
     requires before { IsBefore before.now }
     requires rows { AreSymbolRows after.now }
     requires after { IsAfter before.now after.now.text }
@@ -82,9 +83,21 @@ fn is_jump_due(before: &Before<'_, '_>, after: &SymbolRows<'_>, target: &[u8], l
     requires target { target_of (body_at (program_in after.now.text) line) ≡ Some target.now }
     ensures { result ≡ is_reencoded (base_before before.now) (lines_before before.now) (edit_on before.now) line }
 {
-    match before.edit.line_before(line) {
-        Some(stood) => differs_in_distance(&before.symbols, after, target, stood, line),
-        None => true,
+    let Some(stood) = before.edit.line_before(line) else {
+        return true;
+    };
+    let symbols = &before.symbols;
+    match &target.node {
+        Node::Symbol(name) => differs_in_distance(symbols, after, name.bytes(), stood, line),
+        Node::Local(number, direction) => differs_in_local_distance(
+            &symbols.text,
+            &after.text,
+            *number,
+            *direction,
+            stood,
+            line,
+        ),
+        _ => unreachable!(),
     }
 }
 

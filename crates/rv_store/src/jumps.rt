@@ -1,4 +1,4 @@
-//! Jumps and the like: lines that use the address of one symbol, counted from their own, and nothing else.
+//! Jumps and the like: lines that use the address of one label, counted from their own, and nothing else.
 
 ghost use Rattle.std.specs.Prelude.{◌≡◌, ◌≤◌, ℕ, List, false, not, length};
 ghost use Rattle.std.specs.Option.{option_map};
@@ -6,22 +6,23 @@ ghost use Rattle.rv_store.specs.declared.limits.TheConstants.{MAX_LINES};
 ghost use Rattle.rv_store.specs.Jumps.{target_among, target_of, distance};
 ghost use Rattle.rv_store.specs.Layout.{address_at};
 ghost use Rattle.rv_store.specs.Program.{body_at};
-ghost use Rattle.rv_store.specs.References.{reference_of};
+ghost use Rattle.rv_store.specs.References.{address_of_line, local_line, reference_of};
 ghost use Rattle.rv_store.specs.Rows.{number_of};
 ghost use Rattle.rv_store.specs.Sameness.{same_entry};
 ghost use Rattle.rv_store.specs.SymbolRows.{AreSymbolRows};
-ghost use Rattle.rv_store.specs.TextRows.{program_in};
+ghost use Rattle.rv_store.specs.TextRows.{AreTextRows, program_in};
 ghost use Rattle.rv_store.specs.Uses.{is_equ};
 
 use crate::symbol_rows::SymbolRows;
 use crate::text_lines::place_on;
-use rv_expr::Node;
+use crate::text_rows::{TextRows, address_in};
+use rv_expr::{Direction, Expr, Node, ValueFault};
 use rv_fix::{Entry, displacement, is_same_entry};
 use rv_stmt::{Body, Operand, OperandValue, Role};
 
-// The symbol that the only operand is, where its role is that of a target.
-fn target_among(operands: &[Operand]) -> Option<&[u8]>
-    ensures { option_map (λ n. n.now) result ≡ target_among operands.now }
+// The symbol or local label that the only operand is, where its role is that of a target.
+fn target_among(operands: &[Operand]) -> Option<&Expr>
+    ensures { option_map (λ e. e.now) result ≡ target_among operands.now }
 {
     let [operand] = operands else {
         return None;
@@ -33,14 +34,14 @@ fn target_among(operands: &[Operand]) -> Option<&[u8]>
         return None;
     };
     match &expression.node {
-        Node::Symbol(name) => Some(name.bytes()),
+        Node::Symbol(_) | Node::Local(_, _) => Some(expression),
         _ => None,
     }
 }
 
-/// The symbol that a line goes to, if that is its only operand.
-pub fn target(body: &Body) -> Option<&[u8]>
-    ensures { option_map (λ n. n.now) result ≡ target_of body.now }
+/// The symbol or local label that a line goes to, if that is its only operand.
+pub fn target(body: &Body) -> Option<&Expr>
+    ensures { option_map (λ e. e.now) result ≡ target_of body.now }
 {
     match body {
         Body::Instr(instruction) | Body::Pseudo(instruction) => {
@@ -92,5 +93,54 @@ pub fn differs_in_distance(
     !is_same_entry(
         distance(after, number, line),
         distance(before, number, stood),
+    )
+}
+
+// The address of a local label as a line names it.
+fn local_address(text: &TextRows<'_>, number: u16, direction: Direction, line: u32) -> Entry
+    requires rows { AreTextRows text.now }
+    requires last { line ≤ length text.now.lines.now }
+    ensures { result ≡ address_of_line text.now.base (program_in text.now) (local_line (program_in text.now) line number direction) }
+{
+    match text.locals.line(line, number, direction) {
+        Some(label) => Ok(i64::from(address_in(text.places, label))),
+        None => Err(ValueFault::Undefined),
+    }
+}
+
+// How far a local label is from a line.
+fn local_distance(text: &TextRows<'_>, number: u16, direction: Direction, line: u32) -> Entry
+    requires rows { AreTextRows text.now }
+    requires first { 1 ≤ line }
+    requires last { line ≤ length text.now.lines.now }
+    ensures { result ≡ distance (address_at text.now.base (program_in text.now) line) (address_of_line text.now.base (program_in text.now) (local_line (program_in text.now) line number direction)) }
+{
+    let here = place_on(text, line).address;
+    let address = local_address(text, number, direction, line)?;
+    Ok(i64::from(displacement(here, address)))
+}
+
+/// Whether a local label is another distance from `line` than it was from the line `stood`.
+pub fn differs_in_local_distance(
+    before: &TextRows<'_>,
+    after: &TextRows<'_>,
+    number: u16,
+    direction: Direction,
+    stood: u32,
+    line: u32,
+) -> bool
+    requires before { AreTextRows before.now }
+    requires after { AreTextRows after.now }
+    requires first_stood { 1 ≤ stood }
+    requires last_stood { stood ≤ length before.now.lines.now }
+    requires first { 1 ≤ line }
+    requires last { line ≤ length after.now.lines.now }
+    ensures { result ≡ not (same_entry
+        (distance (address_at after.now.base (program_in after.now) line) (address_of_line after.now.base (program_in after.now) (local_line (program_in after.now) line number direction)))
+        (distance (address_at before.now.base (program_in before.now) stood) (address_of_line before.now.base (program_in before.now) (local_line (program_in before.now) stood number direction)))) }
+{
+    !is_same_entry(
+        local_distance(after, number, direction, line),
+        local_distance(before, number, direction, stood),
     )
 }

@@ -14,6 +14,7 @@ ghost use Rattle.rv_store.specs.Uses.{is_equ};
 use crate::brief::Brief;
 use crate::jumps::target;
 use crate::text_rows::TextRows;
+use rv_expr::Expr;
 use rv_list::LinePlace;
 use rv_stmt::{Body, Definition, Stmt, operands_are_few};
 
@@ -54,12 +55,12 @@ pub fn equ_on<'a>(text: &TextRows<'a>, line: u32) -> Option<&'a Definition>
     }
 }
 
-/// The symbol that a line goes to, if that is its only operand. Other lines are gone past without a look at their statements.
+/// The symbol or local label that a line goes to, if that is its only operand. Other lines are gone past without a look at their statements.
 #[tactic(auto, using(crate::proofs::TextLines::no_target))]
-pub fn target_on<'a>(text: &TextRows<'a>, line: u32) -> Option<&'a [u8]>
+pub fn target_on<'a>(text: &TextRows<'a>, line: u32) -> Option<&'a Expr>
     requires first { 1 ≤ line }
     requires last { line ≤ length text.now.lines.now }
-    ensures { option_map (λ n. n.now) result ≡ target_of (body_at (program_in text.now) line) }
+    ensures { option_map (λ e. e.now) result ≡ target_of (body_at (program_in text.now) line) }
 {
     if !brief_on(text, line).jump {
         return None;
