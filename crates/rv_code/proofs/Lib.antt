@@ -1,4 +1,5 @@
 pub mod Apart
+pub mod CommonShapes
 pub mod Classes
 pub mod Decoded
 pub mod Examples

@@ -36,7 +36,7 @@ impl<'a> Model for Lines<'a> {
     ghost view = { λ l. lines_in l.standing };
 }
 
-// How many lines come before the first `.equ` behind the first `i` lines.
+// How many lines there are before the next `.equ` behind the first `i`.
 fn equ_from(lines: &[Line], i: usize) -> usize
     requires within { i ≤ length lines.now }
     ensures up { i ≤ result }
@@ -51,7 +51,7 @@ fn equ_from(lines: &[Line], i: usize) -> usize
     lines.len()
 }
 
-// How many lines come before the first `auipc` with `%pcrel_hi` behind the first `i` lines.
+// How many lines there are before the next `auipc` with `%pcrel_hi` behind the first `i`.
 fn pcrel_high_from(lines: &[Line], i: usize) -> usize
     requires within { i ≤ length lines.now }
     ensures up { i ≤ result }
@@ -119,8 +119,9 @@ impl<'a> Lines<'a> {
             },
         }
     }
-    /// How many lines a loop over `.equ`s may go past that has gone past the first `i`: those of a column are looked at for
-    /// the next `.equ`.
+
+    /// How many lines there are before the next `.equ` behind the first `i`. Only the lines of a column are looked at: in a tree
+    /// the next line counts as one.
     pub(crate) fn up_to_equ(&self, i: usize) -> usize
         requires within { i ≤ length self.now }
         ensures up { i ≤ result }
@@ -133,8 +134,8 @@ impl<'a> Lines<'a> {
         }
     }
 
-    /// How many lines a loop over lines with `%pcrel_hi` may go past that has gone past the first `i`: those of a column are
-    /// looked at for the next one.
+    /// How many lines there are before the next `auipc` with `%pcrel_hi` behind the first `i`. Only the lines of a column are
+    /// looked at: in a tree the next line counts as one.
     pub(crate) fn up_to_pcrel_high(&self, i: usize) -> usize
         requires within { i ≤ length self.now }
         ensures up { i ≤ result }

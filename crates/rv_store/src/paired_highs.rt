@@ -16,7 +16,8 @@ use rv_layout::section_number;
 use std::alloc::{AllocError, Global};
 
 // Goes from what the high halves on the first `i` lines give to that of one line more: if the next line has bytes, its high
-// half is taken from a label on it, and on the lines right before it in its section that have none.
+// half is taken from a label on it, and on the lines right before it in its section that have none. All calls together go past
+// a line at most once for each section.
 fn give_high(text: &TextRows<'_>, i: usize, high: Entry, row: &mut [Entry])
     requires rows { AreTextRows text.now }
     requires within { i < length text.now.lines.now }

@@ -1,0 +1,20 @@
+use Rattle.std.proofs.Common.{refl, arith, rules}
+use Rattle.std.specs.Int.{w32}
+use mir.Val.{SFits}
+use Rattle.rv_ops.specs.Table.{layout_of, sign_of, slices_of}
+use Rattle.rv_code.specs.Decoding.{fields_at, gathered}
+use Rattle.rv_ops.specs.declared.layouts.Field.TheVariants.{Value}
+use Rattle.rv_ops.specs.declared.op.Shape.TheVariants.{Upper}
+use Rattle.rv_code.proofs.CommonShapes.{value_same}
+use Rattle.rv_code.proofs.Shapes.{fields_same}
+use Rattle.rv_code.proofs.common_shapes.upper.Goals as goal
+
+pub returns : goal.returns
+unfolding fields_at layout_of
+returns c =
+    let fits : SFits w32 c.signed.result = search rules in
+    fields_same
+    (let e = c.register_at.ensures in omega (arith, e))
+    refl
+    refl
+    (value_same c.signed.result (sign_of Upper) (c.bits_at-number.result) (gathered Value c.args.word (slices_of Upper)) fits c.signed.ensures (omega (arith, c.bits_at-number.ensures.value)))
