@@ -7,6 +7,7 @@ use Rattle.std.proofs.lemmas.Bool.{cases_eq, eq-eqb, ne_eqb}
 use Rattle.std.proofs.lemmas.Grind.{same_number_lists}
 use Rattle.std.proofs.lemmas.List.{take_more, get_or_default, get_or-set_same, get_or-set_other, length-set}
 use Rattle.std.proofs.lemmas.List.FromFn.{get_or-map-range_with_len, length-map-range_with_len}
+use Rattle.rv_text.specs.declared.faults.Fault.{Fault}
 use Rattle.rv_stmt.specs.declared.section.Sect.{Sect}
 use Rattle.rv_stmt.specs.declared.section.Sect.TheVariants.{Text}
 use Rattle.rv_layout.specs.declared.effect.Effect.{Effect}
@@ -123,15 +124,34 @@ twice [] i a b = refl
 twice (x ∷ xs) zero a b = refl
 twice (x ∷ xs) (suc i) a b = ap (λ ys. x ∷ ys) (twice xs i a b)
 
--- a line of bytes
-pub bytes-on : (r : Reached) (size : ℕ) → length r.ends.offsets ≡ sections → ends_at (record { ends = r.ends; base = r.base; offset = r.offset + size }) ≡ ends_after (ends_at r) (Bytes size)
-bytes-on r size count =
-    let n = section_number r.ends.section in
-    let xs = r.ends.offsets in
-    let within : n < length xs = omega (arith, number_below r.ends.section, count) in
-    let here : slice_index (set xs n r.offset) n ≡ r.offset = get_or-set_same xs n r.offset 0 within in
-    ap (λ ys. record { section = r.ends.section; offsets = ys }) (sym (twice xs n r.offset (r.offset + size)))
-    ∙ ap (λ x. record { section = r.ends.section; offsets = set (set xs n r.offset) n (x + size) }) (sym here)
+module _ (r : Reached) (count : length r.ends.offsets ≡ sections) where
+  abbrev here : ℕ
+  here = section_number r.ends.section
+
+  pub at-offset : next_offset (ends_at r) ≡ r.offset
+  at-offset = get_or-set_same r.ends.offsets here r.offset 0 (omega (arith, number_below r.ends.section, count))
+
+  -- a line of bytes
+  pub bytes-on : (size : ℕ) → ends_at (record { ends = r.ends; base = r.base; offset = r.offset + size }) ≡ ends_after (ends_at r) (Bytes size)
+  bytes-on size =
+      ap (λ xs. record { section = r.ends.section; offsets = xs }) (sym (twice r.ends.offsets here r.offset (r.offset + size)))
+      ∙ ap (λ x. record { section = r.ends.section; offsets = set (set r.ends.offsets here r.offset) here (x + size) }) (sym at-offset)
+
+  -- a line that has no bytes
+  nothing-on : ends_at r ≡ ends_after (ends_at r) Nothing
+  nothing-on =
+      ap (λ x. ends_at (record { ends = r.ends; base = r.base; offset = x })) (let e : r.offset ≡ r.offset + 0 = omega arith in e) ∙ bytes-on 0
+
+  pub no-bytes-on : (m : Measured) → (m ≡ Nothing) ⊎ ((fault : Fault) × (m ≡ Faulty fault)) → ends_at r ≡ ends_after (ends_at r) m
+  no-bytes-on m (inl is) = nothing-on ∙ ap (ends_after (ends_at r)) (sym is)
+  no-bytes-on m (inr (fault, is)) = nothing-on ∙ ap (ends_after (ends_at r)) (sym is)
+
+  -- the place of the next line
+  pub place-apart : (bases : List ℕ) (m : Measured) (size : ℕ) → r.base ≡ slice_index bases here → size ≡ size_at (next_offset (ends_at r)) m → record { section = r.ends.section; address = r.base + r.offset; size = size } ≡ next_place bases (ends_at r) m
+  place-apart bases m size base is =
+      ap (λ b. record { section = r.ends.section; address = b + r.offset; size = size }) base
+      ∙ ap (λ x. record { section = r.ends.section; address = slice_index bases here + x; size = size }) (sym at-offset)
+      ∙ ap (λ n. record { section = r.ends.section; address = slice_index bases here + next_offset (ends_at r); size = n }) is
 
 -- The places
 

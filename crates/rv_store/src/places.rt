@@ -3,7 +3,7 @@
 ghost use Rattle.std.specs.Prelude.{◌≡◌, ◌≤◌, ◌<◌, ◌+◌, ◌^◌, All, length, slice_index, true, IfOk, IfSome};
 ghost use Rattle.rv_layout.specs.Effects.{join, effect_of, layout_of};
 ghost use Rattle.rv_layout.specs.declared.measured.Measured.{Measured};
-ghost use Rattle.rv_layout.specs.Places.{section_of, address_of, line_size_of, is_base, IsLimited, AreLimited};
+ghost use Rattle.rv_layout.specs.Places.{section_of, address_of, line_size_of, size_at, is_base, IsLimited, AreLimited};
 ghost use Rattle.rv_layout.specs.Sections.{section_number};
 ghost use Rattle.rv_store.specs.Ends.{ends_after, ends_at, next_offset, next_place};
 ghost use Rattle.rv_store.specs.Program.{for_lines};
@@ -89,51 +89,36 @@ impl Reached {
         ends
     }
 
-    // Goes on by a line of so many bytes, and answers its place.
-    fn go_over(&mut self, size: u32) -> LinePlace
-        requires address { self.old.base + self.old.offset < 2 ^ 32 }
-        requires end { self.old.offset + size < 2 ^ 32 }
-        ensures place { result ≡ record { section = self.old.ends.section; address = self.old.base + self.old.offset; size = size } }
-        ensures on { self.new ≡ record { ends = self.old.ends; base = self.old.base; offset = self.old.offset + size } }
-    {
-        let place = LinePlace {
-            section: self.ends.section,
-            address: self.base + self.offset,
-            size,
-        };
-        self.offset += size;
-        place
-    }
-
-    // Goes on by a line whose place or whose next one has to be looked up, and answers its place.
-    fn turn(&mut self, bases: &[u32; SECTIONS], shape: &Measured) -> LinePlace
-        requires address { slice_index bases.now (section_number self.old.ends.section) + next_offset (ends_at self.old) < 2 ^ 32 }
+    // Goes on by a line for which something has to be looked up, and answers how many bytes it has.
+    fn turn(&mut self, bases: &[u32; SECTIONS], shape: &Measured) -> u32
         requires short { next_offset (ends_at self.old) ≤ 2 ^ 30 }
         requires limited { IsLimited shape.now }
-        ensures place { result ≡ next_place bases.now (ends_at self.old) shape.now }
+        ensures size { result ≡ size_at (next_offset (ends_at self.old)) shape.now }
         ensures ends { ends_at self.new ≡ ends_after (ends_at self.old) shape.now }
         ensures base { self.new.base ≡ slice_index bases.now (section_number self.new.ends.section) }
     {
         let mut ends = self.ends();
-        let place = next_place(bases, &ends, shape);
+        let size = ends.next_size(shape);
         ends.advance(shape);
         *self = Reached::of(ends, bases);
-        place
+        size
     }
 
-    // Goes on by a line, and answers its place.
-    fn advance(&mut self, bases: &[u32; SECTIONS], shape: &Measured) -> LinePlace
+    // Goes on by a line, and answers how many bytes it has.
+    fn advance(&mut self, bases: &[u32; SECTIONS], shape: &Measured) -> u32
         requires base { self.old.base ≡ slice_index bases.now (section_number self.old.ends.section) }
-        requires address { slice_index bases.now (section_number self.old.ends.section) + next_offset (ends_at self.old) < 2 ^ 32 }
         requires short { next_offset (ends_at self.old) ≤ 2 ^ 30 }
         requires limited { IsLimited shape.now }
-        ensures place { result ≡ next_place bases.now (ends_at self.old) shape.now }
+        ensures size { result ≡ size_at (next_offset (ends_at self.old)) shape.now }
         ensures ends { ends_at self.new ≡ ends_after (ends_at self.old) shape.now }
         ensures base { self.new.base ≡ slice_index bases.now (section_number self.new.ends.section) }
     {
         match shape {
-            Measured::Bytes(count) => self.go_over(*count),
-            Measured::Nothing | Measured::Faulty(_) => self.go_over(0),
+            Measured::Bytes(count) => {
+                self.offset += *count;
+                *count
+            }
+            Measured::Nothing | Measured::Faulty(_) => 0,
             Measured::Align(_) | Measured::Switch(_) => self.turn(bases, shape),
         }
     }
@@ -157,7 +142,14 @@ pub fn places(
     let mut reached = Reached::of(Ends::start(), &bases);
     let mut row = row_for(alloc, shapes.len())?;
     for shape in shapes {
-        row.push_reserved(reached.advance(&bases, shape));
+        let section = reached.ends.section;
+        let address = reached.base + reached.offset;
+        let size = reached.advance(&bases, shape);
+        row.push_reserved(LinePlace {
+            section,
+            address,
+            size,
+        });
     }
     Ok(row)
 }

@@ -152,6 +152,7 @@ fn has_part(line: &Line) -> bool
 }
 
 // Writes the shape of line `i + 1` of the text after an edit, and its constant if it defines one.
+#[inline(never)]
 fn settle_line<C: Count>(
     before: &Before<'_, '_>,
     lines: &[Line],
