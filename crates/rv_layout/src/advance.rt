@@ -57,7 +57,9 @@ impl Advance {
             }
         } else {
             Advance {
-                before: self.before.wrapping_add(round_up(between, self.exponent as u8)),
+                before: self
+                    .before
+                    .wrapping_add(round_up(between, self.exponent as u8)),
                 exponent: next.exponent,
                 after: next.after,
             }

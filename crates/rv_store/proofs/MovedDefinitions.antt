@@ -1,5 +1,5 @@
 -- Where names are defined after an edit that changes no definition.
-use Rattle.std.proofs.Common.{◌≡◌, ℕ, suc, ◌+◌, ◌-◌, ◌^◌, ◌<◌, ◌≤◌, nat_lt, min, Bool, true, false, not, List, [], ◌∷◌, ◌++◌, length, map, get_or, set, take, drop, bytes_eq, Option, Some, None, if◌then◌else◌, arith, ap, sym, ◌∙◌, refl}
+use Rattle.std.proofs.Common.{◌≡◌, ℕ, suc, ◌+◌, ◌-◌, ◌^◌, ◌<◌, ◌≤◌, min, Bool, true, false, not, List, [], ◌∷◌, ◌++◌, length, map, get_or, set, take, drop, bytes_eq, Option, Some, None, if◌then◌else◌, arith, ap, sym, ◌∙◌, refl}
 use Rattle.std.specs.Prelude.{insert, remove}
 use Rattle.std.proofs.Math.ListN as listn
 use Rattle.std.proofs.Math.Path.{fun_ext}

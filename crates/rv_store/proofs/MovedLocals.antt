@@ -1,6 +1,5 @@
 -- The lines of local labels after an edit that changes no local label.
-use Rattle.std.proofs.Common.{◌≡◌, ℕ, zero, suc, ◌+◌, ◌-◌, ◌<◌, ◌≤◌, Bool, true, false, not, List, [], ◌∷◌, ◌++◌, length, map, get_or, set, Some, None, if◌then◌else◌, ◌⊎◌, inl, inr, arith, ap, sym, ◌∙◌, refl}
-use Rattle.std.specs.Prelude.{insert}
+use Rattle.std.proofs.Common.{◌≡◌, ℕ, zero, suc, ◌+◌, ◌-◌, ◌<◌, ◌≤◌, Bool, true, false, List, [], ◌∷◌, ◌++◌, length, map, get_or, set, Some, None, if◌then◌else◌, ◌⊎◌, inl, inr, arith, ap, sym, ◌∙◌, refl}
 use Rattle.std.proofs.Math.ListN as listn
 use Rattle.std.proofs.lemmas.Bool.{not-false, cases_eq}
 use Rattle.std.proofs.lemmas.Bool.Decides.{nat_tests}
@@ -13,7 +12,7 @@ use Rattle.rv_store.specs.Alike.{same_labels}
 use Rattle.rv_store.specs.Edits.{line_before_edit}
 use Rattle.rv_store.specs.MovedLines.{line_after_edit}
 use Rattle.rv_store.specs.MovedLocals.{defines_locals, edits_locals}
-use Rattle.rv_store.specs.Program.{Program, program_of, lines_that, statement_at, no_statement}
+use Rattle.rv_store.specs.Program.{program_of, lines_that, no_statement}
 use Rattle.rv_store.specs.References.{among_local, has_local}
 use Rattle.rv_store.specs.Rows.{AreLocals}
 use Rattle.rv_store.specs.Text.{Edit, Insert, Delete, Replace, refusal_of, lines_after}

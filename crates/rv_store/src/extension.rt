@@ -30,7 +30,7 @@ use crate::edit_error::EditError;
 use crate::item::Item;
 use crate::line::Line;
 use crate::lines::Lines;
-use crate::locals::Locals;
+use crate::moved_locals::locals_after;
 use crate::names::NameTable;
 use crate::renewal::renewed_all;
 use crate::room::room_for;
@@ -96,7 +96,8 @@ fn survey_with<C: Count>(
         counter,
     )?;
     let shapes = shapes_with(alloc, before.shapes, shape)?;
-    let locals = Locals::of(alloc, lines)?;
+    let text = &symbols.text;
+    let locals = locals_after(alloc, text.locals, text.lines, lines, &before.edit)?;
     let sized = ShapeRows { shapes, constants };
     Survey::by_rows(alloc, before, lines, definitions, sized, locals, counter)
 }

@@ -74,7 +74,6 @@ fn add_label(
 }
 
 // The labels of a line.
-#[inline(never)]
 fn add_labels(
     alloc: Global,
     rows: &mut Vec<Sequence<u32>>,
@@ -90,7 +89,6 @@ fn add_labels(
 }
 
 // The labels of a line. One without local labels is gone past without a look at its statement.
-#[inline(always)]
 fn add_labels_of(
     alloc: Global,
     rows: &mut Vec<Sequence<u32>>,

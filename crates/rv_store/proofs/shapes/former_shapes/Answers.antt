@@ -1,4 +1,4 @@
-use Rattle.std.proofs.Common.{◌≡◌, length, arith, ap, subst}
+use Rattle.std.proofs.Common.{arith, subst}
 use Rattle.rv_store.specs.Before.{lines_before}
 use Rattle.rv_store.specs.Column.{HasPlace}
 use Rattle.rv_store.specs.Edits.{edit_of}

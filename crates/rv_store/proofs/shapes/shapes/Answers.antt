@@ -1,13 +1,11 @@
-use Rattle.std.proofs.Common.{◌≡◌, ◌+◌, ◌≤◌, ◌<◌, ◌||◌, false, length, replicate, None, rules, arith, ap, sym, refl, subst, set, ◌∙◌}
+use Rattle.std.proofs.Common.{◌≡◌, ◌+◌, ◌≤◌, ◌<◌, false, length, replicate, None, rules, arith, ap, sym, refl, subst, set, ◌∙◌}
 use Rattle.std.proofs.lemmas.List.{length-replicate}
 use Rattle.rv_stmt.specs.Statement.{statement_of, data_size_of}
 use Rattle.rv_layout.specs.Places.{IsLimited, AreLimited}
 use Rattle.rv_layout.specs.Shapes.{shape_of, size_operands}
 use Rattle.rv_store.specs.Before.{base_before, lines_before, edit_on}
-use Rattle.rv_store.specs.Changes.{program_after}
 use Rattle.rv_store.specs.Constants.{constant_of}
 use Rattle.rv_store.specs.Edits.{place_of_edit}
-use Rattle.rv_store.specs.FormerShapes.{shapes_through}
 use Rattle.rv_store.specs.Layout.{shape_at}
 use Rattle.rv_store.specs.Program.{program_of, for_lines}
 use Rattle.rv_store.specs.Rows.{AreConstants}
