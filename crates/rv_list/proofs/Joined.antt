@@ -1,6 +1,6 @@
 -- Lists one after another, and texts that are gathered one after another.
-use Rattle.std.proofs.Common.{◌≡◌, ℕ, zero, suc, ◌+◌, ◌-◌, ◌<◌, List, [], ◌∷◌, ◌++◌, length, refl, ap, sym, ◌∙◌, arith, append_assoc, add-one}
-use Rattle.std.proofs.lemmas.List.{append-nil, length-append}
+use Rattle.std.proofs.Common.{◌≡◌, ℕ, zero, suc, ◌+◌, ◌-◌, ◌<◌, ◌≤◌, List, [], ◌∷◌, ◌++◌, length, refl, ap, sym, ◌∙◌, arith, append_assoc, add-one}
+use Rattle.std.proofs.lemmas.List.{append-nil, length-append, nil_from_length}
 use Rattle.std.proofs.lemmas.List.Folds.{concat-append}
 use Rattle.std.specs.List.{concat}
 use Rattle.std.specs.Prelude.{Option}
@@ -27,6 +27,23 @@ joined_then f k (suc more) =
       later = before.later ++ f (k + more);
       whole = rw e (rw before.whole (append_assoc (joined f k) before.later (f (k + more))));
     }
+
+-- no fewer than the first ones
+pub joined_within : {A : Type 0} (f : ℕ → List A) (k n : ℕ) → k ≤ n → length (joined f k) ≤ length (joined f n)
+joined_within f k n within =
+    let then_ = joined_then f k (n - k) in
+    let count : k + (n - k) ≡ n = omega (arith, within) in
+    let whole : joined f n ≡ joined f k ++ then_.later = rw count at then_.whole in
+    omega (arith, ap length whole, length-append (joined f k) then_.later)
+
+-- the first ones are all
+pub joined_no_more : {A : Type 0} (f : ℕ → List A) (k n : ℕ) → k ≤ n → length (joined f k) ≡ length (joined f n) → joined f n ≡ joined f k
+joined_no_more f k n within same =
+    let then_ = joined_then f k (n - k) in
+    let count : k + (n - k) ≡ n = omega (arith, within) in
+    let whole : joined f n ≡ joined f k ++ then_.later = rw count at then_.whole in
+    let none : length then_.later ≡ 0 = omega (arith, ap length whole, length-append (joined f k) then_.later, same) in
+    whole ∙ ap (λ l. joined f k ++ l) (nil_from_length then_.later none) ∙ append-nil (joined f k)
 
 -- a write fails within the next one
 pub lost_next : (f : ℕ → List ℕ) (k n : ℕ) (t0 t1 t2 : Option (List ℕ)) (p0 p1 : List ℕ) → k < n → Waits t0 p0 (joined f k) t1 p1 → WritesPrefix t1 (p1 ++ f k) t2 → WritesPrefix t0 (p0 ++ joined f n) t2

@@ -281,22 +281,29 @@ fn push_line_faults<W: Sink>(
     Ok(())
 }
 
-// Adds the rows of all lines.
+// Adds the rows of all lines, which have so many faults. The lines behind the last one with a fault are not looked at.
 fn push_fault_rows<V: View, W: Sink>(
     block: &mut OutputBlock,
     sink: &mut W,
     view: &V,
+    count: u32,
 ) -> Result<(), Failed>
-    requires { W.failures sink.old < 2 ^ 64 - 1 }
+    requires counted { count ≡ length (fault_rows (V.shown view.now)) }
+    requires failures { W.failures sink.old < 2 ^ 64 - 1 }
     ensures text { Gathers (W.taken sink.old) block.old (concat (fault_rows (V.shown view.now))) result (W.taken sink.new) block.new }
     ensures count { W.failures sink.new ≡ failures_after (W.failures sink.old) result }
 {
     let mut faults = ArrayVec::new();
     let mut lines = view.lines();
+    let mut left = count;
     for k in 0..view.line_count() {
+        if left == 0 {
+            return Ok(());
+        }
         lines.advance();
         find_faults(&mut faults, view, k + 1, &lines.line());
         push_line_faults(block, sink, k + 1, faults.as_slice())?;
+        left -= faults.len() as u32;
     }
     Ok(())
 }
@@ -312,8 +319,9 @@ fn push_faults<V: View, W: Sink>(
     ensures text { Gathers (W.taken sink.old) block.old (fault_text (V.shown view.now)) result (W.taken sink.new) block.new }
     ensures count { W.failures sink.new ≡ failures_after (W.failures sink.old) result }
 {
-    push_count(block, sink, b"faults", count_faults(view))?;
-    push_fault_rows(block, sink, view)
+    let count = count_faults(view);
+    push_count(block, sink, b"faults", count)?;
+    push_fault_rows(block, sink, view, count)
 }
 
 /// Writes the faults of a text, up to the first failure of the writer: how many there are, and for each its line, the bytes of
