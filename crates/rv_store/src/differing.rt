@@ -1,6 +1,6 @@
 //! The symbols that an edit changes.
 
-ghost use Rattle.std.specs.Prelude.{◌≡◌, ℕ, List, false, IsTrue};
+ghost use Rattle.std.specs.Prelude.{◌≡◌, ℕ, List, false, IsTrue, IfSome};
 ghost use Rattle.rv_store.specs.Before.{IsBefore, IsAfter, base_before, lines_before, edit_on};
 ghost use Rattle.rv_store.specs.Differing.{IsOneConstant, DiffersNowhere, HasDiffering};
 ghost use Rattle.rv_store.specs.Rows.{number_of, IsNumber};
@@ -32,6 +32,23 @@ fn is_one_constant(before: &Before<'_, '_>, after: &SymbolRows<'_>, number: Opti
     }
 }
 
+// Whether the symbol of this number, where a label defines it before the edit and after it, has another address: `None` where
+// there is no such label.
+fn label_has_moved(
+    before: &Before<'_, '_>,
+    after: &SymbolRows<'_>,
+    number: Option<usize>,
+) -> Option<bool>
+    requires before { IsBefore before.now }
+    requires rows { AreSymbolRows after.now }
+    requires after { IsAfter before.now after.now.text }
+    ensures { IfSome result (λ moved. moved ≡ false → (name : List ℕ) → number_of after.now.text.names.now name ≡ number → DiffersNowhere (base_before before.now) (lines_before before.now) (edit_on before.now) name) }
+{
+    let stood = before.symbols.label_of(number)?;
+    let address = after.label_of(number)?;
+    Some(address != stood)
+}
+
 // Whether the symbol of this number may give another value or another constant on a line than it gave before.
 fn may_differ(before: &Before<'_, '_>, after: &SymbolRows<'_>, number: Option<usize>) -> bool
     requires before { IsBefore before.now }
@@ -40,6 +57,9 @@ fn may_differ(before: &Before<'_, '_>, after: &SymbolRows<'_>, number: Option<us
     requires numbered { IsNumber after.now.text.names.now number }
     ensures { result ≡ false → (name : List ℕ) → number_of after.now.text.names.now name ≡ number → DiffersNowhere (base_before before.now) (lines_before before.now) (edit_on before.now) name }
 {
+    if let Some(moved) = label_has_moved(before, after, number) {
+        return moved;
+    }
     !is_same_entry(after.value_of(number), before.symbols.value_of(number))
         || !is_one_constant(before, after, number)
 }

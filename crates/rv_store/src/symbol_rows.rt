@@ -1,6 +1,6 @@
 //! What the symbols of a text are.
 
-ghost use Rattle.std.specs.Prelude.{◌≡◌, ◌≤◌, ℕ, List, length};
+ghost use Rattle.std.specs.Prelude.{◌≡◌, ◌≤◌, ℕ, List, length, None, Ok, IfSome, pos};
 ghost use Rattle.rv_store.specs.declared.limits.TheConstants.{MAX_LINES};
 ghost use Rattle.rv_store.specs.Constants.{constant_of};
 ghost use Rattle.rv_store.specs.Definitions.{definition_of, equ_line};
@@ -11,7 +11,7 @@ ghost use Rattle.rv_store.specs.TextRows.{AreTextRows, program_in};
 
 use crate::line_names::by_definition;
 use crate::names::entry_at;
-use crate::text_rows::TextRows;
+use crate::text_rows::{TextRows, address_in};
 use rv_expr::ValueFault;
 use rv_fix::Entry;
 use rv_list::DefinitionPlace;
@@ -43,6 +43,21 @@ impl SymbolRows<'_> {
         match self.definition_of(number) {
             DefinitionPlace::Nowhere | DefinitionPlace::Label(_, _) => None,
             DefinitionPlace::Equ(line) => Some(line),
+        }
+    }
+
+    /// The address of the label that defines the symbol of this number, or of one that has none, if there is such a label.
+    pub fn label_of(&self, number: Option<usize>) -> Option<u32>
+        requires rows { AreSymbolRows self.now }
+        requires few { length self.now.text.lines.now ≤ MAX_LINES }
+        ensures value { (name : List ℕ) → number_of self.now.text.names.now name ≡ number
+            → IfSome result (λ address. symbol_through self.now.text.base (program_in self.now.text) (length self.now.text.lines.now) name ≡ Ok (pos address)) }
+        ensures label { (name : List ℕ) → number_of self.now.text.names.now name ≡ number
+            → IfSome result (λ _. equ_line (definition_of (program_in self.now.text) name) ≡ None) }
+    {
+        match self.definition_of(number) {
+            DefinitionPlace::Nowhere | DefinitionPlace::Equ(_) => None,
+            DefinitionPlace::Label(line, _) => Some(address_in(self.text.places, line)),
         }
     }
 
