@@ -1,5 +1,5 @@
 -- Where a statement is put in the place of one that it is alike, all other lines stay as they are.
-use Rattle.std.proofs.Common.{◌≡◌, ℕ, zero, suc, ◌+◌, ◌-◌, ◌<◌, ◌≤◌, ◌⊎◌, inl, inr, false, ◌||◌, ◌==◌, not, ◌&&◌, List, [], ◌∷◌, length, set, get_or, Option, Some, None, Err, Ok, ok_or, pos, if◌then◌else◌, true≢false, arith, ap, sym, subst, ◌∙◌, refl}
+use Rattle.std.proofs.Common.{◌≡◌, ℕ, zero, suc, ◌+◌, ◌-◌, ◌<◌, ◌≤◌, ◌⊎◌, inl, inr, false, ◌||◌, ◌==◌, not, ◌&&◌, List, [], ◌∷◌, length, map, set, get_or, Option, Some, None, Err, Ok, ok_or, pos, if◌then◌else◌, true≢false, arith, ap, sym, subst, ◌∙◌, refl}
 use Rattle.std.specs.Result.{result_ok}
 use Rattle.std.proofs.lemmas.Bool.{cases_lt}
 use Rattle.std.proofs.lemmas.List.{length-set, get_or-set_same, get_or-set_other}
@@ -15,21 +15,23 @@ use Rattle.rv_stmt.specs.declared.statement.Body.{Body}
 use Rattle.rv_stmt.specs.declared.statement.Body.TheVariants as body
 use Rattle.rv_stmt.specs.declared.statement.Stmt.{Stmt}
 use Rattle.rv_stmt.specs.Readings.{and_then}
+use Rattle.rv_layout.specs.Effects.{layout_of}
 use Rattle.rv_layout.specs.Places.{section_of, line_size_of, address_of}
 use Rattle.rv_layout.specs.Sections.{is_code, section_number}
 use Rattle.rv_layout.specs.Shapes.{constants, shape_of}
 use Rattle.rv_fix.specs.Values.{Entry, operand_values_of}
 use Rattle.rv_list.specs.declared.view.DefinitionPlace.TheVariants.{Nowhere, Label as ByLabel}
 use Rattle.rv_store.specs.declared.line_values.LineValues.TheVariants.{Nothing, Operands, Symbol, Padding}
-use Rattle.rv_store.specs.Alike.{label_names, IsPlain, DefinesSame, IsAlike}
+use Rattle.rv_store.specs.Alike.{label_names, room_of, IsPlain, DefinesSame, IsAlike}
 use Rattle.rv_store.specs.Codes.{values_of_body, values_by_shape, values_at, code_by_values, code_at}
-use Rattle.rv_store.specs.Constants.{defined_value, constant_through}
+use Rattle.rv_store.specs.Constants.{defined_value, constant_of, constant_through}
 use Rattle.rv_store.specs.Definitions.{defines_symbol, place_among_labels, place_in_body, or_place, place_in_statement, first_place, definition_of, is_equ_on}
 use Rattle.rv_store.specs.Layout.{shape_at, shapes_of, section_at, address_at, size_at, place_at}
 use Rattle.rv_store.specs.Pairs.{pcrel_high_of, high_by, high_at, next_with_bytes, high_at_line, paired_high_of, names_at}
 use Rattle.rv_store.specs.Program.{Program, no_statement, statement_at, body_at, for_lines, last_line, first_line}
 use Rattle.rv_store.specs.References.{is_local, among_local, has_local, local_line, line_of_place, label_line, by_definition, address_of_line, names_on, no_pairs, equ_value, symbol_through, usable_equs, reference_of, references_at}
 use Rattle.rv_store.specs.Uses.{is_equ}
+use Rattle.rv_store.proofs.Rooms.{map-for_lines, section-rooms, address-rooms, size-rooms, layout-rooms}
 
 -- Labels that define the same
 
@@ -160,28 +162,45 @@ module _ (p : Program) (k : ℕ) (t : Stmt) (first : 1 ≤ k) (last : k ≤ leng
 
   -- The layout
 
-  pub shape-same : (i : ℕ) → shape_at put i ≡ shape_at p i
-  shape-same i = at (same_number (i - 1) (k - 1))
-    where
-      at : (i - 1 ≡ k - 1) ⊎ (i - 1 ≡ k - 1 → ⊥) → shape_at put i ≡ shape_at p i
-      at (inl same) =
-          (λ j. shape_of (constants-same (i - 1) j) (statement-here i same j).body)
-          ∙ ap (λ n. shape_of (constant_through p n) t.body) same
-          ∙ alike.shape
-          ∙ ap (λ n. shape_of (constant_through p n) (get_or p n no_statement).body) (sym same)
-      at (inr differs) = λ j. shape_of (constants-same (i - 1) j) (statement-other i differs j).body
+  -- that of another line
+  pub shape-other : (i : ℕ) → (i - 1 ≡ k - 1 → ⊥) → shape_at put i ≡ shape_at p i
+  shape-other i differs = λ j. shape_of (constants-same (i - 1) j) (statement-other i differs j).body
 
-  pub shapes-same : shapes_of put ≡ shapes_of p
-  shapes-same = λ j. for_lines (λ i. shape-same i j) (length-put j)
+  pub shape-put : shape_at put k ≡ shape_of (constant_of p k) t.body
+  shape-put = λ j. shape_of (constants-same (k - 1) j) (statement-put j).body
+
+  room-same : (i : ℕ) → room_of (shape_at put i) ≡ room_of (shape_at p i)
+  room-same i = at (same_number (i - 1) (k - 1))
+    where
+      at : (i - 1 ≡ k - 1) ⊎ (i - 1 ≡ k - 1 → ⊥) → room_of (shape_at put i) ≡ room_of (shape_at p i)
+      at (inl same) =
+          (λ j. room_of (shape_of (constants-same (i - 1) j) (statement-here i same j).body))
+          ∙ ap (λ n. room_of (shape_of (constant_through p n) t.body)) same
+          ∙ alike.room
+          ∙ ap (λ n. room_of (shape_of (constant_through p n) (get_or p n no_statement).body)) (sym same)
+      at (inr differs) = ap room_of (shape-other i differs)
+
+  rooms-same : map room_of (shapes_of put) ≡ map room_of (shapes_of p)
+  rooms-same =
+      map-for_lines room_of (shape_at put) (length put)
+      ∙ (λ j. for_lines (λ i. room-same i j) (length-put j))
+      ∙ sym (map-for_lines room_of (shape_at p) (length p))
+
+  pub layout-same : layout_of (shapes_of put) ≡ layout_of (shapes_of p)
+  layout-same = sym (layout-rooms (shapes_of put)) ∙ ap layout_of rooms-same ∙ layout-rooms (shapes_of p)
 
   pub section-same : (i : ℕ) → section_at put i ≡ section_at p i
-  section-same i = ap (λ ms. section_of ms i) shapes-same
+  section-same i = sym (section-rooms (shapes_of put) i) ∙ ap (λ ms. section_of ms i) rooms-same ∙ section-rooms (shapes_of p) i
+
+  address-same-at : (base i : ℕ) → address_at base put i ≡ address_at base p i
+  address-same-at base i =
+      sym (address-rooms base (shapes_of put) i) ∙ ap (λ ms. address_of base ms i) rooms-same ∙ address-rooms base (shapes_of p) i
 
   pub address-same : (base : ℕ) → address_at base put ≡ address_at base p
-  address-same base = λ j i. address_of base (shapes-same j) i
+  address-same base = λ j i. address-same-at base i j
 
   pub size-same : (i : ℕ) → size_at put i ≡ size_at p i
-  size-same i = ap (λ ms. line_size_of ms i) shapes-same
+  size-same i = sym (size-rooms (shapes_of put) i) ∙ ap (λ ms. line_size_of ms i) rooms-same ∙ size-rooms (shapes_of p) i
 
   pub place-same : (base : ℕ) → place_at base put ≡ place_at base p
   place-same base = λ j i. record { section = section-same i j; address = address-same base j i; size = size-same i j }
@@ -285,10 +304,10 @@ module _ (p : Program) (k : ℕ) (t : Stmt) (first : 1 ≤ k) (last : k ≤ leng
       let here : body_at put i ≡ body_at p i = ap (λ s. s.body) (statement-other i differs) in
       let values : values_of_body base put i (body_at put i) ≡ values_of_body base p i (body_at p i) =
       ap (values_of_body base put i) here ∙ values_of-same base i (body_at p i) in
-      λ j. values_by_shape (shape-same i j) (values j)
+      λ j. values_by_shape (shape-other i differs j) (values j)
 
   pub code-same : (base i : ℕ) → (i - 1 ≡ k - 1 → ⊥) → code_at base put i ≡ code_at base p i
   code-same base i differs =
       let here : body_at put i ≡ body_at p i = ap (λ s. s.body) (statement-other i differs) in
       let values = values-same base i differs in
-      λ j. code_by_values (shape-same i j) (here j) (values j)
+      λ j. code_by_values (shape-other i differs j) (here j) (values j)

@@ -7,21 +7,26 @@ use Rattle.rv_stmt.specs.declared.operand.Operand.{Operand}
 use Rattle.rv_stmt.specs.declared.statement.Body.{Body}
 use Rattle.rv_stmt.specs.declared.statement.Body.TheVariants as body
 use Rattle.rv_stmt.specs.Statement.{statement_of}
+use Rattle.rv_layout.specs.declared.measured.Measured.{Measured}
+use Rattle.rv_layout.specs.Effects.{layout_of}
+use Rattle.rv_layout.specs.Places.{IsLimited, AreLimited}
 use Rattle.rv_layout.specs.Shapes.{constants, is_size, size_operand, count_of_operand, size_operands, shape_of_instructions, shape_of_fill, shape_of_alignment, shape_of}
 use Rattle.rv_store.specs.declared.item.Item.{Item}
 use Rattle.rv_store.specs.declared.survey.Survey.{Survey}
 use Rattle.rv_store.specs.Alike.{IsAlike}
 use Rattle.rv_store.specs.Changes.{program_after, is_new_or, differs_in_code, differs_in_uses, differs_in_values, is_changed, changed_lines, is_invalidated, is_reencoded, most_values, most_codes}
 use Rattle.rv_store.specs.Codes.{values_at, code_at}
+use Rattle.rv_store.specs.Constants.{constant_of}
 use Rattle.rv_store.specs.Edits.{line_before_edit}
 use Rattle.rv_store.specs.Items.{IsItem, AreItems}
-use Rattle.rv_store.specs.Layout.{shape_at}
+use Rattle.rv_store.specs.Layout.{shape_at, shapes_of}
 use Rattle.rv_store.specs.Program.{Program, program_of, body_at, for_lines, lines_that}
+use Rattle.rv_store.specs.Rows.{AreDefinitions, AreConstants, AreEquValues, AreShapes, ArePlaces, AreHighs, ArePairedHighs, AreLocals}
 use Rattle.rv_store.specs.Surveys.{IsSurvey}
 use Rattle.rv_store.specs.Text.{Replace, lines_after}
 use Rattle.rv_store.specs.Uses.{is_sized}
 use Rattle.rv_store.specs.Work.{value_operands}
-use Rattle.rv_store.proofs.AlikeLaws.{put, length-put, definitions-same, constants-same, shape-same, shapes-same, place-same, has_local-same, equ_values-same, highs-same, paired_highs-same, values-same, code-same}
+use Rattle.rv_store.proofs.AlikeLaws.{put, length-put, definitions-same, constants-same, shape-other, shape-put, layout-same, place-same, has_local-same, equ_values-same, highs-same, paired_highs-same, values-same, code-same}
 use Rattle.rv_store.proofs.Programs.{length-for_lines, length-program}
 use Rattle.rv_store.proofs.Sameness.{same_code-Decides}
 use Rattle.rv_store.proofs.WorkLaws.{work-invalidated, work-up}
@@ -139,6 +144,24 @@ module _ (test : ℕ → Bool) (k : ℕ) (first : 1 ≤ k) (here : test k ≡ tr
             let no = others (suc n) (omega arith) (λ e. omega (arith, e, below)) in
             λ i. rest below i ++ (if no i then suc n ∷ [] else [])
 
+limited-set : (ms : List Measured) (i : ℕ) (m : Measured) → AreLimited ms → IsLimited m → AreLimited (set ms i m)
+limited-set [] i m are is = are
+limited-set (n ∷ ms) zero m are is = (is, are.1)
+limited-set (n ∷ ms) (suc i) m are is = (are.0, limited-set ms i m are.1 is)
+
+-- What is kept of a text whose lines have these shapes: the survey of another one, but for its shapes and its lines.
+pub record Stays (base : ℕ) (program : Program) (names : List (List ℕ)) (s : Survey) (row : List Measured) : Type 0 where
+  pub definitions : AreDefinitions program names s.definitions.items
+  pub constants : AreConstants program (length program) names s.constants.items
+  pub shapes : AreShapes program row
+  pub limited : AreLimited row
+  pub total : s.total ≡ layout_of row
+  pub places : ArePlaces base program s.places.items
+  pub locals : AreLocals program (length program) s.locals
+  pub equ_values : AreEquValues base program (length program) names s.equ_values.items
+  pub highs : AreHighs base program s.highs.items
+  pub paired_highs : ArePairedHighs base program s.paired_highs.items
+
 -- The text with a line in the place of line k
 
 module _ (base : ℕ) (lines : List (List ℕ)) (k : ℕ) (line : List ℕ) (first : 1 ≤ k) (last : k ≤ length lines) (alike : IsAlike (program_of lines) k (statement_of line)) where
@@ -148,31 +171,40 @@ module _ (base : ℕ) (lines : List (List ℕ)) (k : ℕ) (line : List ℕ) (fir
   after-put : program_of (set lines (k - 1) line) ≡ put (program_of lines) k (statement_of line) first last' alike
   after-put = map-set statement_of lines (k - 1) line
 
-  survey-put : (names : List (List ℕ)) (s : Survey) → IsSurvey base (program_of lines) names s → IsSurvey base (put (program_of lines) k (statement_of line) first last' alike) names s
-  survey-put names s is =
+  -- the shapes, with that of the line
+  shapes-put : set (shapes_of (program_of lines)) (k - 1) (shape_of (constant_of (program_of lines) k) (statement_of line).body) ≡ shapes_of (put (program_of lines) k (statement_of line) first last' alike)
+  shapes-put =
+      let p : Program = program_of lines in
+      let t = statement_of line in
+      ap (set (shapes_of p) (k - 1)) (sym (shape-put p k t first last' alike))
+      ∙ row-put (shape_at p) (shape_at (put p k t first last' alike)) k (λ i d. sym (shape-other p k t first last' alike i d)) (length p) first last'
+      ∙ sym (ap (for_lines (shape_at (put p k t first last' alike))) (length-put p k t first last' alike))
+
+  -- the survey stays, but for that shape
+  pub survey-stays : (names : List (List ℕ)) (s : Survey) (shape : Measured) → IsSurvey base (program_of lines) names s
+      → shape ≡ shape_of (constant_of (program_of lines) k) (statement_of line).body → IsLimited shape
+      → Stays base (program_of (set lines (k - 1) line)) names s (set s.shapes.items (k - 1) shape)
+  survey-stays names s shape is this limited =
       let p : Program = program_of lines in
       let t = statement_of line in
       let count = length-put p k t first last' alike in
-      record {
+      let shapes : set s.shapes.items (k - 1) shape ≡ shapes_of (put p k t first last' alike) = (λ j. set (is.shapes j) (k - 1) (this j)) ∙ shapes-put in
+      subst (λ p. Stays base p names s (set s.shapes.items (k - 1) shape)) (sym after-put) (record {
         definitions = record { each = is.definitions.each ∙ sym (definitions-same p k t first last' alike); within = is.definitions.within };
         constants = record { each = is.constants.each ∙ sym (λ j. constants-same p k t first last' alike (count j) j); within = is.constants.within };
-        shapes = is.shapes ∙ sym (shapes-same p k t first last' alike);
-        limited = is.limited;
-        total = is.total;
+        shapes = shapes;
+        limited = limited-set s.shapes.items (k - 1) shape is.limited limited;
+        total = is.total ∙ ap layout_of is.shapes ∙ sym (layout-same p k t first last' alike) ∙ sym (ap layout_of shapes);
         places = is.places ∙ sym (λ j. for_lines (place-same p k t first last' alike base j) (count j));
         locals = λ number. is.locals number ∙ sym (λ j. lines_that (has_local-same p k t first last' alike number j) (count j));
         equ_values = record { each = is.equ_values.each ∙ sym (λ j. equ_values-same p k t first last' alike base (count j) j); within = is.equ_values.within };
         highs = is.highs ∙ sym (λ j. for_lines (highs-same p k t first last' alike base j) (count j));
         paired_highs = is.paired_highs ∙ sym (λ j. for_lines (paired_highs-same p k t first last' alike base j) (count j));
-      }
-
-  -- the survey stays
-  pub survey-stays : (names : List (List ℕ)) (s : Survey) → IsSurvey base (program_of lines) names s → IsSurvey base (program_of (set lines (k - 1) line)) names s
-  survey-stays names s is = subst (λ p. IsSurvey base p names s) (sym after-put) (survey-put names s is)
+      })
 
   -- and the items of the other lines
-  pub shape-stays : (i : ℕ) → shape_at (program_of lines) i ≡ shape_at (program_of (set lines (k - 1) line)) i
-  shape-stays i = sym (ap (λ p. shape_at p i) after-put ∙ shape-same (program_of lines) k (statement_of line) first last' alike i)
+  pub shape-stays : (i : ℕ) → (i - 1 ≡ k - 1 → ⊥) → shape_at (program_of lines) i ≡ shape_at (program_of (set lines (k - 1) line)) i
+  shape-stays i differs = sym (ap (λ p. shape_at p i) after-put ∙ shape-other (program_of lines) k (statement_of line) first last' alike i differs)
 
   pub values-stay : (i : ℕ) → (i - 1 ≡ k - 1 → ⊥) → values_at base (program_of lines) i ≡ values_at base (program_of (set lines (k - 1) line)) i
   values-stay i differs = sym (ap (λ p. values_at base p i) after-put ∙ values-same (program_of lines) k (statement_of line) first last' alike base i differs)
@@ -190,7 +222,7 @@ module _ (base : ℕ) (lines : List (List ℕ)) (k : ℕ) (line : List ℕ) (fir
         shapes =
             map-set (λ i. i.shape) items (k - 1) item
             ∙ (λ j. set (are.shapes j) (k - 1) (is.shape j))
-            ∙ row-put (shape_at (program_of lines)) (shape_at (program_of after)) k (λ i d. shape-stays i) (length lines) first last
+            ∙ row-put (shape_at (program_of lines)) (shape_at (program_of after)) k shape-stays (length lines) first last
             ∙ ap (for_lines (shape_at (program_of after))) count;
         values =
             map-set (λ i. i.values.value) items (k - 1) item

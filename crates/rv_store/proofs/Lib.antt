@@ -53,6 +53,7 @@ pub mod PairedHighs
 pub mod PassedItems
 pub mod Programs
 pub mod RenewalRuns
+pub mod Rooms
 pub mod Sameness
 pub mod ShapeRows
 pub mod ShapeWork

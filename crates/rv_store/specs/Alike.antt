@@ -1,4 +1,4 @@
--- Lines that define the same and have the same shape: where the one is put in the place of the other, all other lines stay as
+-- Lines that define the same and take the same room: where the one is put in the place of the other, all other lines stay as
 -- they are.
 use Rattle.std.specs.Prelude.{◌≡◌, ℕ, Bool, true, false, ◌&&◌, ◌==◌, List, [], ◌∷◌, map, None, bytes_eq}
 use Rattle.rv_stmt.specs.declared.label.Label.{Label}
@@ -6,6 +6,8 @@ use Rattle.rv_stmt.specs.declared.label.LabelName.{LabelName}
 use Rattle.rv_stmt.specs.declared.label.LabelName.TheVariants.{Symbol, Local}
 use Rattle.rv_stmt.specs.declared.statement.Body.{Body}
 use Rattle.rv_stmt.specs.declared.statement.Stmt.{Stmt}
+use Rattle.rv_layout.specs.declared.measured.Measured.{Measured}
+use Rattle.rv_layout.specs.declared.measured.Measured.TheVariants.{Nothing, Faulty}
 use Rattle.rv_layout.specs.Shapes.{shape_of}
 use Rattle.rv_store.specs.Constants.{constant_of}
 use Rattle.rv_store.specs.Layout.{shape_at}
@@ -39,7 +41,12 @@ pub record DefinesSame (before after : Stmt) : Type 0 where
   pub plain_before : IsPlain before.body
   pub plain_after : IsPlain after.body
 
+-- what a shape does to the layout: a faulty line has no bytes, like one without a body
+abbrev pub room_of : Measured → Measured
+room_of (Faulty fault) = Nothing
+room_of m = m
+
 -- this statement is alike that of line k
 pub record IsAlike (program : Program) (k : ℕ) (after : Stmt) : Type 0 where
   pub defines : DefinesSame (statement_at program k) after
-  pub shape : shape_of (constant_of program k) after.body ≡ shape_at program k
+  pub room : room_of (shape_of (constant_of program k) after.body) ≡ room_of (shape_at program k)

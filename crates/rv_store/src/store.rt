@@ -1,15 +1,16 @@
 //! The store.
 
-ghost use Rattle.std.specs.Prelude.{◌≡◌, ◌+◌, ◌*◌, ◌-◌, ◌^◌, ◌<◌, ◌≤◌, ◌==◌, [], length, map, None, if◌then◌else◌, IfOk, IfErr, IfSome, OnOk, OnErr, IsTrue, slice_get, true, false};
+ghost use Rattle.std.specs.Prelude.{◌≡◌, ◌+◌, ◌*◌, ◌-◌, ◌^◌, ◌<◌, ◌≤◌, ◌==◌, [], length, map, None, if◌then◌else◌, IfOk, IfErr, IfSome, OnOk, OnErr, slice_get, true, false};
 ghost use Rattle.std.specs.Option.{option_map};
 ghost use Rattle.rv_stmt.specs.Statement.{statement_of};
 ghost use Rattle.rv_store.specs.Alike.{IsAlike};
 ghost use Rattle.rv_layout.specs.Places.{is_base, IsLimited};
-ghost use Rattle.rv_layout.specs.Shapes.{size_operands};
+ghost use Rattle.rv_layout.specs.Shapes.{shape_of, size_operands};
 ghost use Rattle.rv_store.specs.Appended.{shape_at_end, IsEnding};
 ghost use Rattle.rv_store.specs.Assembled.{AreCountedAfter};
 ghost use Rattle.rv_store.specs.Changes.{changed_lines, most_values, most_codes};
 ghost use Rattle.rv_store.specs.Codes.{code_at};
+ghost use Rattle.rv_store.specs.Constants.{constant_of};
 ghost use Rattle.rv_store.specs.Counted.{counts_of, lines_read, Counted};
 ghost use Rattle.rv_store.specs.Edits.{edit_of, edit_of_read};
 ghost use Rattle.rv_store.specs.Former.{AreFormer};
@@ -20,7 +21,7 @@ ghost use Rattle.rv_store.specs.Text.{is_line, at_line, Insert, Delete, Replace,
 
 mod shown;
 
-use crate::alike::is_alike;
+use crate::alike::alike_shape;
 use crate::assembly::assembled;
 use crate::changed::Changed;
 use crate::column::{edit_lines, take_back};
@@ -165,26 +166,36 @@ impl Store {
         }
     }
 
-    // Whether a line can stand in the place of line `k`, and all other lines stay as they are. Nothing is counted.
-    fn takes<C: Count>(&self, k: u32, line: &Line, counter: &mut C) -> bool
+    // The shape of a line, if it can stand in the place of line `k`, and all other lines stay as they are. Nothing is counted.
+    fn takes<C: Count>(&self, k: u32, line: &Line, counter: &mut C) -> Option<Measured>
         requires first { 1 ≤ k }
         requires last { k ≤ length self.now.lines }
         requires valued { C.valued_count counter.old < 2 ^ 64 - 1 }
-        ensures alike { IsTrue result → IsAlike (program_of self.now.lines) k (statement_of line.now) }
+        ensures alike { IfSome result (λ _. IsAlike (program_of self.now.lines) k (statement_of line.now)) }
+        ensures shape { IfSome result (λ shape. shape ≡ shape_of (constant_of (program_of self.now.lines) k) (statement_of line.now).body) }
+        ensures limited { IfSome result IsLimited }
         ensures parsed { C.parsed_count counter.new ≡ C.parsed_count counter.old }
         ensures valued { C.valued_count counter.new ≡ C.valued_count counter.old }
         ensures encoded { C.encoded_count counter.new ≡ C.encoded_count counter.old }
     {
         let place = k as usize - 1;
         let former = &self.survey.lines[place];
-        is_alike(former, self.survey.shapes[place], line, counter)
+        alike_shape(former, self.survey.shapes[place], line, counter)
     }
 
-    // Puts a line in the place of line `k`, which it is alike: only this line is made anew. Where there is no memory for that,
-    // the text stays.
-    fn put<C: Count>(&mut self, k: u32, line: Line, counter: &mut C) -> Result<Changed, EditError>
+    // Puts a line of this shape in the place of line `k`, which it is alike: only this line is made anew. Where there is no memory
+    // for that, the text stays.
+    fn put<C: Count>(
+        &mut self,
+        k: u32,
+        line: Line,
+        shape: Measured,
+        counter: &mut C,
+    ) -> Result<Changed, EditError>
         requires allowed { refusal_of self.old.lines (Replace k line) ≡ None }
         requires alike { IsAlike (program_of self.old.lines) k (statement_of line) }
+        requires shape { shape ≡ shape_of (constant_of (program_of self.old.lines) k) (statement_of line).body }
+        requires limited { IsLimited shape }
         requires valued { C.valued_count counter.old ≤ 2 ^ 63 }
         requires encoded { C.encoded_count counter.old ≤ 2 ^ 63 }
         ensures ok { OnOk result (self.new ≡ text_after self.old (Replace k line)) }
@@ -199,7 +210,9 @@ impl Store {
     {
         let place = k as usize - 1;
         let former = self.survey.lines[place].share()?;
+        let former_shape = self.survey.shapes[place];
         self.survey.lines[place] = line;
+        self.survey.shapes[place] = shape;
         match item_replaced(
             self.alloc,
             self.base,
@@ -215,6 +228,7 @@ impl Store {
             }
             Err(e) => {
                 self.survey.lines[place] = former;
+                self.survey.shapes[place] = former_shape;
                 Err(e)
             }
         }
@@ -467,8 +481,8 @@ impl Store {
             }
             ReadEdit::Delete(_) => self.rework(edit, read, counter),
             ReadEdit::Replace(k, line) => {
-                if self.takes(*k, line, counter) {
-                    return self.put(*k, line.share()?, counter);
+                if let Some(shape) = self.takes(*k, line, counter) {
+                    return self.put(*k, line.share()?, shape, counter);
                 }
                 self.rework(edit, read, counter)
             }

@@ -2,13 +2,18 @@ use Rattle.std.proofs.Common.{◌≡◌, ◌≤◌, ◌-◌, List, [], ℕ, None
 use Rattle.std.specs.List.{AllPass}
 use Rattle.std.proofs.lemmas.List.{get_or-set_same}
 use Rattle.rv_stmt.specs.Statement.{statement_of}
+use Rattle.rv_layout.specs.declared.measured.Measured.{Measured}
+use Rattle.rv_layout.specs.Effects.{layout_of}
+use Rattle.rv_layout.specs.Places.{AreLimited}
+use Rattle.rv_layout.specs.Shapes.{shape_of}
 use Rattle.rv_store.specs.Alike.{IsAlike}
+use Rattle.rv_store.specs.Constants.{constant_of}
 use Rattle.rv_store.specs.Items.{AreItems}
 use Rattle.rv_store.specs.Program.{program_of, body_at}
 use Rattle.rv_store.specs.Surveys.{IsSurvey}
 use Rattle.rv_store.specs.Text.{Replace, is_line, refusal_of}
 use Rattle.rv_store.specs.Work.{value_operands}
-use Rattle.rv_store.proofs.AlikeTexts.{set-back, survey-stays, items-put, one_changed, values-enough, codes-enough}
+use Rattle.rv_store.proofs.AlikeTexts.{set-back, Stays, survey-stays, items-put, one_changed, values-enough, codes-enough}
 use Rattle.rv_store.proofs.EarlierLines.{replace_within}
 use Rattle.rv_store.proofs.EditRefusals.{lined_after, few_after}
 use Rattle.rv_store.proofs.FormerItems.{lines-replaced}
@@ -26,7 +31,8 @@ item_replaced-requires-clause-survey g c =
     let alike : IsAlike (program_of lines) k (statement_of c.args.line) = subst (λ ls. IsAlike (program_of ls) k (statement_of c.args.line)) (sym same) c.requires.alike in
     let surveyed : IsSurvey c.self.inside.base (program_of lines) c.self.inside.names survey =
     subst (λ ls. IsSurvey c.self.inside.base (program_of ls) c.self.inside.names survey) (sym c.self.invariant.listed) c.self.invariant.surveyed in
-    let now = survey-stays c.self.inside.base lines k c.args.line within.0 last alike c.self.inside.names survey surveyed in
+    let shape : c.args.shape ≡ shape_of (constant_of (program_of lines) k) (statement_of c.args.line).body = rw same c.requires.shape in
+    let now = survey-stays c.self.inside.base lines k c.args.line within.0 last alike c.self.inside.names survey c.args.shape surveyed shape c.requires.limited in
     record {
       definitions = now.definitions;
       constants = now.constants;
@@ -54,14 +60,15 @@ invariant_of-self g c =
     let alike : IsAlike (program_of lines) k (statement_of c.args.line) = subst (λ ls. IsAlike (program_of ls) k (statement_of c.args.line)) (sym same) c.requires.alike in
     let surveyed : IsSurvey c.self.inside.base (program_of lines) c.self.inside.names survey =
     subst (λ ls. IsSurvey c.self.inside.base (program_of ls) c.self.inside.names survey) (sym c.self.invariant.listed) c.self.invariant.surveyed in
-    let stays = survey-stays c.self.inside.base lines k c.args.line within.0 last alike c.self.inside.names survey surveyed in
+    let shape : c.args.shape ≡ shape_of (constant_of (program_of lines) k) (statement_of c.args.line).body = rw same c.requires.shape in
+    let stays = survey-stays c.self.inside.base lines k c.args.line within.0 last alike c.self.inside.names survey c.args.shape surveyed shape c.requires.limited in
     let assembled : AreItems c.self.inside.base lines c.self.inside.items.items = subst (λ ls. AreItems c.self.inside.base ls c.self.inside.items.items) (sym c.self.invariant.listed) c.self.invariant.assembled in
     let put = c.in-Ok.ensures.items in
     let made = items-put c.self.inside.base lines k c.args.line within.0 last alike c.self.inside.items.items put.item assembled put.is in
     let items : AreItems c.self.inside.base after c.in-Ok.items.items = subst (AreItems c.self.inside.base after) (sym put.items) made in
     let lined : AllPass is_line lines = subst (AllPass is_line) (sym c.self.invariant.listed) c.self.invariant.lined in
     let few : length lines ≤ 16384 = rw c.self.invariant.listed c.self.invariant.few in
-    let now = subst (λ ls. IsSurvey c.self.inside.base (program_of ls) c.self.inside.names survey) (sym items.lines) stays in
+    let now = subst (λ ls. Stays c.self.inside.base (program_of ls) c.self.inside.names survey (set survey.shapes.items (k - 1) c.args.shape)) (sym items.lines) stays in
     record {
       based = c.self.invariant.based;
       lined = subst (AllPass is_line) (sym items.lines) (lined_after lines (Replace k c.args.line) lined allowed);
@@ -85,6 +92,9 @@ invariant_of-self g c =
 pub invariant_of-self-in-Err : goal.invariant_of-self-in-Err
 invariant_of-self-in-Err g c =
     let now = c.self.invariant.surveyed in
+    let shapes : List Measured = c.self.inside.survey.shapes.items in
+    let back : set (set shapes (c.args.k - 1) c.args.shape) (c.args.k - 1) c.index-former_shape.result.now ≡ shapes =
+    set-back shapes (c.args.k - 1) c.args.shape c.index-former_shape.result.now c.index-former_shape.ensures in
     record {
       based = c.self.invariant.based;
       lined = c.self.invariant.lined;
@@ -93,9 +103,9 @@ invariant_of-self-in-Err g c =
       surveyed = record {
         definitions = now.definitions;
         constants = now.constants;
-        shapes = now.shapes;
-        limited = now.limited;
-        total = now.total;
+        shapes = back ∙ now.shapes;
+        limited = subst AreLimited (sym back) now.limited;
+        total = now.total ∙ ap layout_of (sym back);
         places = now.places;
         locals = now.locals;
         equ_values = now.equ_values;

@@ -12,4 +12,7 @@ returns-clause-alike g c =
     let former = c.index-former.result.now in
     let there = statement_of_line old.lines c.args.k former c.requires.last c.requires.first (rw lines at c.index-former.ensures) in
     let shape = c.index.ensures ∙ shape_of_line old.lines c.self.inside.survey.shapes.items c.args.k c.index.result.now shapes c.requires.first c.requires.last in
-    c.is_alike.ensures.alike (program_of old.lines) c.args.k there shape
+    c.alike_shape.ensures.alike (program_of old.lines) c.args.k there shape
+
+pub returns-clause-shape : goal.returns-clause-shape
+returns-clause-shape g c = c.alike_shape.ensures.shape (program_of c.args.self.now.lines) c.args.k

@@ -1,0 +1,91 @@
+-- What shapes do to the layout: where they take the same room, all lines lie where they lay.
+use Rattle.std.proofs.Common.{◌≡◌, ℕ, zero, suc, ◌+◌, ◌-◌, ◌==◌, ◌⊎◌, inl, inr, ◌<◌, ◌≤◌, List, [], ◌∷◌, ◌++◌, length, map, take, get_or, if◌then◌else◌, arith, ap, sym, ◌∙◌, refl}
+use Rattle.std.proofs.lemmas.Bool.{cases_lt}
+use Rattle.std.proofs.lemmas.List.{get_or-map, get_or_past, length-map, map-append, take-map}
+use Rattle.std.proofs.Math.Path.{fun_ext}
+use Rattle.rv_stmt.specs.declared.section.Sect.{Sect}
+use Rattle.rv_stmt.specs.declared.section.Sect.TheVariants.{Text}
+use Rattle.rv_layout.specs.declared.measured.Measured.{Measured}
+use Rattle.rv_layout.specs.declared.measured.Measured.TheVariants.{Bytes, Align, Switch, Nothing, Faulty}
+use Rattle.rv_layout.specs.Effects.{join, effect_of, layout_of}
+use Rattle.rv_layout.specs.Places.{section_after, offset_after, section_through, offset_through, section_of, offset_of, section_end_of, section_base_of, base_from, size_at, line_size_of, address_of}
+use Rattle.rv_layout.specs.Sections.{section_number}
+use Rattle.rv_store.specs.Alike.{room_of}
+use Rattle.rv_store.specs.Program.{for_lines}
+
+pub map-for_lines : {A B : Type 0} (f : A → B) (g : ℕ → A) (n : ℕ) → map f (for_lines g n) ≡ for_lines (λ i. f (g i)) n
+map-for_lines f g zero = refl
+map-for_lines f g (suc n) = map-append f (for_lines g n) (g (suc n) ∷ []) ∙ ap (λ ys. ys ++ f (g (suc n)) ∷ []) (map-for_lines f g n)
+
+-- One line
+
+section_after-room : (s : Sect) (m : Measured) → section_after s (room_of m) ≡ section_after s m
+section_after-room s (Bytes n) = refl
+section_after-room s (Align e) = refl
+section_after-room s (Switch t) = refl
+section_after-room s Nothing = refl
+section_after-room s (Faulty f) = refl
+
+offset_after-room : (x : ℕ) (m : Measured) → offset_after x (room_of m) ≡ offset_after x m
+offset_after-room x (Bytes n) = refl
+offset_after-room x (Align e) = refl
+offset_after-room x (Switch t) = refl
+offset_after-room x Nothing = refl
+offset_after-room x (Faulty f) = refl
+
+size_at-room : (x : ℕ) (m : Measured) → size_at x (room_of m) ≡ size_at x m
+size_at-room x (Bytes n) = refl
+size_at-room x (Align e) = refl
+size_at-room x (Switch t) = refl
+size_at-room x Nothing = refl
+size_at-room x (Faulty f) = refl
+
+effect_of-room : (m : Measured) → effect_of (room_of m) ≡ effect_of m
+effect_of-room (Bytes n) = refl
+effect_of-room (Align e) = refl
+effect_of-room (Switch t) = refl
+effect_of-room Nothing = refl
+effect_of-room (Faulty f) = refl
+
+-- Some lines
+
+section_through-rooms : (s : Sect) (ms : List Measured) → section_through s (map room_of ms) ≡ section_through s ms
+section_through-rooms s [] = refl
+section_through-rooms s (m ∷ ms) =
+    section_through-rooms (section_after s (room_of m)) ms ∙ ap (λ t. section_through t ms) (section_after-room s m)
+
+offset_through-rooms : (t : ℕ) (s : Sect) (x : ℕ) (ms : List Measured) → offset_through t s x (map room_of ms) ≡ offset_through t s x ms
+offset_through-rooms t s x [] = refl
+offset_through-rooms t s x (m ∷ ms) =
+    offset_through-rooms t (section_after s (room_of m)) (if section_number s == t then offset_after x (room_of m) else x) ms
+    ∙ (λ j. offset_through t (section_after-room s m j) (if section_number s == t then offset_after-room x m j else x) ms)
+
+pub layout-rooms : (ms : List Measured) → layout_of (map room_of ms) ≡ layout_of ms
+layout-rooms [] = refl
+layout-rooms (m ∷ ms) = λ j. join (effect_of-room m j) (layout-rooms ms j)
+
+-- A text
+
+pub section-rooms : (ms : List Measured) (i : ℕ) → section_of (map room_of ms) i ≡ section_of ms i
+section-rooms ms i = ap (section_through Text) (take-map room_of (i - 1) ms) ∙ section_through-rooms Text (take (i - 1) ms)
+
+offset-rooms : (ms : List Measured) (i : ℕ) → offset_of (map room_of ms) i ≡ offset_of ms i
+offset-rooms ms i =
+    (λ j. offset_through (section_number (section-rooms ms i j)) Text 0 (take-map room_of (i - 1) ms j))
+    ∙ offset_through-rooms (section_number (section_of ms i)) Text 0 (take (i - 1) ms)
+
+end-rooms : (ms : List Measured) → section_end_of (map room_of ms) ≡ section_end_of ms
+end-rooms ms = λ j t. offset_through-rooms t Text 0 ms j
+
+pub address-rooms : (base : ℕ) (ms : List Measured) (i : ℕ) → address_of base (map room_of ms) i ≡ address_of base ms i
+address-rooms base ms i = λ j. base_from base (end-rooms ms j) (section_number (section-rooms ms i j)) + offset-rooms ms i j
+
+room_at : (ms : List Measured) (i : ℕ) → get_or (map room_of ms) i Nothing ≡ room_of (get_or ms i Nothing)
+room_at [] i = refl
+room_at (m ∷ ms) zero = refl
+room_at (m ∷ ms) (suc i) = room_at ms i
+
+pub size-rooms : (ms : List Measured) (i : ℕ) → line_size_of (map room_of ms) i ≡ line_size_of ms i
+size-rooms ms i =
+    (λ j. size_at (offset-rooms ms i j) (room_at ms (i - 1) j))
+    ∙ size_at-room (offset_of ms i) (get_or ms (i - 1) Nothing)
