@@ -51,6 +51,7 @@ pub mod NameSets
 pub mod OnlySymbols
 pub mod PairedHighs
 pub mod PassedItems
+pub mod PlacedWith
 pub mod Programs
 pub mod RenewalRuns
 pub mod Rooms

@@ -1,5 +1,5 @@
 -- The rows of a survey, put together.
-use Rattle.std.proofs.Common.{◌≡◌, ℕ, List, length, ap, ◌∙◌}
+use Rattle.std.proofs.Common.{◌≡◌, ℕ, List, length, ap, sym, ◌∙◌}
 use Rattle.rv_layout.specs.declared.measured.Measured.{Measured}
 use Rattle.rv_layout.specs.Places.{section_of, address_of, line_size_of}
 use Rattle.rv_list.specs.declared.view.LinePlace.{LinePlace}
@@ -15,6 +15,11 @@ place_by base shapes i = record { section = section_of shapes i; address = addre
 pub length_of_shapes : (lines : List (List ℕ)) (shapes : List Measured) → AreShapes (program_of lines) shapes → length shapes ≡ length lines
 length_of_shapes lines shapes are =
     ap length are ∙ length-for_lines (shape_at (program_of lines)) (length (program_of lines)) ∙ length-program lines
+
+pub unplaced : (base : ℕ) (program : Program) (shapes : List Measured) (row : List LinePlace) → AreShapes program shapes → ArePlaces base program row → row ≡ for_lines (λ i. record { section = section_of shapes i; address = address_of base shapes i; size = line_size_of shapes i }) (length shapes)
+unplaced base program shapes row are made =
+    made ∙ ap (for_lines (place_at base program)) (sym (length-for_lines (shape_at program) (length program)))
+    ∙ ap (λ ms. for_lines (place_by base ms) (length ms)) (sym are)
 
 pub placed : (base : ℕ) (program : Program) (shapes : List Measured) (row : List LinePlace) → AreShapes program shapes → row ≡ for_lines (λ i. record { section = section_of shapes i; address = address_of base shapes i; size = line_size_of shapes i }) (length shapes) → ArePlaces base program row
 placed base program shapes row are made =

@@ -1,9 +1,8 @@
 //! A line at the end of a text with which no other line has to do.
 
-ghost use Rattle.std.specs.Prelude.{◌≡◌, ℕ, ◌≤◌, ◌<◌, ◌+◌, ◌-◌, ◌*◌, ◌^◌, suc, [], ◌∷◌, ◌++◌, length, true, IfOk, IfErr, IfSome, OnOk, OnErr, IsTrue};
-ghost use Rattle.rv_layout.specs.Effects.{layout_of, offset_reached, base_by_layout};
-ghost use Rattle.rv_layout.specs.Places.{sum_below, IsLimited, AreLimited, is_base};
-ghost use Rattle.rv_layout.specs.Sections.{sections};
+ghost use Rattle.std.specs.Prelude.{◌≡◌, ℕ, ◌≤◌, ◌<◌, ◌+◌, ◌-◌, ◌*◌, ◌^◌, suc, [], ◌∷◌, ◌++◌, length, true, IfOk, IfErr, IfSome, OnOk, OnErr};
+ghost use Rattle.rv_layout.specs.Effects.{layout_of};
+ghost use Rattle.rv_layout.specs.Places.{IsLimited, AreLimited, is_base};
 ghost use Rattle.rv_layout.specs.Shapes.{size_operands};
 ghost use Rattle.rv_stmt.specs.Statement.{statement_of};
 ghost use Rattle.rv_store.specs.declared.limits.TheConstants.{MAX_LINES};
@@ -24,7 +23,7 @@ use crate::line::Line;
 use crate::lines::Lines;
 use crate::names::NameTable;
 use crate::only_symbol::is_apart;
-use crate::places::next_place;
+use crate::places::{next_place, stay_sections};
 use crate::replacement::item_of_line;
 use crate::shapes::shape_of_line;
 use crate::survey::Survey;
@@ -68,16 +67,6 @@ pub fn shape_at_end<'a, C: Count>(
         row: &survey.constants,
     };
     shape_of_line(line, &constants, counter)
-}
-
-// Whether all sections begin where they began before lines were added.
-fn stay_sections(base: u32, before: &Layout, total: &Layout) -> bool
-    requires base { is_base base ≡ true }
-    requires ends_before { sum_below (offset_reached before.now) sections ≤ 2 ^ 30 }
-    requires ends { sum_below (offset_reached total.now) sections ≤ 2 ^ 30 }
-    ensures { IsTrue result → (t : ℕ) → t < sections → base_by_layout base total.now t ≡ base_by_layout base before.now t }
-{
-    bases(total, base) == bases(before, base)
 }
 
 // Where the line lies.

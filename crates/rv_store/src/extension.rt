@@ -2,6 +2,7 @@
 
 ghost use Rattle.std.specs.Prelude.{◌≡◌, ◌≤◌, ◌<◌, ◌+◌, ◌-◌, ◌*◌, ◌^◌, [], ◌∷◌, ◌++◌, None, length, insert, true, IfOk, IfErr, OnOk};
 ghost use Rattle.rv_stmt.specs.Statement.{statement_of};
+ghost use Rattle.rv_layout.specs.Effects.{layout_of};
 ghost use Rattle.rv_layout.specs.Places.{IsLimited, AreLimited, is_base};
 ghost use Rattle.rv_layout.specs.Shapes.{size_operands};
 ghost use Rattle.rv_store.specs.declared.limits.TheConstants.{MAX_LINES};
@@ -32,11 +33,12 @@ use crate::line::Line;
 use crate::lines::Lines;
 use crate::moved_locals::locals_after;
 use crate::names::NameTable;
+use crate::places::Placed;
 use crate::renewal::renewed_all;
 use crate::room::room_for;
 use crate::shapes::ShapeRows;
 use crate::survey::Survey;
-use rv_layout::Measured;
+use rv_layout::{Layout, Measured};
 use rv_list::DefinitionPlace;
 use rv_text::Count;
 use rv_tree::SumTree;
@@ -58,10 +60,11 @@ fn shapes_with(
 }
 
 // What is kept of a text whose last line is new and has this shape: the rows that are made from the first line on are those of
-// the text before with one entry more. It does not get the lines.
+// the text before, whose layout is `total`, with one entry more. It does not get the lines.
 fn survey_with<C: Count>(
     alloc: Global,
     before: &Before<'_, '_>,
+    total: &Layout,
     lines: &[Line],
     definitions: Vec<DefinitionPlace>,
     shape: Measured,
@@ -76,6 +79,7 @@ fn survey_with<C: Count>(
     requires shape { shape ≡ shape_at (program_of lines.now) (length lines.now) }
     requires limited_shape { IsLimited shape }
     requires limited { AreLimited before.now.shapes.now }
+    requires total { total.now ≡ layout_of before.now.shapes.now }
     requires valued { C.valued_count counter.old ≤ 2 ^ 63 + 1 }
     ensures survey { IfOk result (λ s. IsSurvey (base_before before.now) (program_of lines.now) before.now.symbols.text.names.now s) }
     ensures least { C.valued_count counter.old ≤ C.valued_count counter.new }
@@ -97,16 +101,28 @@ fn survey_with<C: Count>(
     )?;
     let shapes = shapes_with(alloc, before.shapes, shape)?;
     let text = &symbols.text;
+    let placed = Placed::with_last(alloc, text.base, &shapes, &shape, total, text.places)?;
     let locals = locals_after(alloc, text.locals, text.lines, lines, &before.edit)?;
     let sized = ShapeRows { shapes, constants };
-    Survey::by_rows(alloc, before, lines, definitions, sized, locals, counter)
+    Survey::by_rows(
+        alloc,
+        before,
+        lines,
+        definitions,
+        sized,
+        placed,
+        locals,
+        counter,
+    )
 }
 
 // What is kept of a text whose last line is new and has this shape, its items, and which lines are new or have another code.
-// `items` are those of the text before, with that of the new line. The lines are not in the answer.
+// `total` is the layout of the text before, and `items` are those of that text, with that of the new line. The lines are not in
+// the answer.
 fn renewed_with<C: Count>(
     alloc: Global,
     before: &Before<'_, '_>,
+    total: &Layout,
     lines: &[Line],
     definitions: Vec<DefinitionPlace>,
     shape: Measured,
@@ -122,6 +138,7 @@ fn renewed_with<C: Count>(
     requires shape { shape ≡ shape_at (program_of lines.now) (length lines.now) }
     requires limited_shape { IsLimited shape }
     requires limited { AreLimited before.now.shapes.now }
+    requires total { total.now ≡ layout_of before.now.shapes.now }
     requires count { length items.items ≡ length lines.now }
     requires former { AreFormer (base_before before.now) (lines_before before.now) (edit_on before.now) 0 items.items }
     requires valued { C.valued_count counter.old ≤ 2 ^ 63 + 1 }
@@ -132,7 +149,7 @@ fn renewed_with<C: Count>(
     ensures memory { IfErr result (λ e. e ≡ EditError.Memory) }
     ensures counted { AreCountedLonger before.now lines.now (counts_of C.parsed_count C.valued_count C.encoded_count counter.old) (counts_of C.parsed_count C.valued_count C.encoded_count counter.new) }
 {
-    let survey = survey_with(alloc, before, lines, definitions, shape, counter)?;
+    let survey = survey_with(alloc, before, total, lines, definitions, shape, counter)?;
     let text = &before.symbols.text;
     let lines = Lines::in_column(lines);
     let rows = survey.rows(&lines, text.base, text.names);
@@ -180,6 +197,7 @@ fn renewed_behind<'a, C: Count>(
     renewed_with(
         alloc,
         &before,
+        &survey.total,
         &survey.lines,
         definitions,
         shape,

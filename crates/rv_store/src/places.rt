@@ -1,16 +1,16 @@
 //! Where the lines of a text lie.
 
-ghost use Rattle.std.specs.Prelude.{◌≡◌, ◌≤◌, ◌<◌, ◌+◌, ◌^◌, All, length, slice_index, true, IfOk, IfSome};
-ghost use Rattle.rv_layout.specs.Effects.{join, effect_of, layout_of};
+ghost use Rattle.std.specs.Prelude.{◌≡◌, ◌≤◌, ◌<◌, ◌+◌, ◌^◌, ℕ, All, List, [], ◌∷◌, ◌++◌, length, slice_index, true, IfOk, IfSome, IsTrue};
+ghost use Rattle.rv_layout.specs.Effects.{join, effect_of, layout_of, offset_reached, base_by_layout};
 ghost use Rattle.rv_layout.specs.declared.measured.Measured.{Measured};
-ghost use Rattle.rv_layout.specs.Places.{section_of, address_of, line_size_of, size_at, is_base, IsLimited, AreLimited};
-ghost use Rattle.rv_layout.specs.Sections.{section_number};
-ghost use Rattle.rv_store.specs.Ends.{ends_after, ends_at, next_offset, next_place};
+ghost use Rattle.rv_layout.specs.Places.{section_of, address_of, line_size_of, size_at, sum_below, is_base, IsLimited, AreLimited};
+ghost use Rattle.rv_layout.specs.Sections.{sections, section_number};
+ghost use Rattle.rv_store.specs.Ends.{ends_after, ends_at, next_offset, next_place, place_by_shapes};
 ghost use Rattle.rv_store.specs.Program.{for_lines};
 
 use crate::ends::Ends;
 use crate::room::row_for;
-use rv_layout::{Layout, Measured, SECTIONS, bases, section_number};
+use rv_layout::{Layout, Measured, SECTIONS, bases, layouts_tell_places, section_number};
 use rv_list::LinePlace;
 use std::alloc::{AllocError, Global};
 
@@ -27,8 +27,8 @@ fn bytes_with(bytes: u32, shape: &Measured) -> Option<u32>
     }
 }
 
-/// The layout of all lines. Only alignments and switches are joined one by one: the bytes between them are added up.
-pub fn total_layout(shapes: &[Measured]) -> Layout
+// The layout of all lines. Only alignments and switches are joined one by one: the bytes between them are added up.
+fn total_layout(shapes: &[Measured]) -> Layout
     requires limited { AreLimited shapes.now }
     ensures { result ≡ layout_of shapes.now }
 {
@@ -124,8 +124,8 @@ impl Reached {
     }
 }
 
-/// Where the lines lie, by their shapes: addresses from `base` on. `total` is the layout of all of them.
-pub fn places(
+// Where the lines lie, by their shapes: addresses from `base` on. `total` is the layout of all of them.
+fn places(
     alloc: Global,
     base: u32,
     shapes: &[Measured],
@@ -152,4 +152,66 @@ pub fn places(
         });
     }
     Ok(row)
+}
+
+/// Whether all sections begin where they began before lines were added.
+pub fn stay_sections(base: u32, before: &Layout, total: &Layout) -> bool
+    requires base { is_base base ≡ true }
+    requires ends_before { sum_below (offset_reached before.now) sections ≤ 2 ^ 30 }
+    requires ends { sum_below (offset_reached total.now) sections ≤ 2 ^ 30 }
+    ensures { IsTrue result → (t : ℕ) → t < sections → base_by_layout base total.now t ≡ base_by_layout base before.now t }
+{
+    bases(total, base) == bases(before, base)
+}
+
+/// The layout of the lines of a text, and where each of them lies.
+#[derive(Drop)]
+pub struct Placed {
+    pub total: Layout,
+    pub places: Vec<LinePlace>,
+}
+
+impl Placed {
+    /// The layout of lines of these shapes, and where they lie: addresses from `base` on.
+    pub fn of(alloc: Global, base: u32, shapes: &[Measured]) -> Result<Placed, AllocError>
+        requires base { is_base base ≡ true }
+        requires few { length shapes.now ≤ 16384 }
+        requires limited { AreLimited shapes.now }
+        ensures total { IfOk result (λ p. p.total ≡ layout_of shapes.now) }
+        ensures places { IfOk result (λ p. p.places.items ≡ for_lines (place_by_shapes base shapes.now) (length shapes.now)) }
+    {
+        let total = total_layout(shapes);
+        let places = places(alloc, base, shapes, &total)?;
+        Ok(Placed { total, places })
+    }
+
+    /// The layout of lines of these shapes, and where they lie, by that of the lines before the last one: where no section moves by it,
+    /// these lie where they lay.
+    pub fn with_last(
+        alloc: Global,
+        base: u32,
+        shapes: &[Measured],
+        shape: &Measured,
+        before: &Layout,
+        first: &[LinePlace],
+    ) -> Result<Placed, AllocError>
+        requires base { is_base base ≡ true }
+        requires few { length shapes.now ≤ 16384 }
+        requires limited { AreLimited shapes.now }
+        requires last { (ms : List Measured) × (shapes.now ≡ ms ++ shape.now ∷ []) × (before.now ≡ layout_of ms) × (first.now ≡ for_lines (place_by_shapes base ms) (length ms)) }
+        ensures total { IfOk result (λ p. p.total ≡ layout_of shapes.now) }
+        ensures places { IfOk result (λ p. p.places.items ≡ for_lines (place_by_shapes base shapes.now) (length shapes.now)) }
+    {
+        layouts_tell_places();
+        let total = before.then(shape);
+        if !stay_sections(base, before, &total) {
+            let places = places(alloc, base, shapes, &total)?;
+            return Ok(Placed { total, places });
+        }
+        let place = next_place(&bases(&total, base), &Ends::reached(before), shape);
+        let mut places = row_for(alloc, shapes.len())?;
+        places.extend_from_slice(first)?;
+        places.push(place)?;
+        Ok(Placed { total, places })
+    }
 }

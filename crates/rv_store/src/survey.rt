@@ -6,7 +6,8 @@ ghost use Rattle.rv_layout.specs.Places.{section_base_of, section_end_of, AreLim
 ghost use Rattle.rv_layout.specs.Sections.{sections};
 ghost use Rattle.rv_store.specs.Before.{IsBefore, base_before, lines_before, edit_on};
 ghost use Rattle.rv_store.specs.Edits.{edit_of};
-ghost use Rattle.rv_store.specs.Program.{program_of};
+ghost use Rattle.rv_store.specs.Ends.{place_by_shapes};
+ghost use Rattle.rv_store.specs.Program.{program_of, for_lines};
 ghost use Rattle.rv_store.specs.Rows.{Grows, AreDefinitions, AreConstants, AreShapes, AreLocals};
 ghost use Rattle.rv_store.specs.Surveys.{IsSurvey};
 ghost use Rattle.rv_store.specs.SymbolRows.{AreSymbolRows};
@@ -26,7 +27,7 @@ use crate::moved_definitions::definitions_after;
 use crate::moved_locals::locals_after;
 use crate::names::NameTable;
 use crate::paired_highs::paired_highs;
-use crate::places::{places, total_layout};
+use crate::places::Placed;
 use crate::shapes::{ShapeRows, shapes};
 use crate::symbol_rows::SymbolRows;
 use crate::text_rows::TextRows;
@@ -118,8 +119,18 @@ impl Survey {
         let definitions = definitions_after(alloc, &self.definitions, old, lines, edit, names)?;
         let before = self.before(old, base, names, edit);
         let sized = shapes(alloc, &before, lines, names, &definitions, counter)?;
+        let placed = Placed::of(alloc, base, &sized.shapes)?;
         let locals = locals_after(alloc, &self.locals, old, lines, edit)?;
-        Survey::by_rows(alloc, &before, lines, definitions, sized, locals, counter)
+        Survey::by_rows(
+            alloc,
+            &before,
+            lines,
+            definitions,
+            sized,
+            placed,
+            locals,
+            counter,
+        )
     }
 
     /// That of the lines of a text after an edit, by the rows that are made from the first line on. It does not get the lines.
@@ -132,6 +143,7 @@ impl Survey {
         lines: &[Line],
         definitions: Vec<DefinitionPlace>,
         sized: ShapeRows,
+        placed: Placed,
         locals: Locals,
         counter: &mut C,
     ) -> Result<Survey, AllocError>
@@ -143,6 +155,8 @@ impl Survey {
         requires constants { AreConstants (program_of lines.now) (length lines.now) before.now.symbols.text.names.now sized.constants.items }
         requires shapes { AreShapes (program_of lines.now) sized.shapes.items }
         requires limited { AreLimited sized.shapes.items }
+        requires total { placed.total ≡ layout_of sized.shapes.items }
+        requires places { placed.places.items ≡ for_lines (place_by_shapes (base_before before.now) sized.shapes.items) (length sized.shapes.items) }
         requires locals { AreLocals (program_of lines.now) (length lines.now) locals }
         requires valued { C.valued_count counter.old ≤ 2 ^ 63 + 2 ^ 32 }
         ensures survey { IfOk result (λ s. IsSurvey (base_before before.now) (program_of lines.now) before.now.symbols.text.names.now s) }
@@ -154,16 +168,13 @@ impl Survey {
         ensures encoded { C.encoded_count counter.new ≡ C.encoded_count counter.old }
     {
         let base = before.symbols.text.base;
-        let shapes = sized.shapes.as_slice();
-        let total = total_layout(shapes);
-        let places = places(alloc, base, shapes, &total)?;
         let lines = Lines::in_column(lines);
         let text = TextRows {
             base,
             lines: &lines,
             names: before.symbols.text.names,
             definitions: &definitions,
-            places: &places,
+            places: &placed.places,
             locals: &locals,
         };
         let equ_values = equ_values(alloc, &text, counter)?;
@@ -179,8 +190,8 @@ impl Survey {
             definitions,
             constants: sized.constants,
             shapes: sized.shapes,
-            total,
-            places,
+            total: placed.total,
+            places: placed.places,
             locals,
             equ_values,
             highs,

@@ -1,11 +1,14 @@
-use Rattle.std.proofs.Common.{◌≤◌, ◌+◌, length, sym, subst, ◌∙◌, arith}
+use Rattle.std.proofs.Common.{◌≤◌, ◌+◌, length, ap, sym, subst, ◌∙◌, arith}
+use Rattle.rv_layout.specs.Effects.{layout_of}
 use Rattle.rv_store.specs.Before.{base_before, lines_before, edit_on}
 use Rattle.rv_store.specs.Edits.{edit_of}
-use Rattle.rv_store.specs.Program.{program_of}
+use Rattle.rv_store.specs.Ends.{place_by_shapes}
+use Rattle.rv_store.specs.Program.{program_of, for_lines}
 use Rattle.rv_store.specs.Rows.{AreConstants}
 use Rattle.rv_store.specs.Work.{equ_operands, constant_operands, high_operands, operands_through, work}
 use Rattle.rv_store.proofs.Stores.{survey_grown}
 use Rattle.rv_store.proofs.SurveyWork.{survey_counted}
+use Rattle.rv_store.proofs.Surveys.{length_of_shapes}
 use Rattle.rv_store.proofs.survey.Survey.after.Goals as goal
 
 pub before-before-requires-clause-survey : goal.before-before-requires-clause-survey
@@ -19,6 +22,30 @@ returns-in_err-sized-clause-work g c =
     rw same at
     (survey_counted c.before-before.result c.args.base c.args.old.now c.as_slice-lines.result.now (edit_of c.args.edit.now) before.base before.lines before.edit (same ∙ c.requires.edited)
     (count c.args.counter.now) (count c.shapes.new.counter) (count c.shapes.new.counter) (count c.shapes.new.counter) c.shapes.ensures.work (omega arith) (omega arith))
+
+pub returns-in_err-placed-clause-work : goal.returns-in_err-placed-clause-work
+returns-in_err-placed-clause-work g c =
+    let count = g.C.Count.valued_count in
+    let before = c.before-before.ensures in
+    let same = c.as_slice-lines.ensures.value in
+    rw same at
+    (survey_counted c.before-before.result c.args.base c.args.old.now c.as_slice-lines.result.now (edit_of c.args.edit.now) before.base before.lines before.edit (same ∙ c.requires.edited)
+    (count c.args.counter.now) (count c.shapes.new.counter) (count c.shapes.new.counter) (count c.shapes.new.counter) c.shapes.ensures.work (omega arith) (omega arith))
+
+pub of-requires-clause-few : goal.of-requires-clause-few
+of-requires-clause-few g c =
+    let count = length_of_shapes c.as_slice-lines.result.now c.in_ok-sized.sized.shapes.items c.in_ok-sized.ensures.shapes in
+    omega (arith, ap length c.deref-3.ensures.value, count, ap length c.as_slice-lines.ensures.value, c.requires.few)
+
+pub by_rows-requires-clause-total : goal.by_rows-requires-clause-total
+by_rows-requires-clause-total g c = c.in_ok-placed.ensures.total ∙ ap layout_of c.deref-3.ensures.value
+
+pub by_rows-requires-clause-places : goal.by_rows-requires-clause-places
+by_rows-requires-clause-places g c =
+    let shapes = c.in_ok-sized.sized.shapes.items in
+    c.in_ok-placed.ensures.places
+    ∙ ap (λ ms. for_lines (place_by_shapes c.args.base ms) (length ms)) c.deref-3.ensures.value
+    ∙ ap (λ base. for_lines (place_by_shapes base shapes) (length shapes)) (sym c.before-before.ensures.base)
 
 pub returns-in_err-locals-clause-work : goal.returns-in_err-locals-clause-work
 returns-in_err-locals-clause-work g c =
@@ -47,6 +74,9 @@ returns-clause-work g c =
 pub returns-in_err-sized-clause-parsed : goal.returns-in_err-sized-clause-parsed
 returns-in_err-sized-clause-parsed g c = c.shapes.ensures.parsed
 
+pub returns-in_err-placed-clause-parsed : goal.returns-in_err-placed-clause-parsed
+returns-in_err-placed-clause-parsed g c = c.shapes.ensures.parsed
+
 pub returns-in_err-locals-clause-parsed : goal.returns-in_err-locals-clause-parsed
 returns-in_err-locals-clause-parsed g c = c.shapes.ensures.parsed
 
@@ -55,6 +85,9 @@ returns-clause-parsed g c = c.by_rows.ensures.parsed ∙ c.shapes.ensures.parsed
 
 pub returns-in_err-sized-clause-encoded : goal.returns-in_err-sized-clause-encoded
 returns-in_err-sized-clause-encoded g c = c.shapes.ensures.encoded
+
+pub returns-in_err-placed-clause-encoded : goal.returns-in_err-placed-clause-encoded
+returns-in_err-placed-clause-encoded g c = c.shapes.ensures.encoded
 
 pub returns-in_err-locals-clause-encoded : goal.returns-in_err-locals-clause-encoded
 returns-in_err-locals-clause-encoded g c = c.shapes.ensures.encoded

@@ -2,18 +2,13 @@ use Rattle.std.proofs.Common.{◌∙◌, sym}
 use Rattle.rv_store.specs.Before.{base_before}
 use Rattle.rv_store.specs.Program.{program_of}
 use Rattle.rv_store.proofs.Programs.{length-program}
-use Rattle.rv_store.proofs.Surveys.{length_of_shapes, placed}
+use Rattle.rv_store.proofs.Surveys.{placed}
 use Rattle.rv_store.proofs.survey.Survey.by_rows.Goals as goal
-
-pub places-requires-clause-few : goal.places-requires-clause-few
-places-requires-clause-few g c =
-    let count = length_of_shapes c.args.lines.now c.args.sized.shapes.items c.requires.shapes in
-    rw (c.as_slice-shapes.ensures.value, count) c.requires.few
 
 pub equ_values-requires-clause-rows : goal.equ_values-requires-clause-rows
 equ_values-requires-clause-rows g c = record {
   defined = rw (c.in_column-lines.ensures, c.deref.ensures.value) c.requires.definitions;
-  placed = rw (c.in_column-lines.ensures, c.deref-2.ensures.value) (placed (base_before c.args.before.now) (program_of c.args.lines.now) c.args.sized.shapes.items _ c.requires.shapes (rw (sym c.as_slice-shapes.ensures.value) c.in_ok-places.ensures.places));
+  placed = rw (c.in_column-lines.ensures, c.deref-2.ensures.value) (placed (base_before c.args.before.now) (program_of c.args.lines.now) c.args.sized.shapes.items _ c.requires.shapes c.requires.places);
   located = rw (c.in_column-lines.ensures, length-program) c.requires.locals;
 }
 
@@ -21,7 +16,7 @@ pub highs-requires-clause-rows : goal.highs-requires-clause-rows
 highs-requires-clause-rows g c = record {
   text = record {
     defined = rw (c.in_column-lines.ensures, c.deref.ensures.value) c.requires.definitions;
-    placed = rw (c.in_column-lines.ensures, c.deref-2.ensures.value) (placed (base_before c.args.before.now) (program_of c.args.lines.now) c.args.sized.shapes.items _ c.requires.shapes (rw (sym c.as_slice-shapes.ensures.value) c.in_ok-places.ensures.places));
+    placed = rw (c.in_column-lines.ensures, c.deref-2.ensures.value) (placed (base_before c.args.before.now) (program_of c.args.lines.now) c.args.sized.shapes.items _ c.requires.shapes c.requires.places);
     located = rw (c.in_column-lines.ensures, length-program) c.requires.locals;
   };
   constants = rw (c.in_column-lines.ensures, c.deref-3.ensures.value) c.requires.constants;
@@ -31,7 +26,7 @@ highs-requires-clause-rows g c = record {
 pub paired_highs-requires-clause-rows : goal.paired_highs-requires-clause-rows
 paired_highs-requires-clause-rows g c = record {
   defined = rw (c.in_column-lines.ensures, c.deref.ensures.value) c.requires.definitions;
-  placed = rw (c.in_column-lines.ensures, c.deref-2.ensures.value) (placed (base_before c.args.before.now) (program_of c.args.lines.now) c.args.sized.shapes.items _ c.requires.shapes (rw (sym c.as_slice-shapes.ensures.value) c.in_ok-places.ensures.places));
+  placed = rw (c.in_column-lines.ensures, c.deref-2.ensures.value) (placed (base_before c.args.before.now) (program_of c.args.lines.now) c.args.sized.shapes.items _ c.requires.shapes c.requires.places);
   located = rw (c.in_column-lines.ensures, length-program) c.requires.locals;
 }
 
@@ -41,8 +36,8 @@ returns-clause-survey g c = record {
   constants = rw length-program c.requires.constants;
   shapes = c.requires.shapes;
   limited = c.requires.limited;
-  total = rw (sym c.as_slice-shapes.ensures.value) c.total_layout-total.ensures;
-  places = placed (base_before c.args.before.now) (program_of c.args.lines.now) c.args.sized.shapes.items _ c.requires.shapes (rw (sym c.as_slice-shapes.ensures.value) c.in_ok-places.ensures.places);
+  total = c.requires.total;
+  places = placed (base_before c.args.before.now) (program_of c.args.lines.now) c.args.sized.shapes.items _ c.requires.shapes c.requires.places;
   locals = rw length-program c.requires.locals;
   equ_values = rw length-program (rw c.in_column-lines.ensures at c.in_ok-equ_values.ensures.values);
   highs = rw c.in_column-lines.ensures at c.in_ok-highs.ensures.highs;
