@@ -6,7 +6,6 @@ use Rattle.rv_expr.specs.declared.faults.ValueFault.TheVariants.{Undefined}
 use Rattle.rv_list.specs.declared.view.DefinitionPlace.{DefinitionPlace}
 use Rattle.rv_list.specs.declared.view.DefinitionPlace.TheVariants.{Nowhere, Label as ByLabel, Equ}
 use Rattle.rv_store.specs.declared.before.Before.{Before}
-use Rattle.rv_store.specs.declared.name_set.NameSet.{NameSet}
 use Rattle.rv_store.specs.declared.symbol_rows.SymbolRows.{SymbolRows}
 use Rattle.rv_store.specs.declared.text_rows.TextRows.{TextRows}
 use Rattle.rv_store.specs.Before.{IsBefore, IsAfter, base_before, lines_before, edit_on}
@@ -16,7 +15,7 @@ use Rattle.rv_store.specs.Definitions.{definition_of, equ_line}
 use Rattle.rv_store.specs.Differing.{IsOneConstant, DiffersNowhere, HasDiffering}
 use Rattle.rv_store.specs.Edits.{line_before_edit}
 use Rattle.rv_store.specs.Layout.{address_at}
-use Rattle.rv_store.specs.NameSets.{Has, with_name}
+use Rattle.rv_store.specs.NameSets.{Marks, IsSized, Has, with_added}
 use Rattle.rv_store.specs.Program.{Program, program_of, body_at}
 use Rattle.rv_store.specs.References.{by_definition, equ_value, reference_of}
 use Rattle.rv_store.specs.Rows.{number_of, entry_at, in_row, AreConstants}
@@ -154,24 +153,24 @@ module _ (before : Before) (after : SymbolRows) (is : IsBefore before) (rows : A
 -- A loop over the names
 
 -- each of the first n names is in the set, unless it differs nowhere
-abbrev pub HasDifferingBelow : (n : ℕ) → (names : List (List ℕ)) → Before → NameSet → Type 0
+abbrev pub HasDifferingBelow : (n : ℕ) → (names : List (List ℕ)) → Before → Marks → Type 0
 HasDifferingBelow n names before set =
     (name : List ℕ) (number : ℕ) → number_of names name ≡ Some number → number < n → Has set name ⊎ DiffersNowhere (base_before before) (lines_before before) (edit_on before) name
 
-module _ (before : Before) (names : List (List ℕ)) (n : ℕ) (set : NameSet) (so_far : HasDifferingBelow n names before set) where
+module _ (before : Before) (names : List (List ℕ)) (n : ℕ) (set : Marks) (sized : IsSized set) (so_far : HasDifferingBelow n names before set) where
   -- the next name is added
-  pub below-added : (added : List ℕ) → number_of names added ≡ Some n → HasDifferingBelow (n + 1) names before (with_name set added)
+  pub below-added : (added : List ℕ) → number_of names added ≡ Some n → HasDifferingBelow (n + 1) names before (with_added set added)
   below-added added numbered name number is within = at (cases_lt number n)
     where
-      at : (number < n) ⊎ (n ≤ number) → Has (with_name set added) name ⊎ DiffersNowhere (base_before before) (lines_before before) (edit_on before) name
+      at : (number < n) ⊎ (n ≤ number) → Has (with_added set added) name ⊎ DiffersNowhere (base_before before) (lines_before before) (edit_on before) name
       at (inl earlier) = or_kept (so_far name number is earlier)
         where
-          or_kept : Has set name ⊎ DiffersNowhere (base_before before) (lines_before before) (edit_on before) name → Has (with_name set added) name ⊎ DiffersNowhere (base_before before) (lines_before before) (edit_on before) name
-          or_kept (inl has) = inl (has-kept set added name has)
+          or_kept : Has set name ⊎ DiffersNowhere (base_before before) (lines_before before) (edit_on before) name → Has (with_added set added) name ⊎ DiffersNowhere (base_before before) (lines_before before) (edit_on before) name
+          or_kept (inl has) = inl (has-kept set added name sized has)
           or_kept (inr nowhere) = inr nowhere
       at (inr last) =
           let here : number ≡ n = omega (arith, within, last) in
-          inl (subst (Has (with_name set added)) (number-same names added name n numbered (is ∙ ap Some here)) (has-added set added))
+          inl (subst (Has (with_added set added)) (number-same names added name n numbered (is ∙ ap Some here)) (has-added set added sized))
 
   -- it differs nowhere
   pub below-nowhere : ((name : List ℕ) → number_of names name ≡ Some n → DiffersNowhere (base_before before) (lines_before before) (edit_on before) name) → HasDifferingBelow (n + 1) names before set
@@ -184,7 +183,7 @@ module _ (before : Before) (names : List (List ℕ)) (n : ℕ) (set : NameSet) (
           inr (nowhere name (is ∙ ap Some here))
 
 -- all names have been looked at
-pub all-below : (before : Before) (after : SymbolRows) (n : ℕ) (set : NameSet) → IsBefore before → AreSymbolRows after → IsAfter before after.text → length after.text.names.now ≤ n → HasDifferingBelow n after.text.names.now before set → HasDiffering (base_before before) (lines_before before) (edit_on before) set
+pub all-below : (before : Before) (after : SymbolRows) (n : ℕ) (set : Marks) → IsBefore before → AreSymbolRows after → IsAfter before after.text → length after.text.names.now ≤ n → HasDifferingBelow n after.text.names.now before set → HasDiffering (base_before before) (lines_before before) (edit_on before) set
 all-below before after n set is rows is_after all so_far name = at (number_of after.text.names.now name) refl
   where
     at : (number : Option ℕ) → number_of after.text.names.now name ≡ number → Has set name ⊎ DiffersNowhere (base_before before) (lines_before before) (edit_on before) name
@@ -195,7 +194,7 @@ all-below before after n set is rows is_after all so_far name = at (number_of af
 
 -- A line and the line that it was
 
-module _ (before : Before) (after : TextRows) (line earlier : ℕ) (is : IsBefore before) (is_after : IsAfter before after) (first : 1 ≤ line) (last : line ≤ length after.lines.now) (stands : line_before_edit (edit_on before) line ≡ Some earlier) (set : NameSet) (has : HasDiffering (base_before before) (lines_before before) (edit_on before) set) where
+module _ (before : Before) (after : TextRows) (line earlier : ℕ) (is : IsBefore before) (is_after : IsAfter before after) (first : 1 ≤ line) (last : line ≤ length after.lines.now) (stands : line_before_edit (edit_on before) line ≡ Some earlier) (set : Marks) (has : HasDiffering (base_before before) (lines_before before) (edit_on before) set) where
   pub differing-on : is_equ (body_at (program_in after) line) ≡ false → (name : List ℕ) → Has set name ⊎ (differs_in_name (base_before before) (program_in before.symbols.text) (program_in after) line earlier name ≡ false)
   differing-on no_equ name = at (has name)
     where

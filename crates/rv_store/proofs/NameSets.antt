@@ -1,68 +1,78 @@
--- Sets of names: what they have, and which tests no name in a set passes.
-use Rattle.std.proofs.Common.{◌≡◌, ℕ, ◌-◌, ◌^◌, ◌<◌, ◌==◌, Bool, true, false, not, ◌||◌, List, [], ◌∷◌, ◌⊎◌, inl, inr, true≢false, arith, ap, ◌∙◌, refl}
-use Rattle.std.specs.Int.{bit_at}
-use Rattle.std.specs.Int.Bits.{bit_and}
+-- Sets of names: what they have, and which tests no name of a line passes.
+use Rattle.std.proofs.Common.{◌≡◌, ℕ, zero, suc, ◌<◌, ◌⊎◌, inl, inr, Bool, true, false, ◌||◌, List, [], ◌∷◌, replicate, get_or, set, Option, Some, None, true≢false, arith, ap, sym, ◌∙◌, refl, subst}
 use Rattle.std.specs.List.{list_any, fold}
-use Rattle.std.proofs.lemmas.Bool.{eqb-true}
-use Rattle.std.proofs.lemmas.Nat.Bits.{bit_at-lt, bit_at-zero, bit_at-pow_same, bit_at_ones, bit_at_and, bit_at_or}
-use Rattle.rv_store.specs.declared.name_set.NameSet.{NameSet}
-use Rattle.rv_store.specs.NameSets.{next_bucket, bucket_of, Has, with_name, with_names, no_names, set_of, meets}
+use Rattle.std.proofs.lemmas.Bool.{cases_eq}
+use Rattle.std.proofs.lemmas.List.{length-set, get_or-set_same, get_or-set_other}
+use Rattle.rv_store.specs.declared.few_names.FewNames.{FewNames}
+use Rattle.rv_store.specs.NameSets.{next_bucket, bucket_of, Marks, IsSized, Has, with_added, no_names, with_bucket, with_name, with_names, few_of, any_bucket, meets_by}
 
-bucket-after : (bucket : ℕ) (name : List ℕ) → bucket < 64 → fold next_bucket bucket name < 64
+bucket-after : (bucket : ℕ) (name : List ℕ) → bucket < 4096 → fold next_bucket bucket name < 4096
 bucket-after bucket [] below = below
 bucket-after bucket (byte ∷ bytes) below = bucket-after (next_bucket bucket byte) bytes (omega arith)
 
-pub bucket-below : (name : List ℕ) → bucket_of name < 64
+pub bucket-below : (name : List ℕ) → bucket_of name < 4096
 bucket-below name = bucket-after 0 name (omega arith)
 
--- all buckets
-pub has-all : (name : List ℕ) → bit_at (2 ^ 64 - 1) (bucket_of name) ≡ 1
-has-all name = bit_at_ones 64 (bucket_of name) (bucket-below name)
+-- no bucket is marked
+pub none-marked : (n bucket : ℕ) → get_or (replicate n false) bucket false ≡ false
+none-marked zero bucket = refl
+none-marked (suc n) zero = refl
+none-marked (suc n) (suc bucket) = none-marked n bucket
 
 -- A name that is added
 
-pub has-added : (set : NameSet) (name : List ℕ) → Has (with_name set name) name
-has-added set name =
-    let k = bucket_of name in
-    let low = bit_at-lt set.buckets k in
-    let one = bit_at-pow_same k in
-    bit_at_or set.buckets (2 ^ k) k ∙ (omega (arith, low, one))
+pub sized-added : (marks : Marks) (name : List ℕ) → IsSized marks → IsSized (with_added marks name)
+sized-added None name is = tt
+sized-added (Some marks) name is = length-set marks (bucket_of name) true ∙ is
 
-pub has-kept : (set : NameSet) (added name : List ℕ) → Has set name → Has (with_name set added) name
-has-kept set added name has =
-    let k = bucket_of name in
-    let low = bit_at-lt (2 ^ bucket_of added) k in
-    bit_at_or set.buckets (2 ^ bucket_of added) k ∙ (omega (arith, low, has))
+pub has-added : (marks : Marks) (name : List ℕ) → IsSized marks → Has (with_added marks name) name
+has-added None name is = refl
+has-added (Some marks) name is =
+    get_or-set_same marks (bucket_of name) true false (subst (λ n. bucket_of name < n) (sym is) (bucket-below name))
 
-has-kept_all : (set : NameSet) (names : List (List ℕ)) (name : List ℕ) → Has set name → Has (with_names set names) name
-has-kept_all set [] name has = has
-has-kept_all set (n ∷ ns) name has = has-kept_all (with_name set n) ns name (has-kept set n name has)
-
--- Sets that share a name
-
-no-common : (set other : NameSet) (name : List ℕ) → Has set name → Has other name → meets set other ≡ false → ⊥
-no-common set other name has has' apart = at (bit_and set.buckets other.buckets == 0) refl apart
+pub has-kept : (marks : Marks) (added name : List ℕ) → IsSized marks → Has marks name → Has (with_added marks added) name
+has-kept None added name is has = refl
+has-kept (Some marks) added name is has = at (cases_eq (bucket_of name) (bucket_of added))
   where
-    k : ℕ
-    k = bucket_of name
+    at : (bucket_of name ≡ bucket_of added) ⊎ (bucket_of name ≡ bucket_of added → ⊥) → get_or (set marks (bucket_of added) true) (bucket_of name) false ≡ true
+    at (inl same) =
+        ap (λ b. get_or (set marks (bucket_of added) true) b false) same
+        ∙ get_or-set_same marks (bucket_of added) true false (subst (λ n. bucket_of added < n) (sym is) (bucket-below added))
+    at (inr other) = get_or-set_other marks (bucket_of added) (bucket_of name) true false other ∙ has
 
-    at : (b : Bool) → (bit_and set.buckets other.buckets == 0) ≡ b → not b ≡ false → ⊥
-    at false e h = true≢false h
-    at true e h =
-        let none : bit_at (bit_and set.buckets other.buckets) k ≡ 0 = ap (λ n. bit_at n k) (eqb-true (bit_and set.buckets other.buckets) 0 e) ∙ bit_at-zero k in
-        let both = bit_at_and set.buckets other.buckets k in
-        omega (arith, none, both, has, has')
+-- A few names: no name of a line passes a test if only names of some buckets do, and none of these is one of the line's
 
--- no name in a set passes a test that only names of another set pass, if these sets do not meet
-module _ (test : List ℕ → Bool) (other : NameSet) (has : (name : List ℕ) → Has other name ⊎ (test name ≡ false)) where
-  none-after : (set : NameSet) (names : List (List ℕ)) → meets (with_names set names) other ≡ false → list_any test names ≡ false
-  none-after set [] apart = refl
-  none-after set (n ∷ ns) apart = at (has n) (none-after (with_name set n) ns apart)
-    where
-      at : Has other n ⊎ (test n ≡ false) → list_any test ns ≡ false → list_any test (n ∷ ns) ≡ false
-      at (inl common) none =
-          absurd (no-common (with_names set (n ∷ ns)) other n (has-kept_all (with_name set n) ns n (has-added set n)) common apart)
-      at (inr fails) none = ap (λ b. b || list_any test ns) fails ∙ none
+module _ (has : ℕ → Bool) where
+  one_of : (a b c : Bool) → (a || b || c) ≡ false → (a ≡ false) × (b ≡ false) × (c ≡ false)
+  one_of false false false h = (refl, refl, refl)
+  one_of true b c h = absurd (true≢false h)
+  one_of false true c h = absurd (true≢false h)
+  one_of false false true h = absurd (true≢false h)
 
-  pub none-passes : (names : List (List ℕ)) → meets (set_of names) other ≡ false → list_any test names ≡ false
-  none-passes names apart = none-after no_names names apart
+  -- what is apart after one more was apart before, and so is the one
+  apart-bucket : (first second : Option ℕ) (more : Bool) (bucket : ℕ) → meets_by has (with_bucket first second more bucket) ≡ false
+      → (meets_by has (record { first = first; second = second; more = more }) ≡ false) × (has bucket ≡ false)
+  apart-bucket None second more bucket apart =
+      let parts = one_of more (has bucket) (any_bucket has second) apart in
+      ((λ i. parts.0 i || false || parts.2 i), parts.1)
+  apart-bucket (Some first) None more bucket apart =
+      let parts = one_of more (has first) (has bucket) apart in
+      ((λ i. parts.0 i || parts.1 i || false), parts.2)
+  apart-bucket (Some first) (Some second) more bucket apart = absurd (true≢false apart)
+
+  apart-names : (few : FewNames) (names : List (List ℕ)) → meets_by has (with_names few names) ≡ false → meets_by has few ≡ false
+  apart-names few [] apart = apart
+  apart-names few (n ∷ ns) apart = (apart-bucket few.first few.second few.more (bucket_of n) (apart-names (with_name few n) ns apart)).0
+
+  module _ (test : List ℕ → Bool) (only : (name : List ℕ) → (has (bucket_of name) ≡ true) ⊎ (test name ≡ false)) where
+    none-after : (few : FewNames) (names : List (List ℕ)) → meets_by has (with_names few names) ≡ false → list_any test names ≡ false
+    none-after few [] apart = refl
+    none-after few (n ∷ ns) apart = at (only n) (none-after (with_name few n) ns apart)
+      where
+        at : (has (bucket_of n) ≡ true) ⊎ (test n ≡ false) → list_any test ns ≡ false → list_any test (n ∷ ns) ≡ false
+        at (inl is) none =
+            absurd (true≢false (sym is ∙ (apart-bucket few.first few.second few.more (bucket_of n) (apart-names (with_name few n) ns apart)).1))
+        at (inr fails) none = ap (λ b. b || list_any test ns) fails ∙ none
+
+    pub none-passes : (names : List (List ℕ)) → meets_by has (few_of names) ≡ false → list_any test names ≡ false
+    none-passes names apart = none-after no_names names apart

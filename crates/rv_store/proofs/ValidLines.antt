@@ -5,14 +5,13 @@ use Rattle.std.proofs.lemmas.Bool.{or_parts}
 use Rattle.rv_stmt.specs.declared.statement.Body.{Body}
 use Rattle.rv_store.specs.declared.before.Before.{Before}
 use Rattle.rv_store.specs.declared.brief.Brief.{Brief}
-use Rattle.rv_store.specs.declared.name_set.NameSet.{NameSet}
 use Rattle.rv_store.specs.declared.text_rows.TextRows.{TextRows}
 use Rattle.rv_store.specs.Before.{IsBefore, IsAfter, base_before, lines_before, edit_on}
 use Rattle.rv_store.specs.Briefs.{brief_of}
 use Rattle.rv_store.specs.Changes.{differs_in_name, differs_in_place, is_invalidated}
 use Rattle.rv_store.specs.Differing.{HasDiffering}
 use Rattle.rv_store.specs.Edits.{line_before_edit}
-use Rattle.rv_store.specs.NameSets.{set_of, meets}
+use Rattle.rv_store.specs.NameSets.{Marks, few_of, has_bucket, meets}
 use Rattle.rv_store.specs.Program.{Program, statement_at, body_at}
 use Rattle.rv_store.specs.TextRows.{program_in}
 use Rattle.rv_store.specs.Uses.{names_used, uses_address, uses_local_label, uses_paired_high, is_equ}
@@ -20,7 +19,7 @@ use Rattle.rv_store.proofs.DifferingNames.{differing-on}
 use Rattle.rv_store.proofs.LinePairLaws.{same-by_brief, invalidated-by_uses}
 use Rattle.rv_store.proofs.NameSets.{none-passes}
 
-module _ (before : Before) (after : TextRows) (line : ℕ) (is : IsBefore before) (is_after : IsAfter before after) (first : 1 ≤ line) (last : line ≤ length after.lines.now) (set : NameSet) (has : HasDiffering (base_before before) (lines_before before) (edit_on before) set) (brief : Brief) (of_line : brief ≡ brief_of (statement_at (program_in after) line)) where
+module _ (before : Before) (after : TextRows) (line : ℕ) (is : IsBefore before) (is_after : IsAfter before after) (first : 1 ≤ line) (last : line ≤ length after.lines.now) (set : Marks) (has : HasDiffering (base_before before) (lines_before before) (edit_on before) set) (brief : Brief) (of_line : brief ≡ brief_of (statement_at (program_in after) line)) where
   -- a line that stayed, and uses no symbol that differs, nor its own address where it moved, nor what is not compared
   pub valid-by_brief : (line_before_edit (edit_on before) line ≡ None → ⊥) → brief.uncompared ≡ false → meets brief.names set ≡ false → ((stood : ℕ) → line_before_edit (edit_on before) line ≡ Some stood → (brief.address && differs_in_place (base_before before) (program_in before.symbols.text) (program_in after) line stood) ≡ false) → is_invalidated (base_before before) (lines_before before) (edit_on before) line ≡ false
   valid-by_brief stays compared apart place = at (line_before_edit (edit_on before) line) refl
@@ -40,14 +39,14 @@ module _ (before : Before) (after : TextRows) (line : ℕ) (is : IsBefore before
       no_equ : is_equ body ≡ false
       no_equ = (or_parts (uses_local_label body || uses_paired_high body) (is_equ body) compared_body).1
 
-      apart_body : meets (set_of (names_used body)) set ≡ false
+      apart_body : meets (few_of (names_used body)) set ≡ false
       apart_body = sym (ap (λ b. meets b.names set) of_line) ∙ apart
 
       at : (stood : Option ℕ) → line_before_edit (edit_on before) line ≡ stood → is_invalidated (base_before before) (lines_before before) (edit_on before) line ≡ false
       at None new_line = absurd (stays new_line)
       at (Some stood) stands =
           let names : list_any (differs_in_name (base_before before) old new line stood) (names_used body) ≡ false =
-          none-passes (differs_in_name (base_before before) old new line stood) set (differing-on before after line stood is is_after first last stands set has no_equ) (names_used body) apart_body in
+          none-passes (has_bucket set) (differs_in_name (base_before before) old new line stood) (differing-on before after line stood is is_after first last stands set has no_equ) (names_used body) apart_body in
           let unmoved : (uses_address body && differs_in_place (base_before before) old new line stood) ≡ false =
           ap (λ used. used && differs_in_place (base_before before) old new line stood) (sym (ap (λ b. b.address) of_line)) ∙ place stood stands in
           invalidated-by_uses before after line stood is is_after first last stands

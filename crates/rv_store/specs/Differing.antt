@@ -1,10 +1,9 @@
 -- Which symbols an edit changes, by a set that has all of them.
 use Rattle.std.specs.Prelude.{◌≡◌, ℕ, false, List, Some, ◌⊎◌}
-use Rattle.rv_store.specs.declared.name_set.NameSet.{NameSet}
 use Rattle.rv_store.specs.Changes.{program_after, differs_in_name}
 use Rattle.rv_store.specs.Constants.{constant_of}
 use Rattle.rv_store.specs.Edits.{line_before_edit}
-use Rattle.rv_store.specs.NameSets.{Has}
+use Rattle.rv_store.specs.NameSets.{Marks, Has}
 use Rattle.rv_store.specs.Program.{program_of, body_at}
 use Rattle.rv_store.specs.Text.{Edit}
 use Rattle.rv_store.specs.Uses.{is_equ}
@@ -21,5 +20,5 @@ DiffersNowhere base lines edit name =
     → differs_in_name base (program_of lines) (program_after lines edit) k j name ≡ false
 
 -- the set has each symbol, unless that differs nowhere
-abbrev pub HasDiffering : (base : ℕ) → (lines : List (List ℕ)) → Edit → NameSet → Type 0
+abbrev pub HasDiffering : (base : ℕ) → (lines : List (List ℕ)) → Edit → Marks → Type 0
 HasDiffering base lines edit set = (name : List ℕ) → Has set name ⊎ DiffersNowhere base lines edit name

@@ -2,9 +2,8 @@
 use Rattle.std.specs.Prelude.{◌≡◌, ℕ, ◌≤◌, Bool, false, List, length, ◌⊎◌}
 use Rattle.rv_store.specs.declared.invalidation.LinePair.{LinePair}
 use Rattle.rv_store.specs.declared.limits.TheConstants.{MAX_LINES}
-use Rattle.rv_store.specs.declared.name_set.NameSet.{NameSet}
 use Rattle.rv_store.specs.Changes.{differs_in_name}
-use Rattle.rv_store.specs.NameSets.{Has}
+use Rattle.rv_store.specs.NameSets.{Marks, Has}
 use Rattle.rv_store.specs.Program.{Program, body_at}
 use Rattle.rv_store.specs.SymbolRows.{AreSymbolRows}
 use Rattle.rv_store.specs.TextRows.{program_in}
@@ -41,6 +40,6 @@ differs_in_name_on pair name =
     differs_in_name pair.before.now.text.base (program_before_pair pair) (program_after_pair pair) pair.line pair.stood name
 
 -- the set has each symbol, unless that does not differ on the line, or the line is an `.equ`
-abbrev pub HasDifferingOn : LinePair → NameSet → Type 0
+abbrev pub HasDifferingOn : LinePair → Marks → Type 0
 HasDifferingOn pair set =
     is_equ (body_at (program_after_pair pair) pair.line) ≡ false → (name : List ℕ) → Has set name ⊎ (differs_in_name_on pair name ≡ false)

@@ -4,12 +4,12 @@ ghost use Rattle.std.specs.Prelude.{◌≡◌, ◌||◌};
 ghost use Rattle.rv_store.specs.Briefs.{brief_of};
 ghost use Rattle.rv_store.specs.Uses.{uses_local_label, uses_paired_high, is_equ};
 
+use crate::few_names::FewNames;
 use crate::highs::pcrel_high;
 use crate::jumps::target;
 use crate::locals::has_local_labels;
-use crate::name_set::NameSet;
 use crate::uses::{
-    is_equ, is_sized, set_of_names, uses_address, uses_local_label, uses_paired_high, uses_symbols,
+    brief_names, is_equ, is_sized, uses_address, uses_local_label, uses_paired_high, uses_symbols,
 };
 use rv_stmt::{Body, Stmt};
 
@@ -29,8 +29,8 @@ pub struct Brief {
     pub sized: bool,
     /// It uses symbols.
     pub symbols: bool,
-    /// The symbols that it uses, and maybe others.
-    pub names: NameSet,
+    /// The symbols that it uses.
+    pub names: FewNames,
     /// It uses its own address.
     pub address: bool,
     /// It uses the address of one label, counted from its own, and nothing else.
@@ -52,7 +52,7 @@ impl Brief {
             pcrel_high: pcrel_high(body).is_some(),
             sized: is_sized(body),
             symbols: uses_symbols(body),
-            names: set_of_names(body),
+            names: brief_names(body),
             address: uses_address(body),
             jump: target(body).is_some(),
             uncompared: is_uncompared(body),

@@ -1,6 +1,6 @@
 //! The symbols that an edit changes.
 
-ghost use Rattle.std.specs.Prelude.{◌≡◌, ℕ, List, false, IsTrue, IfSome};
+ghost use Rattle.std.specs.Prelude.{◌≡◌, ℕ, List, false, IsTrue, IfSome, IfOk};
 ghost use Rattle.rv_store.specs.Before.{IsBefore, IsAfter, base_before, lines_before, edit_on};
 ghost use Rattle.rv_store.specs.Differing.{IsOneConstant, DiffersNowhere, HasDiffering};
 ghost use Rattle.rv_store.specs.Rows.{number_of, IsNumber};
@@ -11,6 +11,7 @@ use crate::name_set::NameSet;
 use crate::names::entry_at;
 use crate::symbol_rows::SymbolRows;
 use rv_fix::is_same_entry;
+use std::alloc::{AllocError, Global};
 
 // Whether the symbol of this number is the same constant on each line as on the line that it was before the edit: no `.equ`
 // defines it, or one that stayed and still gives the same constant. Other symbols may be so, too.
@@ -65,20 +66,24 @@ fn may_differ(before: &Before<'_, '_>, after: &SymbolRows<'_>, number: Option<us
 }
 
 /// The symbols that give another value or another constant on a line of the text after an edit than they gave before, and
-/// maybe others. A symbol that has no number is defined in neither text.
-pub fn differing_names(before: &Before<'_, '_>, after: &SymbolRows<'_>) -> NameSet
+/// maybe others. A symbol that has no number is defined in neither text. Fails only where there is no memory.
+pub fn differing_names(
+    alloc: Global,
+    before: &Before<'_, '_>,
+    after: &SymbolRows<'_>,
+) -> Result<NameSet, AllocError>
     requires before { IsBefore before.now }
     requires rows { AreSymbolRows after.now }
     requires after { IsAfter before.now after.now.text }
-    ensures { HasDiffering (base_before before.now) (lines_before before.now) (edit_on before.now) result }
+    ensures { IfOk result (HasDiffering (base_before before.now) (lines_before before.now) (edit_on before.now)) }
 {
     let names = after.text.names;
-    let mut differing = NameSet::empty();
+    let mut differing = NameSet::empty(alloc)?;
     for number in 0..names.len() {
         let name = names.name(number);
         if may_differ(before, after, Some(number)) {
-            differing = differing.with(name);
+            differing.add(name);
         }
     }
-    differing
+    Ok(differing)
 }

@@ -102,11 +102,11 @@ fn is_jump_due(before: &Before<'_, '_>, after: &SymbolRows<'_>, target: &Expr, l
 }
 
 // Whether a line of the text after an edit is due. `differing` has each symbol that differs on one of the lines.
-fn is_due(before: &Before<'_, '_>, after: &SymbolRows<'_>, differing: NameSet, line: u32) -> bool
+fn is_due(before: &Before<'_, '_>, after: &SymbolRows<'_>, differing: &NameSet, line: u32) -> bool
     requires before { IsBefore before.now }
     requires rows { AreSymbolRows after.now }
     requires after { IsAfter before.now after.now.text }
-    requires differing { HasDiffering (base_before before.now) (lines_before before.now) (edit_on before.now) differing }
+    requires differing { HasDiffering (base_before before.now) (lines_before before.now) (edit_on before.now) differing.now }
     requires first { 1 ≤ line }
     requires last { line ≤ length after.now.text.lines.now }
     ensures { result ≡ is_due (base_before before.now) (lines_before before.now) (edit_on before.now) line }
@@ -125,14 +125,14 @@ fn is_due(before: &Before<'_, '_>, after: &SymbolRows<'_>, differing: NameSet, l
 fn is_due_by_brief(
     before: &Before<'_, '_>,
     after: &SymbolRows<'_>,
-    differing: NameSet,
+    differing: &NameSet,
     brief: Brief,
     line: u32,
 ) -> bool
     requires before { IsBefore before.now }
     requires rows { AreSymbolRows after.now }
     requires after { IsAfter before.now after.now.text }
-    requires differing { HasDiffering (base_before before.now) (lines_before before.now) (edit_on before.now) differing }
+    requires differing { HasDiffering (base_before before.now) (lines_before before.now) (edit_on before.now) differing.now }
     requires brief { brief ≡ brief_of (statement_at (program_in after.now.text) line) }
     requires first { 1 ≤ line }
     requires last { line ≤ length after.now.text.lines.now }
@@ -149,13 +149,13 @@ fn due_in_column(
     alloc: Global,
     before: &Before<'_, '_>,
     after: &SymbolRows<'_>,
-    differing: NameSet,
+    differing: &NameSet,
     lines: &[Line],
 ) -> Result<Vec<u32>, AllocError>
     requires before { IsBefore before.now }
     requires rows { AreSymbolRows after.now }
     requires after { IsAfter before.now after.now.text }
-    requires differing { HasDiffering (base_before before.now) (lines_before before.now) (edit_on before.now) differing }
+    requires differing { HasDiffering (base_before before.now) (lines_before before.now) (edit_on before.now) differing.now }
     requires column { lines.now ≡ after.now.text.lines.now }
     ensures { IfOk result (λ row. row.items ≡ lines_that (is_due (base_before before.now) (lines_before before.now) (edit_on before.now)) (length after.now.text.lines.now)) }
 {
@@ -174,12 +174,12 @@ fn due_anywhere(
     alloc: Global,
     before: &Before<'_, '_>,
     after: &SymbolRows<'_>,
-    differing: NameSet,
+    differing: &NameSet,
 ) -> Result<Vec<u32>, AllocError>
     requires before { IsBefore before.now }
     requires rows { AreSymbolRows after.now }
     requires after { IsAfter before.now after.now.text }
-    requires differing { HasDiffering (base_before before.now) (lines_before before.now) (edit_on before.now) differing }
+    requires differing { HasDiffering (base_before before.now) (lines_before before.now) (edit_on before.now) differing.now }
     ensures { IfOk result (λ row. row.items ≡ lines_that (is_due (base_before before.now) (lines_before before.now) (edit_on before.now)) (length after.now.text.lines.now)) }
 {
     let mut row = Vec::new(alloc);
@@ -203,9 +203,9 @@ pub fn due_lines(
     requires after { IsAfter before.now after.now.text }
     ensures { IfOk result (λ row. row.items ≡ lines_that (is_due (base_before before.now) (lines_before before.now) (edit_on before.now)) (length after.now.text.lines.now)) }
 {
-    let differing = differing_names(before, after);
+    let differing = differing_names(alloc, before, after)?;
     match after.text.lines.column() {
-        Some(lines) => due_in_column(alloc, before, after, differing, lines),
-        None => due_anywhere(alloc, before, after, differing),
+        Some(lines) => due_in_column(alloc, before, after, &differing, lines),
+        None => due_anywhere(alloc, before, after, &differing),
     }
 }

@@ -5,6 +5,7 @@ ghost use Rattle.std.specs.Option.{is_some, option_map};
 ghost use Rattle.rv_expr.specs.declared.faults.ValueFault.TheVariants.{NoPartner};
 ghost use Rattle.rv_store.specs.declared.limits.TheConstants.{MAX_LINES};
 ghost use Rattle.rv_store.specs.Before.{IsBefore, IsAfter, base_before, lines_before, edit_on};
+ghost use Rattle.rv_store.specs.Changes.{is_invalidated};
 ghost use Rattle.rv_store.specs.Pairs.{pcrel_high_of, high_by, high_at};
 ghost use Rattle.rv_store.specs.Program.{body_at};
 ghost use Rattle.rv_store.specs.Rows.{AreHighs};
@@ -102,6 +103,19 @@ fn has_pcrel_high(text: &TextRows<'_>, line: u32) -> bool
     text.lines.line(line).brief().pcrel_high
 }
 
+// Whether the edit invalidates a line, by its names one by one.
+fn is_line_invalidated(before: &Before<'_, '_>, after: &SymbolRows<'_>, line: u32) -> bool
+    requires before { IsBefore before.now }
+    requires rows { AreSymbolRows after.now }
+    requires after { IsAfter before.now after.now.text }
+    requires first { 1 ≤ line }
+    requires last { line ≤ length after.now.text.lines.now }
+    ensures { result ≡ is_invalidated (base_before before.now) (lines_before before.now) (edit_on before.now) line }
+{
+    let every = NameSet::every();
+    is_invalidated(before, after, &every, line)
+}
+
 // The high half on a line of the text after an edit: what it was, unless the edit invalidates the line.
 fn high_after<C: Count>(
     before: &Before<'_, '_>,
@@ -125,7 +139,7 @@ fn high_after<C: Count>(
     if !has_pcrel_high(&after.text, line) {
         return Err(ValueFault::NoPartner);
     }
-    if !is_invalidated(before, after, NameSet::all(), line) {
+    if !is_line_invalidated(before, after, line) {
         if let Some(stood) = before.edit.line_before(line) {
             return before.highs[stood as usize - 1];
         }

@@ -56,9 +56,9 @@ impl LinePair<'_> {
 
     // Whether what the line uses gives something else than it gave, or it uses what is not compared. `differing` has each
     // symbol that differs on it: if the line uses none of them, it is not asked for its names one by one.
-    fn differs_in_uses(&self, differing: NameSet) -> bool
+    fn differs_in_uses(&self, differing: &NameSet) -> bool
         requires lines { IsLinePair self.now }
-        requires differing { HasDifferingOn self.now differing }
+        requires differing { HasDifferingOn self.now differing.now }
         ensures { result ≡ differs_in_uses self.now.before.now.text.base (program_before_pair self.now) (program_after_pair self.now) self.now.line self.now.stood (body_at (program_after_pair self.now) self.now.line) }
     {
         let brief = brief_on(&self.after.text, self.line);
@@ -95,14 +95,14 @@ fn has_moved(before: &Before<'_, '_>, after: &SymbolRows<'_>, line: u32) -> bool
 pub fn may_be_invalidated(
     before: &Before<'_, '_>,
     after: &SymbolRows<'_>,
-    differing: NameSet,
+    differing: &NameSet,
     brief: Brief,
     line: u32,
 ) -> bool
     requires before { IsBefore before.now }
     requires rows { AreSymbolRows after.now }
     requires after { IsAfter before.now after.now.text }
-    requires differing { HasDiffering (base_before before.now) (lines_before before.now) (edit_on before.now) differing }
+    requires differing { HasDiffering (base_before before.now) (lines_before before.now) (edit_on before.now) differing.now }
     requires brief { brief ≡ brief_of (statement_at (program_in after.now.text) line) }
     requires first { 1 ≤ line }
     requires last { line ≤ length after.now.text.lines.now }
@@ -118,13 +118,13 @@ pub fn may_be_invalidated(
 pub fn is_invalidated(
     before: &Before<'_, '_>,
     after: &SymbolRows<'_>,
-    differing: NameSet,
+    differing: &NameSet,
     line: u32,
 ) -> bool
     requires before { IsBefore before.now }
     requires rows { AreSymbolRows after.now }
     requires after { IsAfter before.now after.now.text }
-    requires differing { HasDiffering (base_before before.now) (lines_before before.now) (edit_on before.now) differing }
+    requires differing { HasDiffering (base_before before.now) (lines_before before.now) (edit_on before.now) differing.now }
     requires first { 1 ≤ line }
     requires last { line ≤ length after.now.text.lines.now }
     ensures { result ≡ is_invalidated (base_before before.now) (lines_before before.now) (edit_on before.now) line }

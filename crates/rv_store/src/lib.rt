@@ -18,6 +18,7 @@ mod ending;
 mod ends;
 mod equ_values;
 mod extension;
+mod few_names;
 mod highs;
 mod invalidation;
 mod item;

@@ -1,56 +1,81 @@
-//! Small sets of names, which may also have names that were not added.
+//! Sets of names, which may also have names that were not added.
 
-ghost use Rattle.std.specs.Prelude.{◌≡◌, ◌<◌, ℕ, List};
-ghost use Rattle.rv_store.specs.NameSets.{bucket_of, no_names, with_name, meets, Has};
+ghost use Rattle.std.specs.Prelude.{◌≡◌, ◌<◌, ℕ, false, IfOk};
+ghost use Rattle.rv_store.specs.NameSets.{bucket_of, every_name, has_bucket, with_added, IsSized};
 
-/// A set of names, in one word: it has all names of a bucket of which one was added. There are 64 buckets.
-#[derive(Clone, Copy)]
-pub struct NameSet {
-    // A bit for each bucket.
-    buckets: u64,
-}
+use std::alloc::{AllocError, Global};
+use std::marker::Model;
 
-// The bucket of a name. By the factor 37 names that end in other numbers are mostly in other buckets.
-fn bucket_of(mut name: &[u8]) -> u32
+// How many buckets there are.
+const BUCKETS: usize = 4096;
+
+/// The bucket of a name. By the factor 37 names that end in other numbers are mostly in other buckets.
+pub fn bucket_of(mut name: &[u8]) -> u16
     ensures bucket { result ≡ bucket_of name.entry.now }
-    ensures below { result < 64 }
+    ensures below { result < 4096 }
 {
     let mut bucket = 0;
     while let [byte, rest @ ..] = name {
-        bucket = (bucket * 37 + u32::from(*byte)) % 64;
+        bucket = (bucket * 37 + u32::from(*byte)) % 4096;
         name = rest;
     }
-    bucket
+    bucket as u16
+}
+
+/// A set of names: it has all names of a bucket of which one was added. Contracts see a mark for each bucket, or none where the set
+/// has every name.
+#[derive(Drop)]
+pub struct NameSet {
+    marks: Option<Vec<bool>>,
+}
+
+impl Model for NameSet {
+    ghost use Rattle.std.specs.Option.{option_map};
+    ghost use Rattle.rv_store.specs.NameSets.{Marks, IsSized};
+
+    ghost Value = { Marks };
+
+    ghost view = { λ s. option_map (λ m. m.items) s.marks };
+
+    ghost invariant = { λ s. IsSized (option_map (λ m. m.items) s.marks) };
 }
 
 impl NameSet {
     /// The set of no names.
-    pub fn empty() -> NameSet
-        ensures { result ≡ no_names }
+    pub fn empty(alloc: Global) -> Result<NameSet, AllocError>
+        ensures none { IfOk result (λ set. (bucket : ℕ) → has_bucket set bucket ≡ false) }
+        ensures sized { IfOk result IsSized }
     {
-        NameSet { buckets: 0 }
+        let marks = vec![in alloc; false; BUCKETS]?;
+        Ok(NameSet { marks: Some(marks) })
     }
 
-    /// The set of all names.
-    pub fn all() -> NameSet
-        ensures { (name : List ℕ) → Has result name }
+    /// The set of all names, which takes no memory.
+    pub fn every() -> NameSet
+        ensures { result ≡ every_name }
     {
-        NameSet { buckets: u64::MAX }
+        NameSet { marks: None }
     }
 
-    /// The set with a name added.
-    pub fn with(self, name: &[u8]) -> NameSet
-        ensures { result ≡ with_name self name.now }
+    /// Adds a name.
+    pub fn add(&mut self, name: &[u8])
+        ensures added { self.new ≡ with_added self.old name.now }
     {
-        NameSet {
-            buckets: self.buckets | 1u64 << bucket_of(name),
+        if let Some(marks) = &mut self.marks {
+            marks[usize::from(bucket_of(name))] = true;
         }
     }
 
-    /// Whether a name may be in both sets.
-    pub fn meets(self, other: NameSet) -> bool
-        ensures { result ≡ meets self other }
+    /// Whether it has the names of a bucket.
+    pub fn has(&self, bucket: u16) -> bool
+        ensures { result ≡ has_bucket self.now bucket }
     {
-        self.buckets & other.buckets != 0
+        match &self.marks {
+            Some(marks) => match marks.get(usize::from(bucket)) {
+                Some(mark) => *mark,
+                None => false,
+            },
+            None => true,
+        }
     }
 }

@@ -5,13 +5,13 @@ ghost use Rattle.std.specs.List.{list_any};
 ghost use Rattle.std.specs.Option.{option_map};
 ghost use Rattle.rv_stmt.specs.Statement.{statement_of};
 ghost use Rattle.rv_store.specs.Appended.{defines, symbol_of_label, symbol_of_equ, only_symbol, IsApart, IsUnknown, IsAlone};
-ghost use Rattle.rv_store.specs.NameSets.{with_name, no_names};
+ghost use Rattle.rv_store.specs.NameSets.{bucket_of};
 ghost use Rattle.rv_store.specs.Program.{program_of};
 ghost use Rattle.rv_store.specs.Rows.{AreDefinitions};
 ghost use Rattle.rv_store.specs.Uses.{names_used};
 
 use crate::line::Line;
-use crate::name_set::NameSet;
+use crate::name_set::bucket_of;
 use crate::names::{NameTable, entry_of};
 use crate::uses::{NameTest, any_name, is_equ};
 use rv_list::DefinitionPlace;
@@ -65,23 +65,22 @@ impl NameTest for OneName<'_> {
     }
 }
 
-// Whether a line uses a symbol. `set` is the set of this symbol alone: lines that use none of its bucket are gone past without
-// a look at their statements.
-fn uses(line: &Line, set: NameSet, symbol: &OneName<'_>) -> bool
-    requires { set ≡ with_name no_names symbol.now.name.now }
+// Whether a line uses a symbol of this bucket. Lines that use none of the bucket are gone past without a look at their statements.
+fn uses(line: &Line, bucket: u16, symbol: &OneName<'_>) -> bool
+    requires { bucket ≡ bucket_of symbol.now.name.now }
     ensures { result ≡ list_any (bytes_eq symbol.now.name.now) (names_used (statement_of line.now).body) }
 {
-    line.brief().names.meets(set) && any_name(&line.stmt().body, symbol)
+    line.brief().names.may_have(bucket) && any_name(&line.stmt().body, symbol)
 }
 
 // Whether one of the lines uses a symbol.
 fn any_uses(mut lines: &[Line], name: &[u8]) -> bool
     ensures { result ≡ list_any (λ l. list_any (bytes_eq name.now) (names_used (statement_of l).body)) lines.entry.now }
 {
-    let set = NameSet::empty().with(name);
+    let bucket = bucket_of(name);
     let symbol = OneName { name };
     while let [line, rest @ ..] = lines {
-        if uses(line, set, &symbol) {
+        if uses(line, bucket, &symbol) {
             return true;
         }
         lines = rest;

@@ -1,7 +1,6 @@
 use Rattle.std.proofs.Common.{ap, sym, subst, ◌∙◌}
 use Rattle.rv_stmt.specs.Statement.{statement_of}
 use Rattle.rv_store.specs.Alike.{room_of, DefinesSame}
-use Rattle.rv_store.proofs.Sameness.{same_shape-Decides}
 use Rattle.rv_store.proofs.alike.alike_shape.Goals as goal
 
 pub returns-clause-alike : goal.returns-clause-alike

@@ -11,7 +11,7 @@ use Rattle.rv_store.specs.TextRows.{program_in}
 use Rattle.rv_store.proofs.HighLaws.{high-kept, length_of_highs, high_of_line, no-high, high-counted}
 use Rattle.rv_store.proofs.LinePairLaws.{stood-before, body-before, invalidated-by_uses, invalidated-new}
 use Rattle.rv_store.proofs.highs.high_after.Goals as goal
-use Rattle.rv_store.proofs.highs.high_after.Goals.{then-not-is_invalidated+in_default, else-not-is_invalidated}
+use Rattle.rv_store.proofs.highs.high_after.Goals.{then-not-is_line_invalidated+in_default, else-not-is_line_invalidated}
 
 pub returns-then-not-has_pcrel_high-clause-value : goal.returns-then-not-has_pcrel_high-clause-value
 returns-then-not-has_pcrel_high-clause-value g c =
@@ -36,7 +36,7 @@ returns-in-Some-clause-value g c =
     let stands : line_before_edit (edit_on before) line ≡ Some stood = sym c.line_before.ensures ∙ c.in-Some.is in
     let there = stood-before before after line stood c.requires.before c.requires.after c.requires.first c.requires.last stands in
     let body = body-before before after line stood c.requires.before c.requires.after c.requires.first c.requires.last stands in
-    let uses = sym (invalidated-by_uses before after line stood c.requires.before c.requires.after c.requires.first c.requires.last stands) ∙ sym c.is_invalidated.ensures ∙ c.if-not-is_invalidated.true in
+    let uses = sym (invalidated-by_uses before after line stood c.requires.before c.requires.after c.requires.first c.requires.last stands) ∙ sym c.is_line_invalidated.ensures ∙ c.if-not-is_line_invalidated.true in
     high_of_line (base_before before) (lines_before before) before.highs.now stood (Ok (pos 0)) c.requires.before.highs there.first there.last
     ∙ sym (high-kept (base_before before) (program_in before.symbols.text) (program_in after) line stood body uses)
     ∙ ap (λ base. high_at base (program_in after) line) (sym c.requires.after.base)
@@ -45,9 +45,9 @@ pub returns-clause-most : goal.returns-clause-most
 returns-clause-most g c =
     let before = c.args.before.now in
     let invalidated : is_invalidated (base_before before) (lines_before before) (edit_on before) c.args.line ≡ true =
-    elim c.if-not-is_invalidated.branch [
-      | then-not-is_invalidated+in_default w ↦ invalidated-new (base_before before) (lines_before before) (edit_on before) c.args.line (sym w.line_before.ensures ∙ w.in_default.is)
-      | else-not-is_invalidated w ↦ sym c.is_invalidated.ensures ∙ w.if-not-is_invalidated.false
+    elim c.if-not-is_line_invalidated.branch [
+      | then-not-is_line_invalidated+in_default w ↦ invalidated-new (base_before before) (lines_before before) (edit_on before) c.args.line (sym w.line_before.ensures ∙ w.in_default.is)
+      | else-not-is_line_invalidated w ↦ sym c.is_line_invalidated.ensures ∙ w.if-not-is_line_invalidated.false
     ] in
     let high : is_some (pcrel_high_of (body_at (program_in c.args.after.now.text) c.args.line)) ≡ true = sym c.has_pcrel_high.ensures ∙ c.if-not-has_pcrel_high.false in
     let one = high-counted before c.args.after.now.text c.args.line c.requires.after c.requires.first high invalidated in

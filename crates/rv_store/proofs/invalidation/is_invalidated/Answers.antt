@@ -32,7 +32,7 @@ differs_in_uses-requires-clause-differing c =
     let before = c.args.before.now in
     let stood = c.in-Some.stood in
     let stands : line_before_edit (edit_on before) c.args.line ≡ Some stood = sym c.line_before.ensures ∙ c.in-Some.is in
-    differing-on before c.args.after.now.text c.args.line stood c.requires.before c.requires.after c.requires.first c.requires.last stands c.args.differing c.requires.differing
+    differing-on before c.args.after.now.text c.args.line stood c.requires.before c.requires.after c.requires.first c.requires.last stands c.args.differing.now c.requires.differing
 
 pub returns : goal.returns
 returns c =

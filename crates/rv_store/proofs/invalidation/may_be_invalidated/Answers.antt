@@ -9,7 +9,7 @@ pub returns-then-brief-2 : goal.returns-then-brief-2
 returns-then-brief-2 c = λ unmoved.
     let before = c.args.before.now in
     let after = c.args.after.now.text in
-    valid-by_brief before after c.args.line c.requires.before c.requires.after c.requires.first c.requires.last c.args.differing c.requires.differing c.args.brief c.requires.brief
+    valid-by_brief before after c.args.line c.requires.before c.requires.after c.requires.first c.requires.last c.args.differing.now c.requires.differing c.args.brief c.requires.brief
     (λ new. c.if-line-place.false (c.place.ensures.only c.args.line new)) c.if-brief.false (sym c.meets.ensures ∙ c.if-meets.false)
     (λ stood stands. ap (λ used. used && differs_in_place (base_before before) (program_in before.symbols.text) (program_in after) c.args.line stood) c.if-brief-2.true ∙ c.has_moved.ensures unmoved stood stands)
 
@@ -17,6 +17,6 @@ pub returns-else-brief-2 : goal.returns-else-brief-2
 returns-else-brief-2 c = λ placeless.
     let before = c.args.before.now in
     let after = c.args.after.now.text in
-    valid-by_brief before after c.args.line c.requires.before c.requires.after c.requires.first c.requires.last c.args.differing c.requires.differing c.args.brief c.requires.brief
+    valid-by_brief before after c.args.line c.requires.before c.requires.after c.requires.first c.requires.last c.args.differing.now c.requires.differing c.args.brief c.requires.brief
     (λ new. c.if-line-place.false (c.place.ensures.only c.args.line new)) c.if-brief.false (sym c.meets.ensures ∙ c.if-meets.false)
     (λ stood stands. ap (λ used. used && differs_in_place (base_before before) (program_in before.symbols.text) (program_in after) c.args.line stood) placeless)

@@ -1,23 +1,24 @@
-use Rattle.std.proofs.Common.{◌≡◌, false, bytes_eq, ap, sym, ◌∙◌, ◌⊎◌, inl, inr, refl, subst, ℕ, List, Bool, true}
+use Rattle.std.proofs.Common.{◌≡◌, ◌==◌, false, bytes_eq, ap, sym, ◌∙◌, ◌⊎◌, inl, inr, refl, ℕ, List, Bool, true}
+use Rattle.std.proofs.lemmas.Bool.{eq-eqb}
 use Rattle.std.proofs.lemmas.Slice.Eq.{bytes_eq-Decides}
 use Rattle.rv_stmt.specs.Statement.{statement_of}
-use Rattle.rv_store.specs.NameSets.{Has, with_name, no_names, set_of, meets}
+use Rattle.rv_store.specs.NameSets.{bucket_of, few_of, meets_by}
 use Rattle.rv_store.specs.Uses.{names_used}
-use Rattle.rv_store.proofs.NameSets.{has-added, none-passes}
+use Rattle.rv_store.proofs.NameSets.{none-passes}
 use Rattle.rv_store.proofs.only_symbol.uses.Goals as goal
 
--- a set of one name has each name that is the same
-has-same : (symbol name : List ℕ) → Has (with_name no_names symbol) name ⊎ (bytes_eq symbol name ≡ false)
-has-same symbol name = at (bytes_eq symbol name) refl
+-- only names of its own bucket are the symbol
+same-bucket : (symbol name : List ℕ) → ((bucket_of name == bucket_of symbol) ≡ true) ⊎ (bytes_eq symbol name ≡ false)
+same-bucket symbol name = at (bytes_eq symbol name) refl
   where
-    at : (b : Bool) → bytes_eq symbol name ≡ b → Has (with_name no_names symbol) name ⊎ (bytes_eq symbol name ≡ false)
-    at true e = inl (subst (Has (with_name no_names symbol)) ((bytes_eq-Decides symbol name).0 e) (has-added no_names symbol))
+    at : (b : Bool) → bytes_eq symbol name ≡ b → ((bucket_of name == bucket_of symbol) ≡ true) ⊎ (bytes_eq symbol name ≡ false)
+    at true e = inl (eq-eqb (bucket_of name) (bucket_of symbol) (ap bucket_of (sym ((bytes_eq-Decides symbol name).0 e))))
     at false e = inr e
 
-pub returns-else-meets : goal.returns-else-meets
-returns-else-meets c =
+pub returns-else-may_have : goal.returns-else-may_have
+returns-else-may_have c =
     let symbol = c.args.symbol.now.name.now in
     let names = names_used (statement_of c.args.line.now).body in
-    let apart : meets (set_of names) (with_name no_names symbol) ≡ false =
-    (λ j. meets (set_of names) (sym c.requires j)) ∙ sym (ap (λ b. meets b.names c.args.set) c.brief.ensures) ∙ sym c.meets.ensures ∙ c.if-meets.false in
-    c.if-meets.false ∙ sym (none-passes (bytes_eq symbol) (with_name no_names symbol) (has-same symbol) names apart)
+    let apart : meets_by (λ b. b == bucket_of symbol) (few_of names) ≡ false =
+    (λ j. meets_by (λ b. b == sym c.requires j) (few_of names)) ∙ sym (ap (λ b. meets_by (λ n. n == c.args.bucket) b.names) c.brief.ensures) ∙ sym c.may_have.ensures ∙ c.if-may_have.false in
+    c.if-may_have.false ∙ sym (none-passes (λ b. b == bucket_of symbol) (bytes_eq symbol) (same-bucket symbol) names apart)

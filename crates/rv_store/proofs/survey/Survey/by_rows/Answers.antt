@@ -1,4 +1,4 @@
-use Rattle.std.proofs.Common.{◌∙◌, sym}
+use Rattle.std.proofs.Common.{◌∙◌}
 use Rattle.rv_store.specs.Before.{base_before}
 use Rattle.rv_store.specs.Program.{program_of}
 use Rattle.rv_store.proofs.Programs.{length-program}
