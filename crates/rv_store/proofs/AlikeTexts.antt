@@ -20,8 +20,9 @@ use Rattle.rv_store.specs.Constants.{constant_of}
 use Rattle.rv_store.specs.Edits.{line_before_edit}
 use Rattle.rv_store.specs.Items.{IsItem, AreItems}
 use Rattle.rv_store.specs.Layout.{shape_at, shapes_of}
+use Rattle.rv_store.specs.Pairs.{high_at, paired_high_of}
 use Rattle.rv_store.specs.Program.{Program, program_of, body_at, for_lines, lines_that}
-use Rattle.rv_store.specs.Rows.{AreDefinitions, AreConstants, AreEquValues, AreShapes, ArePlaces, AreHighs, ArePairedHighs, AreLocals}
+use Rattle.rv_store.specs.Rows.{AreDefinitions, AreConstants, AreEquValues, AreShapes, ArePlaces, HoldHighs, AreHighs, ArePairedHighs, AreLocals}
 use Rattle.rv_store.specs.Surveys.{IsSurvey}
 use Rattle.rv_store.specs.Text.{Replace, lines_after}
 use Rattle.rv_store.specs.Uses.{is_sized}
@@ -198,8 +199,12 @@ module _ (base : ℕ) (lines : List (List ℕ)) (k : ℕ) (line : List ℕ) (fir
         places = is.places ∙ sym (λ j. for_lines (place-same p k t first last' alike base j) (count j));
         locals = λ number. is.locals number ∙ sym (λ j. lines_that (has_local-same p k t first last' alike number j) (count j));
         equ_values = record { each = is.equ_values.each ∙ sym (λ j. equ_values-same p k t first last' alike base (count j) j); within = is.equ_values.within };
-        highs = is.highs ∙ sym (λ j. for_lines (highs-same p k t first last' alike base j) (count j));
-        paired_highs = is.paired_highs ∙ sym (λ j. for_lines (paired_highs-same p k t first last' alike base j) (count j));
+        highs =
+            subst (λ n. HoldHighs (high_at base (put p k t first last' alike)) n s.highs.items) (sym count)
+            (subst (λ high. HoldHighs high (length p) s.highs.items) (sym (highs-same p k t first last' alike base)) is.highs);
+        paired_highs =
+            subst (λ n. HoldHighs (paired_high_of base (put p k t first last' alike)) n s.paired_highs.items) (sym count)
+            (subst (λ high. HoldHighs high (length p) s.paired_highs.items) (sym (paired_highs-same p k t first last' alike base)) is.paired_highs);
       })
 
   -- and the items of the other lines

@@ -1,8 +1,8 @@
 -- What is kept of a text where a line is put at its end that no other line has to do with, and what such an edit may take.
-use Rattle.std.proofs.Common.{◌≡◌, ℕ, zero, suc, ◌+◌, ◌-◌, ◌≤◌, Bool, true, false, ◌==◌, nat_lt, List, [], ◌∷◌, ◌++◌, length, insert, take, get_or, Some, None, Result, Ok, Err, if◌then◌else◌, arith, ap, sym, subst, ◌∙◌, refl}
+use Rattle.std.proofs.Common.{◌≡◌, ℕ, zero, suc, ◌+◌, ◌-◌, ◌<◌, ◌≤◌, ◌⊎◌, inl, inr, Bool, true, false, ◌==◌, nat_lt, List, [], ◌∷◌, ◌++◌, length, insert, take, get_or, Some, None, Result, Ok, Err, if◌then◌else◌, arith, ap, sym, subst, ◌∙◌, refl}
 use Rattle.std.specs.Result.{OnErr}
-use Rattle.std.proofs.lemmas.Bool.{lt-ltb, le-ltb, eq-eqb, not_from_true}
-use Rattle.std.proofs.lemmas.List.{map-append, length-append, append-nil, take_all}
+use Rattle.std.proofs.lemmas.Bool.{cases_lt, lt-ltb, le-ltb, eq-eqb, not_from_true}
+use Rattle.std.proofs.lemmas.List.{map-append, length-append, append-nil, take_all, get_or_past}
 use Rattle.std.proofs.lemmas.List.Edits.{insert_end}
 use Rattle.std.proofs.Math.Seq.{take-append_seam}
 use Rattle.rv_expr.specs.declared.faults.ValueFault.TheVariants.{NoPartner}
@@ -10,6 +10,7 @@ use Rattle.rv_stmt.specs.declared.statement.Stmt.{Stmt}
 use Rattle.rv_stmt.specs.Statement.{statement_of}
 use Rattle.rv_layout.specs.Effects.{layout_of}
 use Rattle.rv_layout.specs.Places.{AreLimited}
+use Rattle.rv_fix.specs.Values.{Entry}
 use Rattle.rv_store.specs.declared.ending.Ending.{Ending}
 use Rattle.rv_store.specs.declared.item.Item.{Item}
 use Rattle.rv_store.specs.declared.survey.Survey.{Survey}
@@ -22,7 +23,7 @@ use Rattle.rv_store.specs.Layout.{shape_at, place_at}
 use Rattle.rv_store.specs.Pairs.{high_at, paired_high_of}
 use Rattle.rv_store.specs.Program.{Program, program_of, body_at, for_lines, lines_that}
 use Rattle.rv_store.specs.References.{has_local, equ_value}
-use Rattle.rv_store.specs.Rows.{AreDefinitions, AreConstants, AreEquValues, ArePlaces, AreLocals}
+use Rattle.rv_store.specs.Rows.{AreDefinitions, AreConstants, AreEquValues, ArePlaces, HoldHighs, AreHighs, ArePairedHighs, AreLocals}
 use Rattle.rv_store.specs.Surveys.{IsSurvey}
 use Rattle.rv_store.specs.Text.{Insert, lines_after}
 use Rattle.rv_store.specs.Work.{survey_operands, value_operands}
@@ -48,6 +49,19 @@ last_that : (test : ℕ → Bool) (n : ℕ) → ((i : ℕ) → 1 ≤ i → i ≤
 last_that test n none here =
     let earlier = none_that test n none in λ j. earlier j ++ (if here j then suc n ∷ [] else [])
 
+-- a line more at the end that has no high half
+holds-more : (high high' : ℕ → Entry) (n : ℕ) (row : List Entry) → HoldHighs high n row → ((i : ℕ) → 1 ≤ i → i ≤ n → high' i ≡ high i) → high' (suc n) ≡ Err NoPartner → HoldHighs high' (suc n) row
+holds-more high high' n row are same last = record {
+  each = λ k below. at k below (cases_lt k n);
+  within = omega (arith, are.within);
+}
+  where
+    at : (k : ℕ) → k < suc n → (k < n) ⊎ (n ≤ k) → get_or row k (Err NoPartner) ≡ high' (suc k)
+    at k below (inl earlier) = are.each k earlier ∙ sym (same (suc k) (omega arith) (omega (arith, earlier)))
+    at k below (inr end) =
+        let here : k ≡ n = omega (arith, below, end) in
+        get_or_past row k (Err NoPartner) (omega (arith, end, are.within)) ∙ sym (ap (λ m. high' (suc m)) here ∙ last)
+
 -- whatever the error
 pub in_any_error : {X E Q : Type 0} (r : Result X E) → Q → OnErr r Q
 in_any_error (Ok x) q = tt
@@ -62,13 +76,6 @@ module _ (base : ℕ) (lines : List (List ℕ)) (names : List (List ℕ)) (s : S
   pub count-places : length s.places.items ≡ length lines
   count-places = ap length are.places ∙ length-for_lines (place_at base (program_of lines)) (length (program_of lines)) ∙ length-program lines
 
-  pub count-highs : length s.highs.items ≡ length lines
-  count-highs = ap length are.highs ∙ length-for_lines (high_at base (program_of lines)) (length (program_of lines)) ∙ length-program lines
-
-  pub count-paired_highs : length s.paired_highs.items ≡ length lines
-  count-paired_highs =
-      ap length are.paired_highs ∙ length-for_lines (paired_high_of base (program_of lines)) (length (program_of lines)) ∙ length-program lines
-
   all-of : {A : Type 0} (xs : List A) → length xs ≡ length lines → take (length lines) xs ≡ xs
   all-of xs e = take_all (length lines) xs (omega (arith, e))
 
@@ -78,8 +85,8 @@ module _ (base : ℕ) (lines : List (List ℕ)) (names : List (List ℕ)) (s : S
     shapes = all-of s.shapes.items count-shapes;
     places = all-of s.places.items count-places;
     locals = refl;
-    highs = all-of s.highs.items count-highs;
-    paired_highs = all-of s.paired_highs.items count-paired_highs;
+    highs = refl;
+    paired_highs = refl;
   }
 
   first-of : {A : Type 0} (xs ys : List A) (x : A) → length xs ≡ length lines → ys ≡ xs ++ x ∷ [] → take (length lines) ys ≡ xs
@@ -91,8 +98,8 @@ module _ (base : ℕ) (lines : List (List ℕ)) (names : List (List ℕ)) (s : S
     shapes = first-of s.shapes.items new.shapes.items end.shape count-shapes extended.shapes;
     places = first-of s.places.items new.places.items end.place count-places extended.places;
     locals = extended.locals;
-    highs = first-of s.highs.items new.highs.items (Err NoPartner) count-highs extended.highs;
-    paired_highs = first-of s.paired_highs.items new.paired_highs.items (Err NoPartner) count-paired_highs extended.paired_highs;
+    highs = extended.highs;
+    paired_highs = extended.paired_highs;
   }
 
 -- where the rows by lines change no more, they begin as before
@@ -102,8 +109,8 @@ begins-still count old middle new begin same = record {
   shapes = ap (take count) same.shapes ∙ begin.shapes;
   places = ap (take count) same.places ∙ begin.places;
   locals = same.locals ∙ begin.locals;
-  highs = ap (take count) same.highs ∙ begin.highs;
-  paired_highs = ap (take count) same.paired_highs ∙ begin.paired_highs;
+  highs = same.highs ∙ begin.highs;
+  paired_highs = same.paired_highs ∙ begin.paired_highs;
 }
 
 -- rows by lines that are the old ones, and rows by names that hold the same
@@ -121,8 +128,8 @@ survey-back base lines names names' old new are same symbols =
       places = same.places ∙ are.places;
       locals = λ number. (λ j. get_or (same.locals j) number []) ∙ are.locals number;
       equ_values = equ_values;
-      highs = same.highs ∙ are.highs;
-      paired_highs = same.paired_highs ∙ are.paired_highs;
+      highs = subst (AreHighs base (program_of lines)) (sym same.highs) are.highs;
+      paired_highs = subst (ArePairedHighs base (program_of lines)) (sym same.paired_highs) are.paired_highs;
     }
 
 -- what a survey holds by names
@@ -227,17 +234,13 @@ module _ (base : ℕ) (lines : List (List ℕ)) (line : List ℕ) (end : Ending)
           locals = λ number. (λ j. get_or (same.locals j) number []) ∙ locals-more number;
           equ_values = symbols'.equ_values;
           highs =
-              same.highs
-              ∙ extended.highs
-              ∙ (λ j. are.highs j ++ sym (high-last p s is.apart base stay) j ∷ [])
-              ∙ ap (λ row. row ++ high_at base (more p s) (suc (length p)) ∷ []) (sym (for_lines-same (high_at base (more p s)) (high_at base p) (length p) (high-same p s is.apart base stay)))
-              ∙ ap (for_lines (high_at base (more p s))) (sym n);
+              subst (AreHighs base (more p s)) (sym (same.highs ∙ extended.highs))
+              (subst (λ m. HoldHighs (high_at base (more p s)) m old.highs.items) (sym n)
+              (holds-more (high_at base p) (high_at base (more p s)) (length p) old.highs.items are.highs (high-same p s is.apart base stay) (high-last p s is.apart base stay)));
           paired_highs =
-              same.paired_highs
-              ∙ extended.paired_highs
-              ∙ (λ j. are.paired_highs j ++ sym (paired_high-last p s is.apart base stay) j ∷ [])
-              ∙ ap (λ row. row ++ paired_high_of base (more p s) (suc (length p)) ∷ []) (sym (for_lines-same (paired_high_of base (more p s)) (paired_high_of base p) (length p) (paired_high-same p s is.apart base stay)))
-              ∙ ap (for_lines (paired_high_of base (more p s))) (sym n);
+              subst (ArePairedHighs base (more p s)) (sym (same.paired_highs ∙ extended.paired_highs))
+              (subst (λ m. HoldHighs (paired_high_of base (more p s)) m old.paired_highs.items) (sym n)
+              (holds-more (paired_high_of base p) (paired_high_of base (more p s)) (length p) old.paired_highs.items are.paired_highs (paired_high-same p s is.apart base stay) (paired_high-last p s is.apart base stay)));
         }
 
     pub survey-extended : (names' : List (List ℕ)) (settled : Survey) → AreSameLines new settled → AreSymbols base (program_of after) (length after) names' settled → IsSurvey base (program_of after) names' settled

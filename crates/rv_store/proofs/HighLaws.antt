@@ -29,7 +29,7 @@ use Rattle.rv_store.specs.TextRows.{program_in}
 use Rattle.rv_store.specs.Uses.{names_in, has_local_label, expression_of, is_pcrel_high, is_relative, has_here, operand_uses_address}
 use Rattle.rv_store.specs.Work.{one_if_some, high_operands, work}
 use Rattle.rv_store.proofs.KeptLines.{UsesSame, same_name, uses-same}
-use Rattle.rv_store.proofs.Programs.{at-for_lines, length-for_lines, length-program}
+use Rattle.rv_store.proofs.Programs.{length-program}
 use Rattle.rv_store.proofs.UsedValues.{value-follows}
 use Rattle.rv_store.proofs.WorkLaws.{work-invalidated}
 
@@ -83,13 +83,8 @@ high-counted before after line is_after first some invalidated =
 
 -- The row of high halves
 
-pub length_of_highs : (base : ℕ) (lines : List (List ℕ)) (row : List Entry) → AreHighs base (program_of lines) row → length row ≡ length lines
-length_of_highs base lines row are =
-    ap length are ∙ length-for_lines (high_at base (program_of lines)) (length (program_of lines)) ∙ length-program lines
-
-pub high_of_line : (base : ℕ) (lines : List (List ℕ)) (row : List Entry) (i : ℕ) (other : Entry) → AreHighs base (program_of lines) row → 1 ≤ i → i ≤ length lines → get_or row (i - 1) other ≡ high_at base (program_of lines) i
-high_of_line base lines row i other are first last =
+pub high_of_line : (base : ℕ) (lines : List (List ℕ)) (row : List Entry) (i : ℕ) → AreHighs base (program_of lines) row → 1 ≤ i → i ≤ length lines → get_or row (i - 1) (Err NoPartner) ≡ high_at base (program_of lines) i
+high_of_line base lines row i are first last =
     let within : i - 1 < length (program_of lines) = omega (arith, first, last, length-program lines) in
     let next : suc (i - 1) ≡ i = omega (arith, first) in
-    ap (λ r. get_or r (i - 1) other) are ∙ at-for_lines (high_at base (program_of lines)) (length (program_of lines)) (i - 1) other within
-    ∙ ap (high_at base (program_of lines)) next
+    are.each (i - 1) within ∙ ap (high_at base (program_of lines)) next

@@ -1,17 +1,15 @@
 -- The row of high halves, which holds those of the first lines, and nothing for the lines after them.
 use Rattle.std.proofs.Common.{◌≡◌, ℕ, zero, suc, ◌+◌, ◌<◌, ◌≤◌, ◌⊎◌, inl, inr, List, length, get_or, set, replicate, is_some, Err, arith, ap, sym, ◌∙◌, refl, get_or-set_same, get_or-set_other}
 use Rattle.std.proofs.lemmas.Bool.{cases_lt}
-use Rattle.std.proofs.lemmas.List.{ext_get_or}
 use Rattle.rv_expr.specs.declared.faults.ValueFault.TheVariants.{NoPartner}
 use Rattle.rv_fix.specs.Values.{Entry}
 use Rattle.rv_store.specs.Layout.{address_at}
 use Rattle.rv_store.specs.LinesWithout.{AreWithout}
 use Rattle.rv_store.specs.Pairs.{pcrel_high_of, high_at}
-use Rattle.rv_store.specs.Program.{Program, body_at, for_lines}
+use Rattle.rv_store.specs.Program.{Program, body_at}
 use Rattle.rv_store.specs.References.{references_at}
 use Rattle.rv_store.specs.Rows.{AreHighs}
 use Rattle.rv_store.proofs.HighLaws.{no-high}
-use Rattle.rv_store.proofs.Programs.{length-for_lines, at-for_lines}
 
 pub none_at : (n k : ℕ) (none : Entry) → get_or (replicate n none) k none ≡ none
 none_at zero k none = refl
@@ -57,9 +55,5 @@ module _ (base : ℕ) (program : Program) where
           ∙ ap (λ n. high_at base program (suc n)) (sym same)
 
   -- through the last line
-  pub highs-all : (row : List Entry) → length row ≡ length program → AreHighsThrough (length program) row → AreHighs base program row
-  highs-all row many are =
-      ext_get_or (Err NoPartner) row (for_lines (high_at base program) (length program)) (many ∙ sym (length-for_lines (high_at base program) (length program)))
-      (λ k below.
-      let within : k < length program = omega (arith, below, many) in
-      are.done k within ∙ sym (at-for_lines (high_at base program) (length program) k (Err NoPartner) within))
+  pub highs-all : (row : List Entry) → length row ≤ length program → AreHighsThrough (length program) row → AreHighs base program row
+  highs-all row many are = record { each = are.done; within = many }

@@ -17,7 +17,7 @@ use Rattle.rv_list.specs.declared.view.LinePlace.{LinePlace}
 use Rattle.rv_store.specs.declared.text_rows.TextRows.{TextRows}
 use Rattle.rv_store.specs.Definitions.{definition_of}
 use Rattle.rv_store.specs.Layout.{address_at, place_at}
-use Rattle.rv_store.specs.LineNames.{address_of_found, paired_high_in, label_line_in, names_by, rows_for}
+use Rattle.rv_store.specs.LineNames.{address_of_found, high_in, label_line_in, names_by, rows_for}
 use Rattle.rv_store.specs.Locals.{local_line_in}
 use Rattle.rv_store.specs.Pairs.{paired_high_of}
 use Rattle.rv_store.specs.Program.{Program, for_lines, last_line, first_line}
@@ -40,10 +40,10 @@ address_in-is base program places line are first last =
     ap (λ row. (get_or row (line - 1) no_place).address) are
     ∙ ap (λ place. place.address) (at-line (place_at base program) (length program) line no_place first last)
 
-paired_high_in-is : (base : ℕ) (program : Program) (row : List Entry) (line : ℕ) → ArePairedHighs base program row → 1 ≤ line → line ≤ length program → paired_high_in row line ≡ paired_high_of base program line
-paired_high_in-is base program row line are first last =
-    ap (λ r. get_or r (line - 1) (Err NoPartner)) are
-    ∙ at-line (paired_high_of base program) (length program) line (Err NoPartner) first last
+high_in-is : (base : ℕ) (program : Program) (row : List Entry) (line : ℕ) → ArePairedHighs base program row → 1 ≤ line → line ≤ length program → high_in row line ≡ paired_high_of base program line
+high_in-is base program row line are first last =
+    are.each (line - 1) (omega (arith, first, last))
+    ∙ ap (paired_high_of base program) (let e : suc (line - 1) ≡ line = omega (arith, first) in e)
 
 -- Local labels are on lines of the text
 
@@ -134,7 +134,7 @@ local_by-rows text line number direction are last =
 
 -- what names give by the rows of a text, where the `.equ`s of the first lines may be used and the row of their values has
 -- these
-pub names_by-rows : (text : TextRows) (row highs : List Entry) (k line usable : ℕ) (high : ℕ → Entry) → AreTextRows text → AreEquValuesIn text k row → usable ≤ k → line ≤ length (program_in text) → 1 ≤ line → ((l : ℕ) → 1 ≤ l → l ≤ length (program_in text) → paired_high_in highs l ≡ high l) → names_by (rows_for text row highs line usable) (address_in_text text line) ≡ names_on text.base (program_in text) line (symbol_through text.base (program_in text) usable) high
+pub names_by-rows : (text : TextRows) (row highs : List Entry) (k line usable : ℕ) (high : ℕ → Entry) → AreTextRows text → AreEquValuesIn text k row → usable ≤ k → line ≤ length (program_in text) → 1 ≤ line → ((l : ℕ) → 1 ≤ l → l ≤ length (program_in text) → high_in highs l ≡ high l) → names_by (rows_for text row highs line usable) (address_in_text text line) ≡ names_on text.base (program_in text) line (symbol_through text.base (program_in text) usable) high
 names_by-rows text row highs k line usable high are values less last first same =
     let program : Program = program_in text in
     same_names _ _ _ _ _ _ _ _
@@ -144,8 +144,8 @@ names_by-rows text row highs k line usable high are values less last first same 
     (fun_ext (λ number. fun_ext (λ direction. local_by-rows text line number direction are last)))
     refl
     (fun_ext (λ label.
-    ap (λ found. and_then found (paired_high_in highs)) (label_line-same text row highs line usable label are last)
-    ∙ high-by (label_line program line label) (paired_high_in highs) high
+    ap (λ found. and_then found (high_in highs)) (label_line-same text row highs line usable label are last)
+    ∙ high-by (label_line program line label) (high_in highs) high
     (λ l e. let within = label_line-within program line label l last e in same l within.0 within.1)))
 
 -- where there are no pairs
@@ -156,4 +156,4 @@ references_by-rows text row k line usable are values less last first =
 pub names_by-pairs : (text : TextRows) (row highs : List Entry) (k line usable : ℕ) → AreTextRows text → AreEquValuesIn text k row → ArePairedHighsIn text highs → usable ≤ k → line ≤ length (program_in text) → 1 ≤ line → names_by (rows_for text row highs line usable) (address_in_text text line) ≡ names_on text.base (program_in text) line (symbol_through text.base (program_in text) usable) (paired_high_of text.base (program_in text))
 names_by-pairs text row highs k line usable are values paired less last first =
     names_by-rows text row highs k line usable (paired_high_of text.base (program_in text)) are values less last first
-    (λ l a b. paired_high_in-is text.base (program_in text) highs l paired a b)
+    (λ l a b. high_in-is text.base (program_in text) highs l paired a b)

@@ -1,20 +1,19 @@
 -- What `%pcrel_lo` of the labels of a text takes, one high half after another.
-use Rattle.std.proofs.Common.{◌≡◌, ◌≢◌, ℕ, zero, suc, ◌+◌, ◌-◌, ◌<◌, ◌≤◌, ◌==◌, ◌⊎◌, inl, inr, Bool, true, false, not, ◌&&◌, if◌then◌else◌, true≢false, List, length, get_or, set, replicate, is_some, Some, None, Err, arith, ap, sym, ◌∙◌, refl, subst, get_or-set_same, get_or-set_other}
+use Rattle.std.proofs.Common.{◌≡◌, ◌≢◌, ℕ, zero, suc, ◌+◌, ◌-◌, ◌<◌, ◌≤◌, ◌==◌, ◌⊎◌, inl, inr, Bool, true, false, not, ◌&&◌, if◌then◌else◌, true≢false, List, [], length, get_or, set, replicate, is_some, Some, None, Err, arith, ap, sym, ◌∙◌, refl, subst, get_or-set_same, get_or-set_other}
 use Rattle.std.proofs.lemmas.Bool.{cases_lt, cases_eq, eq-eqb, ne_eqb}
-use Rattle.std.proofs.lemmas.List.{ext_get_or, length-set, length-replicate}
+use Rattle.std.proofs.lemmas.List.{length-set, length-replicate}
 use Rattle.rv_expr.specs.declared.faults.ValueFault.TheVariants.{NoPartner}
 use Rattle.rv_layout.specs.Sections.{section_number}
 use Rattle.rv_fix.specs.Values.{Entry}
 use Rattle.rv_store.specs.Layout.{section_at, size_at, address_at}
 use Rattle.rv_store.specs.LinesWithout.{AreWithout}
 use Rattle.rv_store.specs.PairedHighs.{section_behind, paired_high_through, ArePairedThrough}
-use Rattle.rv_store.specs.Pairs.{pcrel_high_of, high_at, has_bytes_in, high_at_line, next_with_bytes, paired_high_of}
-use Rattle.rv_store.specs.Program.{Program, body_at, for_lines, first_line}
+use Rattle.rv_store.specs.Pairs.{pcrel_high_of, high_at, has_bytes_in, high_at_line, next_with_bytes}
+use Rattle.rv_store.specs.Program.{Program, body_at, first_line}
 use Rattle.rv_store.specs.References.{references_at}
-use Rattle.rv_store.specs.Rows.{ArePairedHighs}
+use Rattle.rv_store.specs.Rows.{AreHighs, ArePairedHighs}
 use Rattle.rv_store.proofs.HighLaws.{no-high}
 use Rattle.rv_store.proofs.HighRows.{none_at}
-use Rattle.rv_store.proofs.Programs.{length-for_lines, at-for_lines}
 
 -- The first line of one line more
 
@@ -168,13 +167,28 @@ module _ (base : ℕ) (program : Program) where
 
   -- through the last line
   pub paired-all : (row : List Entry) → ArePairedThrough base program (length program) row → ArePairedHighs base program row
-  paired-all row are =
-      ext_get_or (Err NoPartner) row (for_lines (paired_high_of base program) (length program)) (are.many ∙ sym (length-for_lines (paired_high_of base program) (length program)))
-      (λ k below.
-      let within : k < length program = omega (arith, below, are.many) in
-      are.each k within
-      ∙ ap (λ n. high_at_line base program (next_with_bytes program (section_behind program k) n)) (let e : k ≡ suc k - 1 = omega arith in e)
-      ∙ sym (at-for_lines (paired_high_of base program) (length program) k (Err NoPartner) within))
+  paired-all row are = record {
+    each = λ k below. are.each k below
+        ∙ ap (λ n. high_at_line base program (next_with_bytes program (section_behind program k) n)) (let e : k ≡ suc k - 1 = omega arith in e);
+    within = omega (arith, are.many);
+  }
+
+  -- no line has a high half
+  none-through : (i : ℕ) (row : List Entry) → ((k : ℕ) → k < i → high_at base program (suc k) ≡ Err NoPartner) → ArePairedThrough base program 0 row → ArePairedThrough base program i row
+  none-through zero row none are = are
+  none-through (suc i) row none are =
+      subst (λ k. ArePairedThrough base program k row) (let e : i + 1 ≡ suc i = omega arith in e)
+      (paired-next i row (none i (omega arith)) (none-through i row (λ k below. none k (omega (arith, below))) are))
+
+  pub paired-nowhere : AreHighs base program [] → ArePairedHighs base program []
+  paired-nowhere highs =
+      let n = length program in
+      let none : (k : ℕ) → k < n → high_at base program (suc k) ≡ Err NoPartner = λ k below. sym (highs.each k below) in
+      let all = paired-all (replicate n (Err NoPartner)) (none-through n (replicate n (Err NoPartner)) none (paired-none n refl)) in
+      record {
+        each = λ k below. sym (none_at n k (Err NoPartner)) ∙ all.each k below;
+        within = omega arith;
+      }
 
   -- A walk back from a line with bytes, the line after line i, that has come to line k
 

@@ -1,8 +1,7 @@
 -- A line at the end of a text. No other line has to do with it where none defines or uses what it defines, and no section
 -- moves by it.
-use Rattle.std.specs.Prelude.{◌≡◌, ℕ, suc, ◌+◌, ◌*◌, ◌<◌, ◌≤◌, Bool, true, false, ◌||◌, List, [], ◌∷◌, ◌++◌, length, take, bytes_eq, Option, Some, None, Err, if◌then◌else◌}
+use Rattle.std.specs.Prelude.{◌≡◌, ℕ, suc, ◌+◌, ◌*◌, ◌<◌, ◌≤◌, Bool, true, false, ◌||◌, List, [], ◌∷◌, ◌++◌, length, take, bytes_eq, Option, Some, None, if◌then◌else◌}
 use Rattle.std.specs.List.{list_any}
-use Rattle.rv_expr.specs.declared.faults.ValueFault.TheVariants.{NoPartner}
 use Rattle.rv_text.specs.Counting.{Counts}
 use Rattle.rv_stmt.specs.declared.label.Label.{Label}
 use Rattle.rv_stmt.specs.declared.label.LabelName.{LabelName}
@@ -137,8 +136,8 @@ pub record AreExtended (line : List ℕ) (end : Ending) (old new : Survey) : Typ
   pub total : new.total ≡ end.total
   pub places : new.places.items ≡ old.places.items ++ end.place ∷ []
   pub locals : new.locals ≡ old.locals
-  pub highs : new.highs.items ≡ old.highs.items ++ Err NoPartner ∷ []
-  pub paired_highs : new.paired_highs.items ≡ old.paired_highs.items ++ Err NoPartner ∷ []
+  pub highs : new.highs.items ≡ old.highs.items
+  pub paired_highs : new.paired_highs.items ≡ old.paired_highs.items
 
 -- the rows of the first lines are the old ones
 pub record BeginAs (count : ℕ) (old new : Survey) : Type 0 where
@@ -146,8 +145,8 @@ pub record BeginAs (count : ℕ) (old new : Survey) : Type 0 where
   pub shapes : take count new.shapes.items ≡ old.shapes.items
   pub places : take count new.places.items ≡ old.places.items
   pub locals : new.locals ≡ old.locals
-  pub highs : take count new.highs.items ≡ old.highs.items
-  pub paired_highs : take count new.paired_highs.items ≡ old.paired_highs.items
+  pub highs : new.highs.items ≡ old.highs.items
+  pub paired_highs : new.paired_highs.items ≡ old.paired_highs.items
 
 -- the rows by names hold what the first k lines of a text define, and no row is longer than there are names
 pub record AreSymbols (base : ℕ) (program : Program) (k : ℕ) (names : List (List ℕ)) (s : Survey) : Type 0 where

@@ -32,8 +32,9 @@ abbrev pub address_of_found : List LinePlace → Option ℕ → Entry
 address_of_found places None = Err Undefined
 address_of_found places (Some line) = Ok (pos (address_in places line))
 
-abbrev pub paired_high_in : List Entry → (line : ℕ) → Entry
-paired_high_in paired_highs line = get_or paired_highs (line - 1) (Err NoPartner)
+-- what a row of high halves holds for a line
+abbrev pub high_in : List Entry → (line : ℕ) → Entry
+high_in highs line = get_or highs (line - 1) (Err NoPartner)
 
 abbrev pub definition_in : LineRows → (name : List ℕ) → DefinitionPlace
 definition_in rows name = in_row rows.names rows.definitions Nowhere name
@@ -55,7 +56,7 @@ names_by rows here = record {
   symbol = symbol_in rows;
   local = λ number direction. address_of_found rows.places (local_line_in rows.locals rows.line number direction);
   here = Ok (pos here);
-  paired_high = λ label. and_then (label_line_in rows label) (paired_high_in rows.paired_highs);
+  paired_high = λ label. and_then (label_line_in rows label) (high_in rows.paired_highs);
 }
 
 -- those by which a line's names are answered

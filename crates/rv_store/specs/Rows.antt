@@ -1,6 +1,6 @@
 -- What the rows hold that are kept of a text: one value for each name, by the name's number, or one for each line.
-use Rattle.std.specs.Prelude.{◌≡◌, ℕ, ℤ, ◌≤◌, List, [], ◌++◌, length, get_or, position, bytes_eq, Option, Some, None, Err}
-use Rattle.rv_expr.specs.declared.faults.ValueFault.TheVariants.{LaterEqu}
+use Rattle.std.specs.Prelude.{◌≡◌, ℕ, ℤ, suc, ◌<◌, ◌≤◌, List, [], ◌++◌, length, get_or, position, bytes_eq, Option, Some, None, Err}
+use Rattle.rv_expr.specs.declared.faults.ValueFault.TheVariants.{LaterEqu, NoPartner}
 use Rattle.rv_layout.specs.declared.measured.Measured.{Measured}
 use Rattle.rv_fix.specs.Values.{Entry}
 use Rattle.rv_list.specs.declared.view.DefinitionPlace.{DefinitionPlace}
@@ -59,13 +59,18 @@ AreShapes program row = row ≡ shapes_of program
 abbrev pub ArePlaces : (base : ℕ) → Program → List LinePlace → Type 0
 ArePlaces base program row = row ≡ for_lines (place_at base program) (length program)
 
+-- a row of high halves, which may end before the lines do: the lines behind its end have none
+pub record HoldHighs (high : ℕ → Entry) (count : ℕ) (row : List Entry) : Type 0 where
+  pub each : (k : ℕ) → k < count → get_or row k (Err NoPartner) ≡ high (suc k)
+  pub within : length row ≤ count
+
 -- the high half on each line
 abbrev pub AreHighs : (base : ℕ) → Program → List Entry → Type 0
-AreHighs base program row = row ≡ for_lines (high_at base program) (length program)
+AreHighs base program row = HoldHighs (high_at base program) (length program) row
 
 -- what `%pcrel_lo` of a label takes, by the label's line
 abbrev pub ArePairedHighs : (base : ℕ) → Program → List Entry → Type 0
-ArePairedHighs base program row = row ≡ for_lines (paired_high_of base program) (length program)
+ArePairedHighs base program row = HoldHighs (paired_high_of base program) (length program) row
 
 -- the lines of local labels, by their numbers: those of the first k lines
 abbrev pub AreLocals : Program → (k : ℕ) → List (List ℕ) → Type 0

@@ -118,13 +118,12 @@ pub fn apart_ending(
 }
 
 impl Survey {
-    /// Adds a line to the rows by lines. Where there is no memory for that, some of them have one entry more.
+    /// Adds a line to the rows by lines, but to those of high halves, since it has none. Where there is no memory for that, some of
+    /// them have one entry more.
     pub fn push(&mut self, line: Line, end: &Ending) -> Result<(), AllocError>
         requires few { length self.old.lines.items < MAX_LINES }
         requires shapes { length self.old.shapes.items ≡ length self.old.lines.items }
         requires places { length self.old.places.items ≡ length self.old.lines.items }
-        requires highs { length self.old.highs.items ≡ length self.old.lines.items }
-        requires paired_highs { length self.old.paired_highs.items ≡ length self.old.lines.items }
         ensures ok { OnOk result (AreExtended line end.now self.old self.new) }
         ensures err { OnErr result (BeginAs (length self.old.lines.items) self.old self.new) }
         ensures symbols { AreSameSymbols self.old self.new }
@@ -132,8 +131,6 @@ impl Survey {
         self.lines.push(line)?;
         self.shapes.push(end.shape)?;
         self.places.push(end.place)?;
-        self.highs.push(Err(ValueFault::NoPartner))?;
-        self.paired_highs.push(Err(ValueFault::NoPartner))?;
         self.total = end.total;
         Ok(())
     }
@@ -146,8 +143,6 @@ impl Survey {
         self.lines.truncate(count);
         self.shapes.truncate(count);
         self.places.truncate(count);
-        self.highs.truncate(count);
-        self.paired_highs.truncate(count);
         self.total = total;
     }
 }

@@ -15,7 +15,7 @@ ghost use Rattle.rv_store.specs.Work.{high_operands, work};
 
 use crate::before::Before;
 use crate::invalidation::is_invalidated;
-use crate::line_names::references_at;
+use crate::line_names::{high_in, references_at};
 use crate::name_set::NameSet;
 use crate::room::row_of;
 use crate::symbol_rows::SymbolRows;
@@ -141,13 +141,14 @@ fn high_after<C: Count>(
     }
     if !is_line_invalidated(before, after, line) {
         if let Some(stood) = before.edit.line_before(line) {
-            return before.highs[stood as usize - 1];
+            return high_in(before.highs, stood);
         }
     }
     high_on(&after.text, after.equ_values, line, counter)
 }
 
-/// The high half on each line of the text after an edit. Lines without `%pcrel_hi` are gone past.
+/// The high half on each line of the text after an edit. Lines without `%pcrel_hi` are gone past; where there are no others, the row is
+/// empty.
 ///
 /// The counter's number of expressions computed rises by at most the high halves on the lines that the edit invalidates,
 /// whatever the outcome.
@@ -173,8 +174,11 @@ pub fn highs<C: Count>(
     ensures encoded { C.encoded_count counter.new ≡ C.encoded_count counter.old }
 {
     let lines = after.text.lines;
-    let mut row = row_of(alloc, Err(ValueFault::NoPartner), lines.len())?;
     let mut i = lines.up_to_pcrel_high(0);
+    if i >= lines.len() {
+        return Ok(Vec::new(alloc));
+    }
+    let mut row = row_of(alloc, Err(ValueFault::NoPartner), lines.len())?;
     while i < lines.len() {
         row[i] = high_after(before, after, i as u32 + 1, counter);
         i = lines.up_to_pcrel_high(i + 1);

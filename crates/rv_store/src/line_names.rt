@@ -2,7 +2,7 @@
 
 ghost use Rattle.std.specs.Prelude.{◌≡◌, ◌-◌, ◌≤◌, length};
 ghost use Rattle.rv_store.specs.declared.limits.TheConstants.{MAX_LINES};
-ghost use Rattle.rv_store.specs.LineNames.{label_line_in, paired_high_in, rows_of, rows_for, given_by};
+ghost use Rattle.rv_store.specs.LineNames.{label_line_in, high_in, rows_of, rows_for, given_by};
 ghost use Rattle.rv_store.specs.Pairs.{names_at};
 ghost use Rattle.rv_store.specs.Program.{body_at};
 ghost use Rattle.rv_store.specs.References.{line_of_place, or_faulty_equ, by_definition, usable_equs, references_at};
@@ -54,7 +54,7 @@ impl Names for LineNames<'_> {
 
     fn paired_high(&self, _here: u32, label: &LabelReference) -> Result<i64, ValueFault> {
         let line = self.label_line(label)?;
-        paired_high_in(self.paired_highs, line)
+        high_in(self.paired_highs, line)
     }
 }
 
@@ -79,11 +79,11 @@ impl LineNames<'_> {
     }
 }
 
-// What `%pcrel_lo` takes from the label on a line.
-fn paired_high_in(paired_highs: &[Entry], line: u32) -> Entry
-    ensures { result ≡ paired_high_in paired_highs.now line }
+// What a row of high halves holds for a line.
+pub(crate) fn high_in(highs: &[Entry], line: u32) -> Entry
+    ensures { result ≡ high_in highs.now line }
 {
-    match paired_highs.get((line as usize).saturating_sub(1)) {
+    match highs.get((line as usize).saturating_sub(1)) {
         Some(entry) => *entry,
         None => Err(ValueFault::NoPartner),
     }

@@ -7,6 +7,7 @@ ghost use Rattle.rv_store.specs.Pairs.{high_at};
 ghost use Rattle.rv_store.specs.Rows.{AreHighs};
 ghost use Rattle.rv_store.specs.TextRows.{AreTextRows, ArePairedHighsIn, program_in};
 
+use crate::line_names::high_in;
 use crate::room::row_of;
 use crate::text_lines::place_on;
 use crate::text_rows::TextRows;
@@ -45,7 +46,7 @@ fn give_high(text: &TextRows<'_>, i: usize, high: Entry, row: &mut [Entry])
 }
 
 /// What `%pcrel_lo` of a label takes, by the line of the label: the high half of the first line with bytes in the label's
-/// section, from that line on. Lines without `%pcrel_hi` are gone past.
+/// section, from that line on. Lines without `%pcrel_hi` are gone past; where there are no others, the row is empty.
 ///
 /// # Errors
 ///
@@ -60,11 +61,15 @@ pub fn paired_highs(
     requires few { length text.now.lines.now ≤ MAX_LINES }
     ensures { IfOk result (λ row. ArePairedHighsIn text.now row.items) }
 {
+    if highs.is_empty() {
+        return Ok(Vec::new(alloc));
+    }
     let lines = text.lines;
     let mut row = row_of(alloc, Err(ValueFault::NoPartner), lines.len())?;
     let mut i = lines.up_to_pcrel_high(0);
     while i < lines.len() {
-        give_high(text, i, highs[i], &mut row);
+        let high = high_in(highs, i as u32 + 1);
+        give_high(text, i, high, &mut row);
         i = lines.up_to_pcrel_high(i + 1);
     }
     Ok(row)

@@ -2,7 +2,7 @@ use Rattle.std.proofs.Common.{◌≡◌, ◌≤◌, ◌+◌, [], ◌∷◌, ◌+
 use Rattle.rv_store.specs.Appended.{AreSymbols, IsLast, IsUnsettled}
 use Rattle.rv_store.specs.Program.{program_of}
 use Rattle.rv_store.specs.Surveys.{IsSurvey}
-use Rattle.rv_store.proofs.AppendTexts.{in_any_error, begins-alone, begins-extended, begins-still, symbols-of, symbols-same, count-shapes, count-places, count-highs, count-paired_highs, is_last, unsettled, survey-extended}
+use Rattle.rv_store.proofs.AppendTexts.{in_any_error, begins-alone, begins-extended, begins-still, symbols-of, symbols-same, count-shapes, count-places, is_last, unsettled, survey-extended}
 use Rattle.rv_store.proofs.LongerTexts.{count-longer}
 use Rattle.rv_store.proofs.ending.appended.Goals as goal
 
@@ -11,12 +11,6 @@ push-requires-2-clause-shapes g c = count-shapes c.args.base c.args.survey.now.l
 
 pub push-requires-2-clause-places : goal.push-requires-2-clause-places
 push-requires-2-clause-places g c = count-places c.args.base c.args.survey.now.lines.items c.args.names.now c.args.survey.now c.requires.survey
-
-pub push-requires-2-clause-highs : goal.push-requires-2-clause-highs
-push-requires-2-clause-highs g c = count-highs c.args.base c.args.survey.now.lines.items c.args.names.now c.args.survey.now c.requires.survey
-
-pub push-requires-2-clause-paired_highs : goal.push-requires-2-clause-paired_highs
-push-requires-2-clause-paired_highs g c = count-paired_highs c.args.base c.args.survey.now.lines.items c.args.names.now c.args.survey.now c.requires.survey
 
 pub returns-in_err-push-clause-err : goal.returns-in_err-push-clause-err
 returns-in_err-push-clause-err g c = in_any_error c.from_residual.result (begins-alone c.args.base c.args.survey.now.lines.items c.args.names.now c.args.survey.now c.requires.survey refl)

@@ -1,4 +1,4 @@
-use Rattle.std.proofs.Common.{◌≡◌, true, Some, Ok, pos, arith, ap, sym, ◌∙◌}
+use Rattle.std.proofs.Common.{◌≡◌, ◌-◌, true, Some, arith, ap, sym, ◌∙◌}
 use Rattle.std.specs.Option.{is_some}
 use Rattle.rv_store.specs.Before.{base_before, lines_before, edit_on}
 use Rattle.rv_store.specs.Changes.{is_invalidated}
@@ -8,8 +8,10 @@ use Rattle.rv_store.specs.Pairs.{pcrel_high_of, high_at}
 use Rattle.rv_store.specs.Program.{body_at}
 use Rattle.rv_store.specs.References.{references_at}
 use Rattle.rv_store.specs.TextRows.{program_in}
-use Rattle.rv_store.proofs.HighLaws.{high-kept, length_of_highs, high_of_line, no-high, high-counted}
+use Rattle.rv_store.specs.Work.{high_operands}
+use Rattle.rv_store.proofs.HighLaws.{high-kept, high_of_line, no-high, high-counted}
 use Rattle.rv_store.proofs.LinePairLaws.{stood-before, body-before, invalidated-by_uses, invalidated-new}
+use Rattle.rv_store.proofs.WorkLaws.{work-up}
 use Rattle.rv_store.proofs.highs.high_after.Goals as goal
 use Rattle.rv_store.proofs.highs.high_after.Goals.{then-not-is_line_invalidated+in_default, else-not-is_line_invalidated}
 
@@ -18,14 +20,6 @@ returns-then-not-has_pcrel_high-clause-value g c =
     let text = c.args.after.now.text in
     let line = c.args.line in
     sym (no-high (references_at text.base (program_in text) line) (address_at text.base (program_in text) line) (pcrel_high_of (body_at (program_in text) line)) (sym c.has_pcrel_high.ensures ∙ c.if-not-has_pcrel_high.true))
-
-pub bounds-before-stood : goal.bounds-before-stood
-bounds-before-stood g c =
-    let before = c.args.before.now in
-    let stands : line_before_edit (edit_on before) c.args.line ≡ Some c.in-Some.stood = sym c.line_before.ensures ∙ c.in-Some.is in
-    let there = stood-before before c.args.after.now.text c.args.line c.in-Some.stood c.requires.before c.requires.after c.requires.first c.requires.last stands in
-    let count = length_of_highs (base_before before) (lines_before before) before.highs.now c.requires.before.highs in
-    omega (arith, there.first, there.last, count)
 
 pub returns-in-Some-clause-value : goal.returns-in-Some-clause-value
 returns-in-Some-clause-value g c =
@@ -37,9 +31,16 @@ returns-in-Some-clause-value g c =
     let there = stood-before before after line stood c.requires.before c.requires.after c.requires.first c.requires.last stands in
     let body = body-before before after line stood c.requires.before c.requires.after c.requires.first c.requires.last stands in
     let uses = sym (invalidated-by_uses before after line stood c.requires.before c.requires.after c.requires.first c.requires.last stands) ∙ sym c.is_line_invalidated.ensures ∙ c.if-not-is_line_invalidated.true in
-    high_of_line (base_before before) (lines_before before) before.highs.now stood (Ok (pos 0)) c.requires.before.highs there.first there.last
+    c.high_in.ensures
+    ∙ high_of_line (base_before before) (lines_before before) before.highs.now stood c.requires.before.highs there.first there.last
     ∙ sym (high-kept (base_before before) (program_in before.symbols.text) (program_in after) line stood body uses)
     ∙ ap (λ base. high_at base (program_in after) line) (sym c.requires.after.base)
+
+pub returns-in-Some-clause-most : goal.returns-in-Some-clause-most
+returns-in-Some-clause-most g c =
+    let before = c.args.before.now in
+    let more = work-up high_operands (base_before before) (lines_before before) (edit_on before) (c.args.line - 1) c.args.line (omega arith) in
+    omega (arith, more)
 
 pub returns-clause-most : goal.returns-clause-most
 returns-clause-most g c =

@@ -1,8 +1,9 @@
-use Rattle.std.proofs.Common.{◌≡◌, ◌≤◌, ◌<◌, suc, ◌+◌, ◌-◌, length, set, replicate, Err, arith, ap, sym, refl, subst, ◌∙◌}
+use Rattle.std.proofs.Common.{◌≡◌, ◌<◌, suc, ◌+◌, ◌-◌, [], length, set, replicate, Err, arith, ap, sym, refl, subst, ◌∙◌}
 use Rattle.std.proofs.lemmas.List.{length-set, length-replicate}
 use Rattle.rv_expr.specs.declared.faults.ValueFault.TheVariants.{NoPartner}
 use Rattle.rv_store.specs.Before.{base_before, lines_before, edit_on}
 use Rattle.rv_store.specs.Pairs.{high_at}
+use Rattle.rv_store.specs.Rows.{AreHighs}
 use Rattle.rv_store.specs.TextRows.{program_in}
 use Rattle.rv_store.specs.Work.{high_operands, work}
 use Rattle.rv_store.proofs.HighRows.{AreHighsThrough, highs-none, highs-past, highs-set, highs-all}
@@ -14,14 +15,14 @@ pub loop-i-init : goal.loop-i-init
 loop-i-init g c =
     let text = c.args.after.now.text in
     let program = program_in text in
-    let count = c.len.result in
+    let count = c.len-2.result in
     let none : c.in_ok-row.row.items ≡ replicate count (Err NoPartner) = c.in_ok-row.ensures in
     let past = c.up_to_pcrel_high-i.ensures in
     record {
       within = past.within;
       row = subst (AreHighsThrough text.base program c.up_to_pcrel_high-i.result) (sym none)
           (highs-past text.base program 0 c.up_to_pcrel_high-i.result (replicate count (Err NoPartner)) past.up past.passed (highs-none text.base program count));
-      many = ap length none ∙ length-replicate count (Err NoPartner) ∙ c.len.ensures;
+      many = ap length none ∙ length-replicate count (Err NoPartner) ∙ c.len-2.ensures;
       least = omega arith;
       most = omega arith;
       work = omega arith;
@@ -61,8 +62,20 @@ returns-clause-highs g c =
     let program = program_in text in
     let count = length-program text.lines.now in
     let end : c.loop-i.i ≡ length program = omega (arith, c.loop-i-test.false, c.len-in-loop-i.ensures, c.loop-i.invariant.within, count) in
-    highs-all text.base program c.loop-i.row.items (c.loop-i.invariant.many ∙ sym count)
+    highs-all text.base program c.loop-i.row.items (omega (arith, c.loop-i.invariant.many, count))
     (subst (λ n. AreHighsThrough text.base program n c.loop-i.row.items) end c.loop-i.invariant.row)
+
+-- no line has a high half
+pub returns-then-i-len-clause-highs : goal.returns-then-i-len-clause-highs
+returns-then-i-len-clause-highs g c =
+    let text = c.args.after.now.text in
+    let program = program_in text in
+    let past = c.up_to_pcrel_high-i.ensures in
+    let i = c.up_to_pcrel_high-i.result in
+    let end : i ≡ length program = omega (arith, c.if-i-len.true, c.len.ensures, past.within, length-program text.lines.now) in
+    subst (AreHighs text.base program) (sym c.new.ensures.items)
+    (highs-all text.base program [] (omega arith)
+    (subst (λ n. AreHighsThrough text.base program n []) end (highs-past text.base program 0 i [] past.up past.passed (highs-none text.base program 0))))
 
 pub returns-clause-parsed : goal.returns-clause-parsed
 returns-clause-parsed g c = c.loop-i.invariant.parsed

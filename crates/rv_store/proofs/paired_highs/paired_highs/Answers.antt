@@ -1,11 +1,13 @@
-use Rattle.std.proofs.Common.{◌≡◌, ℕ, ◌+◌, ◌-◌, List, ◌++◌, length, get_or, take, drop, replicate, Ok, Err, pos, arith, ap, sym, subst, ◌∙◌}
+use Rattle.std.proofs.Common.{◌≡◌, ℕ, ◌+◌, List, [], ◌∷◌, ◌++◌, length, take, drop, replicate, Err, arith, ap, sym, subst, ◌∙◌, refl}
+use Rattle.std.proofs.lemmas.Bool.{eqb-true}
 use Rattle.std.proofs.lemmas.List.{append-nil, take_all, drop_all}
 use Rattle.rv_expr.specs.declared.faults.ValueFault.TheVariants.{NoPartner}
 use Rattle.rv_fix.specs.Values.{Entry}
 use Rattle.rv_store.specs.PairedHighs.{ArePairedThrough}
+use Rattle.rv_store.specs.Rows.{AreHighs, ArePairedHighs}
 use Rattle.rv_store.specs.TextRows.{program_in}
-use Rattle.rv_store.proofs.HighLaws.{length_of_highs, high_of_line}
-use Rattle.rv_store.proofs.PairedHighs.{paired-none, paired-past, paired-all}
+use Rattle.rv_store.proofs.HighLaws.{high_of_line}
+use Rattle.rv_store.proofs.PairedHighs.{paired-none, paired-past, paired-all, paired-nowhere}
 use Rattle.rv_store.proofs.Programs.{length-program}
 use Rattle.rv_store.proofs.paired_highs.paired_highs.Goals as goal
 
@@ -14,6 +16,19 @@ written : (n : ℕ) (new old : List Entry) → length new ≡ length old → n �
 written n new old same count =
     ap (λ rest. take n (new ++ rest)) (drop_all (length new) old (omega (arith, same)))
     ∙ ap (take n) (append-nil new) ∙ take_all n new (omega (arith, same, count))
+
+no-entry : (row : List Entry) → length row ≡ 0 → row ≡ []
+no-entry [] e = refl
+no-entry (x ∷ xs) e = absurd (omega (arith, e))
+
+-- no line has a high half
+pub returns-then-is_empty : goal.returns-then-is_empty
+returns-then-is_empty c =
+    let text = c.args.text.now in
+    let program = program_in text in
+    let nothing : length c.args.highs.now ≡ 0 = eqb-true (length c.args.highs.now) 0 (sym c.is_empty.ensures ∙ c.if-is_empty.true) in
+    subst (ArePairedHighs text.base program) (sym c.new.ensures.items)
+    (paired-nowhere text.base program (subst (AreHighs text.base program) (no-entry c.args.highs.now nothing) c.requires.highs))
 
 pub loop-i-init : goal.loop-i-init
 loop-i-init c =
@@ -50,17 +65,10 @@ returns c =
     let end : c.loop-i.i ≡ length program = omega (arith, c.loop-i-test.false, c.len-in-loop-i.ensures, c.loop-i.invariant.within, length-program text.lines.now) in
     paired-all text.base program c.loop-i.row.items (subst (λ n. ArePairedThrough text.base program n c.loop-i.row.items) end c.loop-i.invariant.row)
 
-pub bounds-highs-i : goal.bounds-highs-i
-bounds-highs-i c =
-    let text = c.args.text.now in
-    let count = length_of_highs text.base text.lines.now c.args.highs.now c.requires.highs in
-    omega (arith, count, c.loop-i-test.true, c.len-in-loop-i.ensures)
-
 pub give_high-requires-clause-high : goal.give_high-requires-clause-high
 give_high-requires-clause-high c =
     let text = c.args.text.now in
     let highs = c.args.highs.now in
     let i = c.loop-i.i in
-    let place : i ≡ i + 1 - 1 = omega arith in
-    ap (λ n. get_or highs n (Ok (pos 0))) place
-    ∙ high_of_line text.base text.lines.now highs (i + 1) (Ok (pos 0)) c.requires.highs (omega arith) (omega (arith, c.loop-i-test.true, c.len-in-loop-i.ensures))
+    c.high_in-high.ensures
+    ∙ high_of_line text.base text.lines.now highs (i + 1) c.requires.highs (omega arith) (omega (arith, c.loop-i-test.true, c.len-in-loop-i.ensures))
