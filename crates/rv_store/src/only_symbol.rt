@@ -1,6 +1,6 @@
 //! Lines that define one symbol, and lines with which no other line has to do.
 
-ghost use Rattle.std.specs.Prelude.{◌≡◌, List, ℕ, None, true, false, length, bytes_eq, IsTrue};
+ghost use Rattle.std.specs.Prelude.{◌≡◌, ◌≤◌, List, ℕ, None, true, false, length, bytes_eq, IsTrue};
 ghost use Rattle.std.specs.List.{list_any};
 ghost use Rattle.std.specs.Option.{option_map};
 ghost use Rattle.rv_stmt.specs.Statement.{statement_of};
@@ -10,6 +10,7 @@ ghost use Rattle.rv_store.specs.Program.{program_of};
 ghost use Rattle.rv_store.specs.Rows.{AreDefinitions};
 ghost use Rattle.rv_store.specs.Uses.{names_used};
 
+use crate::limits::MAX_LINES;
 use crate::line::Line;
 use crate::name_set::bucket_of;
 use crate::names::{NameTable, entry_of};
@@ -73,13 +74,14 @@ fn uses(line: &Line, bucket: u16, symbol: &OneName<'_>) -> bool
     line.brief().names.may_have(bucket) && any_name(&line.stmt().body, symbol)
 }
 
-// Whether one of the lines uses a symbol.
+// Whether one of the lines uses a symbol. The last lines are looked at first, since a symbol is mostly used near its definition.
 fn any_uses(mut lines: &[Line], name: &[u8]) -> bool
+    requires { length lines.now ≤ MAX_LINES }
     ensures { result ≡ list_any (λ l. list_any (bytes_eq name.now) (names_used (statement_of l).body)) lines.entry.now }
 {
     let bucket = bucket_of(name);
     let symbol = OneName { name };
-    while let [line, rest @ ..] = lines {
+    while let [rest @ .., line] = lines {
         if uses(line, bucket, &symbol) {
             return true;
         }
@@ -95,7 +97,8 @@ fn is_unknown(
     definitions: &[DefinitionPlace],
     symbol: &[u8],
 ) -> bool
-    requires { AreDefinitions (program_of lines.now) names.now definitions.now }
+    requires definitions { AreDefinitions (program_of lines.now) names.now definitions.now }
+    requires few { length lines.now ≤ MAX_LINES }
     ensures { IsTrue result → IsUnknown (program_of lines.now) symbol.now }
 {
     match entry_of(names, definitions, DefinitionPlace::Nowhere, symbol) {
@@ -112,7 +115,8 @@ pub fn is_apart(
     definitions: &[DefinitionPlace],
     line: &Line,
 ) -> bool
-    requires { AreDefinitions (program_of lines.now) names.now definitions.now }
+    requires definitions { AreDefinitions (program_of lines.now) names.now definitions.now }
+    requires few { length lines.now ≤ MAX_LINES }
     ensures apart { IsTrue result → IsApart (program_of lines.now) (statement_of line.now) }
     ensures alone { IsTrue result → IsAlone (statement_of line.now) }
 {
