@@ -1,9 +1,10 @@
 -- The row of local labels: how it grows by a line, and that it tells the line of a local label.
 use Rattle.std.proofs.Common.{◌≡◌, ℕ, zero, suc, ◌+◌, ◌-◌, nat_le, ◌<◌, ◌≤◌, Bool, true, false, ◌||◌, List, [], ◌∷◌, ◌++◌, length, length-append, take, drop, get_or, slice_get, Option, Some, None, if◌then◌else◌, ◌⊎◌, inl, inr, arith, ap, sym, ◌∙◌, refl, subst}
-use Rattle.std.specs.List.Sorted.{IsNonDecreasing, IsPartitionPoint}
+use Rattle.std.specs.List.{AllWithin}
+use Rattle.std.specs.List.Sorted.{IsNonDecreasing}
 use Rattle.std.specs.Option.{option_or}
 use Rattle.std.proofs.lemmas.Bool.{le-leb, lt-leb, cases_lt, eq-eqb, ne_eqb, true≢false, or_parts, or_from}
-use Rattle.std.proofs.lemmas.List.{append-nil, get_or-map}
+use Rattle.std.proofs.lemmas.List.{append-nil, get_or-map, get_or-take, get_or-drop, length-take, length-drop}
 use Rattle.std.proofs.lemmas.List.Sorted.{IsNonDecreasingBy-push}
 use Rattle.std.proofs.lemmas.Option.{slice_get-get_or, slice_get_within, get_or_from_slice_get}
 use Rattle.rv_expr.specs.declared.tree.Direction.{Direction}
@@ -12,7 +13,7 @@ use Rattle.rv_stmt.specs.declared.label.Label.{Label}
 use Rattle.rv_stmt.specs.declared.label.LabelName.{LabelName}
 use Rattle.rv_stmt.specs.declared.label.LabelName.TheVariants as label
 use Rattle.rv_stmt.specs.Statement.{statement_of}
-use Rattle.rv_store.specs.Locals.{last_up_to, first_above, local_line_in, AreRising, is_some_line, is_last, with_line, with_label, is_local_label, has_local_labels, with_labels, AreWithLabels}
+use Rattle.rv_store.specs.Locals.{AreParted, last_up_to, first_above, local_line_in, AreRising, is_some_line, is_last, with_line, with_label, is_local_label, has_local_labels, with_labels, AreWithLabels}
 use Rattle.rv_store.specs.Program.{Program, program_of, lines_that, last_line, first_line, no_statement, statement_at}
 use Rattle.rv_store.specs.References.{has_local, among_local, is_local, local_line}
 use Rattle.rv_store.specs.Rows.{AreLocals}
@@ -26,9 +27,6 @@ statement-of-line lines i line l is =
 
 -- Where a binary search parts the lines
 
-abbrev pub AreParted : (line : ℕ) → List ℕ → ℕ → Type 0
-AreParted line xs i = IsPartitionPoint (λ x. nat_le x line ≡ true) (λ x. nat_le x line ≡ false) xs i
-
 tail-AreParted : (line x : ℕ) (xs : List ℕ) (i : ℕ) → AreParted line (x ∷ xs) (suc i) → AreParted line xs i
 tail-AreParted line x xs i p = (
   λ k d l m. p.0 (suc k) d (omega arith) (omega (arith, m)),
@@ -41,6 +39,34 @@ above-parted line [] (suc i) l p = absurd (let no : suc i ≤ 0 = l in omega (ar
 above-parted line (x ∷ xs) zero l p = rw (p.1 zero 0 (omega arith) (omega arith)) refl
 above-parted line (x ∷ xs) (suc i) l p =
     rw (p.0 zero 0 (omega arith) (omega arith)) (above-parted line xs i (omega (arith, l)) (tail-AreParted line x xs i p))
+
+-- where the lines before a part are this one or earlier ones, and those behind it are not, it tells where all are parted
+pub parted-between : (line low high count : ℕ) (xs : List ℕ) → low ≤ high → high ≤ length xs → AllWithin (λ l. nat_le l line ≡ true) xs 0 low → AllWithin (λ l. nat_le l line ≡ false) xs high (length xs) → count ≤ high - low → AreParted line (take (high - low) (drop low xs)) count → AreParted line xs (low + count)
+parted-between line low high count xs order within first last few parted = (
+  λ k d from below. at-first k d below (cases_lt k low),
+  λ k d from below. at-last k d from below (cases_lt k high),
+)
+  where
+    long : length (take (high - low) (drop low xs)) ≡ high - low
+    long = let all = length-take (high - low) (drop low xs) in let rest = length-drop low xs in omega (arith, all, rest, order, within)
+
+    stands : (k d : ℕ) → low ≤ k → k < high → get_or (take (high - low) (drop low xs)) (k - low) d ≡ get_or xs k d
+    stands k d from below =
+        get_or-take (high - low) (drop low xs) (k - low) d (omega (arith, from, below))
+        ∙ get_or-drop low xs (k - low) d
+        ∙ ap (λ n. get_or xs n d) (let e : low + (k - low) ≡ k = omega (arith, from) in e)
+
+    at-first : (k d : ℕ) → k < low + count → (k < low) ⊎ (low ≤ k) → nat_le (get_or xs k d) line ≡ true
+    at-first k d below (inl before) = first k d (omega arith) before
+    at-first k d below (inr from) =
+        ap (λ l. nat_le l line) (sym (stands k d from (omega (arith, below, few, from, order))))
+        ∙ parted.0 (k - low) d (omega arith) (omega (arith, below, from))
+
+    at-last : (k d : ℕ) → low + count ≤ k → k < length xs → (k < high) ⊎ (high ≤ k) → nat_le (get_or xs k d) line ≡ false
+    at-last k d from below (inl before) =
+        ap (λ l. nat_le l line) (sym (stands k d (omega (arith, from)) before))
+        ∙ parted.1 (k - low) d (omega (arith, from)) (omega (arith, before, from, long))
+    at-last k d from below (inr behind) = last k d behind below
 
 less-one : (n : ℕ) → suc n - 1 ≡ n
 less-one n = omega arith

@@ -1,7 +1,7 @@
 -- How the row of local labels is asked for one. (docs/LANGUAGE.md, Local labels)
 use Rattle.std.specs.Prelude.{◌≡◌, ℕ, ◌-◌, ◌==◌, nat_le, Bool, true, false, List, [], ◌∷◌, ◌++◌, length, get_or, slice_get, Option, Some, None, if◌then◌else◌}
 use Rattle.std.specs.List.{list_any}
-use Rattle.std.specs.List.Sorted.{IsNonDecreasing}
+use Rattle.std.specs.List.Sorted.{IsNonDecreasing, IsPartitionPoint}
 use Rattle.std.specs.Option.{option_or}
 use Rattle.rv_expr.specs.declared.tree.Direction.{Direction}
 use Rattle.rv_expr.specs.declared.tree.Direction.TheVariants.{Back, Forward}
@@ -9,6 +9,10 @@ use Rattle.rv_stmt.specs.declared.label.Label.{Label}
 use Rattle.rv_stmt.specs.declared.label.LabelName.{LabelName}
 use Rattle.rv_stmt.specs.declared.label.LabelName.TheVariants as label
 use Rattle.rv_store.specs.References.{is_local, among_local}
+
+-- so many of some lines, from the first on, are this one or earlier ones, and the others are not
+abbrev pub AreParted : (line : ℕ) → List ℕ → (count : ℕ) → Type 0
+AreParted line lines count = IsPartitionPoint (λ l. nat_le l line ≡ true) (λ l. nat_le l line ≡ false) lines count
 
 -- the last of some lines that is this one or an earlier one
 abbrev pub last_up_to : (line : ℕ) → List ℕ → Option ℕ

@@ -96,27 +96,39 @@ pub fn differs_in_distance(
     )
 }
 
-// The address of a local label as a line names it.
-fn local_address(text: &TextRows<'_>, number: u16, direction: Direction, line: u32) -> Entry
+// The address of a local label as a line names it. `near` is a guess of how many lines up to this one have the label.
+fn local_address(
+    text: &TextRows<'_>,
+    number: u16,
+    direction: Direction,
+    line: u32,
+    near: usize,
+) -> Entry
     requires rows { AreTextRows text.now }
     requires last { line ≤ length text.now.lines.now }
     ensures { result ≡ address_of_line text.now.base (program_in text.now) (local_line (program_in text.now) line number direction) }
 {
-    match text.locals.line(line, number, direction) {
+    match text.locals.line_near(line, number, direction, near) {
         Some(label) => Ok(i64::from(address_in(text.places, label))),
         None => Err(ValueFault::Undefined),
     }
 }
 
-// How far a local label is from a line.
-fn local_distance(text: &TextRows<'_>, number: u16, direction: Direction, line: u32) -> Entry
+// How far a local label is from a line. `near` is as for `local_address`.
+fn local_distance(
+    text: &TextRows<'_>,
+    number: u16,
+    direction: Direction,
+    line: u32,
+    near: usize,
+) -> Entry
     requires rows { AreTextRows text.now }
     requires first { 1 ≤ line }
     requires last { line ≤ length text.now.lines.now }
     ensures { result ≡ distance (address_at text.now.base (program_in text.now) line) (address_of_line text.now.base (program_in text.now) (local_line (program_in text.now) line number direction)) }
 {
     let here = place_on(text, line).address;
-    let address = local_address(text, number, direction, line)?;
+    let address = local_address(text, number, direction, line, near)?;
     Ok(i64::from(displacement(here, address)))
 }
 
@@ -139,8 +151,9 @@ pub fn differs_in_local_distance(
         (distance (address_at after.now.base (program_in after.now) line) (address_of_line after.now.base (program_in after.now) (local_line (program_in after.now) line number direction)))
         (distance (address_at before.now.base (program_in before.now) stood) (address_of_line before.now.base (program_in before.now) (local_line (program_in before.now) stood number direction)))) }
 {
+    let near = after.locals.count(line, number);
     !is_same_entry(
-        local_distance(after, number, direction, line),
-        local_distance(before, number, direction, stood),
+        local_distance(after, number, direction, line, near),
+        local_distance(before, number, direction, stood, near),
     )
 }

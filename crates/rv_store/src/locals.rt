@@ -1,9 +1,10 @@
 //! The lines of local labels.
 
-ghost use Rattle.std.specs.Prelude.{◌≡◌, ◌≤◌, ◌<◌, ◌^◌, ℕ, [], nat_le, length, get_or, IfOk};
+ghost use Rattle.std.specs.Prelude.{◌≡◌, ◌≤◌, ◌<◌, ◌^◌, ℕ, [], nat_le, true, false, length, get_or, IfOk, IsTrue};
+ghost use Rattle.std.specs.List.{AllWithin};
 ghost use Rattle.std.specs.List.Sorted.{IsNonDecreasing};
 ghost use Rattle.rv_stmt.specs.Statement.{statement_of};
-ghost use Rattle.rv_store.specs.Locals.{AreRising, line_among, local_line_in, with_line, with_label, has_local_labels, AreWithLabels};
+ghost use Rattle.rv_store.specs.Locals.{AreRising, AreParted, line_among, local_line_in, with_line, with_label, has_local_labels, AreWithLabels};
 ghost use Rattle.rv_store.specs.Program.{program_of};
 ghost use Rattle.rv_store.specs.Rows.{AreLocals};
 
@@ -14,6 +15,9 @@ use rv_stmt::{Label, LabelName};
 use rv_text::Sequence;
 use std::alloc::{AllocError, Global};
 use std::marker::Model;
+
+// How far from a guess a count is looked for first.
+const REACH: usize = 4;
 
 /// The lines of the local labels, by their numbers: for each number the lines that have its label, rising.
 #[derive(Drop)]
@@ -116,16 +120,78 @@ pub fn has_local_labels(mut labels: &[Label]) -> bool
     false
 }
 
-// The line among those of a local label.
-fn line_among(lines: &[u32], line: u32, direction: Direction) -> Option<u32>
+// How many of some rising lines are this one or earlier ones, by halves.
+fn count_by_halves(lines: &[u32], line: u32) -> usize
     requires { IsNonDecreasing lines.now }
-    ensures { result ≡ line_among lines.now line direction }
+    ensures bound { result ≤ length lines.now }
+    ensures parted { AreParted line lines.now result }
 {
-    let count = lines.partition_point(
+    lines.partition_point(
         |l: &u32| -> bool
             ensures { result ≡ nat_le l.now line }
         { *l <= line },
-    );
+    )
+}
+
+// How many of some rising lines would be this one or earlier ones if they stood evenly.
+fn count_if_even(lines: &[u32], line: u32) -> usize {
+    match lines.last() {
+        Some(last) => {
+            let all = lines.len().saturating_mul(line as usize);
+            all / (*last as usize).saturating_add(1)
+        }
+        None => 0,
+    }
+}
+
+// Whether so many of some rising lines, or more, are this one or earlier ones.
+fn are_up_to(lines: &[u32], line: u32, count: usize) -> bool
+    requires rising { IsNonDecreasing lines.now }
+    requires within { count ≤ length lines.now }
+    ensures { IsTrue result → AllWithin (λ l. nat_le l line ≡ true) lines.now 0 count }
+{
+    match count.checked_sub(1) {
+        Some(last) => lines[last] <= line,
+        None => true,
+    }
+}
+
+// Whether no more than so many of some rising lines are this one or earlier ones.
+fn are_above(lines: &[u32], line: u32, count: usize) -> bool
+    requires rising { IsNonDecreasing lines.now }
+    ensures { IsTrue result → AllWithin (λ l. nat_le l line ≡ false) lines.now count (length lines.now) }
+{
+    match lines.get(count) {
+        Some(first) => *first > line,
+        None => true,
+    }
+}
+
+// How many of some rising lines are this one or earlier ones. `near` is a guess, by which few lines have to be looked at if it is
+// nearly right.
+fn count_up_to(lines: &[u32], line: u32, near: usize) -> usize
+    requires { IsNonDecreasing lines.now }
+    ensures bound { result ≤ length lines.now }
+    ensures parted { AreParted line lines.now result }
+{
+    let near = near.min(lines.len());
+    if are_up_to(lines, line, near) && are_above(lines, line, near) {
+        return near;
+    }
+    let high = near.saturating_add(REACH).min(lines.len());
+    let low = near.saturating_sub(REACH);
+    if are_up_to(lines, line, low) && are_above(lines, line, high) {
+        return low + count_by_halves(&lines[low..high], line);
+    }
+    count_by_halves(lines, line)
+}
+
+// The line among those of a local label. `near` is as for `count_up_to`.
+fn line_among(lines: &[u32], line: u32, direction: Direction, near: usize) -> Option<u32>
+    requires { IsNonDecreasing lines.now }
+    ensures { result ≡ line_among lines.now line direction }
+{
+    let count = count_up_to(lines, line, near);
     let (up_to, above) = lines.split_at(count);
     match direction {
         Direction::Back => up_to.last().copied(),
@@ -170,11 +236,36 @@ impl Locals {
         self.rows.as_slice()
     }
 
+    /// How many lines up to this one have the local label of a number.
+    pub fn count(&self, line: u32, number: u16) -> usize {
+        match self.rows.get(usize::from(number)) {
+            Some(lines) => {
+                let lines = lines.as_slice();
+                count_up_to(lines, line, count_if_even(lines, line))
+            }
+            None => 0,
+        }
+    }
+
+    /// The line of a local label as a line names it: `b` is the last one up to this line, `f` the first one after it. `near` is a
+    /// guess of how many lines up to this one have the label; the answer does not depend on it.
+    pub fn line_near(
+        &self,
+        line: u32,
+        number: u16,
+        direction: Direction,
+        near: usize,
+    ) -> Option<u32>
+        ensures { result ≡ local_line_in self.now line number direction }
+    {
+        let lines = self.rows.get(usize::from(number))?.as_slice();
+        line_among(lines, line, direction, near)
+    }
+
     /// The line of a local label as a line names it: `b` is the last one up to this line, `f` the first one after it.
     pub fn line(&self, line: u32, number: u16, direction: Direction) -> Option<u32>
         ensures { result ≡ local_line_in self.now line number direction }
     {
-        let lines = self.rows.get(usize::from(number))?.as_slice();
-        line_among(lines, line, direction)
+        self.line_near(line, number, direction, self.count(line, number))
     }
 }

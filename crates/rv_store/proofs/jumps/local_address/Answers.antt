@@ -12,7 +12,7 @@ returns-in-Some c =
     let last : c.args.line ≤ length (program_in text) = omega (arith, c.requires.last, length-program text.lines.now) in
     let address : Ok (pos c.address_in.result) ≡ address_of_line text.base (program_in text) (local_line (program_in text) c.args.line c.args.number c.args.direction) =
     ap (λ address. Ok (pos address)) c.address_in.ensures
-    ∙ ap (address_of_found text.places.now) (sym c.in-Some.is ∙ c.line.ensures)
+    ∙ ap (address_of_found text.places.now) (sym c.in-Some.is ∙ c.line_near.ensures)
     ∙ local_by-rows text c.args.line c.args.number c.args.direction c.requires.rows last in
     search rules ∙ address
 
@@ -20,5 +20,5 @@ pub returns-in-None : goal.returns-in-None
 returns-in-None c =
     let text = c.args.text.now in
     let last : c.args.line ≤ length (program_in text) = omega (arith, c.requires.last, length-program text.lines.now) in
-    ap (address_of_found text.places.now) (sym c.in-None.is ∙ c.line.ensures)
+    ap (address_of_found text.places.now) (sym c.in-None.is ∙ c.line_near.ensures)
     ∙ local_by-rows text c.args.line c.args.number c.args.direction c.requires.rows last

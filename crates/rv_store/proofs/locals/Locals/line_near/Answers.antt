@@ -1,6 +1,6 @@
 use Rattle.std.proofs.Common.{◌≡◌, [], get_or, ap, sym, ◌∙◌, subst}
 use Rattle.std.specs.List.Sorted.{IsNonDecreasing}
-use Rattle.rv_store.proofs.locals.Locals.line.Goals as goal
+use Rattle.rv_store.proofs.locals.Locals.line_near.Goals as goal
 
 pub line_among-requires : goal.line_among-requires
 line_among-requires c =
