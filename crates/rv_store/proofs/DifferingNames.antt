@@ -1,21 +1,23 @@
 -- Symbols that give the same before an edit and after it.
-use Rattle.std.proofs.Common.{◌≡◌, ℕ, eqb, ◌+◌, ◌-◌, ◌<◌, ◌≤◌, ◌⊎◌, inl, inr, true, false, not, ◌||◌, List, length, Option, Some, None, Err, arith, ap, sym, subst, ◌∙◌, refl}
+use Rattle.std.proofs.Common.{◌≡◌, ℕ, ℤ, eqb, ◌+◌, ◌-◌, ◌<◌, ◌≤◌, ◌⊎◌, inl, inr, true, false, not, ◌||◌, List, length, Option, Some, None, Ok, Err, pos, arith, ap, sym, subst, ◌∙◌, refl}
 use Rattle.std.specs.Option.{option_eq}
 use Rattle.std.proofs.lemmas.Bool.{cases_lt, eqb-true, false≢true}
 use Rattle.rv_expr.specs.declared.faults.ValueFault.TheVariants.{Undefined}
 use Rattle.rv_list.specs.declared.view.DefinitionPlace.{DefinitionPlace}
 use Rattle.rv_list.specs.declared.view.DefinitionPlace.TheVariants.{Nowhere, Label as ByLabel, Equ}
 use Rattle.rv_store.specs.declared.before.Before.{Before}
+use Rattle.rv_store.specs.declared.name_set.Mark.{Mark}
+use Rattle.rv_store.specs.declared.name_set.Mark.TheVariants.{Unknown, Same, Moved, Changed}
 use Rattle.rv_store.specs.declared.symbol_rows.SymbolRows.{SymbolRows}
 use Rattle.rv_store.specs.declared.text_rows.TextRows.{TextRows}
 use Rattle.rv_store.specs.Before.{IsBefore, IsAfter, base_before, lines_before, edit_on}
 use Rattle.rv_store.specs.Changes.{program_after, differs_in_name}
 use Rattle.rv_store.specs.Constants.{constant_of}
 use Rattle.rv_store.specs.Definitions.{definition_of, equ_line}
-use Rattle.rv_store.specs.Differing.{IsOneConstant, DiffersNowhere, HasDiffering}
+use Rattle.rv_store.specs.Differing.{IsOneConstant, DiffersNowhere, TellsAddress, moved_by, MovesBy, Tells, HasDiffering}
 use Rattle.rv_store.specs.Edits.{line_before_edit}
 use Rattle.rv_store.specs.Layout.{address_at}
-use Rattle.rv_store.specs.NameSets.{Marks, IsSized, Has, with_added}
+use Rattle.rv_store.specs.NameSets.{bucket_of, differs, IsBelow, Marks, mark_of, Has}
 use Rattle.rv_store.specs.Program.{Program, program_of, body_at}
 use Rattle.rv_store.specs.References.{by_definition, equ_value, reference_of}
 use Rattle.rv_store.specs.Rows.{number_of, entry_at, in_row, AreConstants}
@@ -27,8 +29,7 @@ use Rattle.rv_store.proofs.ConstantLaws.{constant-of_other, constant-of_later, c
 use Rattle.rv_store.proofs.DefinitionLaws.{IsWithin, definition-within}
 use Rattle.rv_store.proofs.EarlierLines.{insert_before, delete_before, replace_before}
 use Rattle.rv_store.proofs.LinePairLaws.{symbol_at_end, reference-open, body-before}
-use Rattle.rv_store.proofs.NameRows.{number-below, number-same}
-use Rattle.rv_store.proofs.NameSets.{has-added, has-kept}
+use Rattle.rv_store.proofs.NameRows.{number-below}
 use Rattle.rv_store.proofs.Programs.{length-program}
 use Rattle.rv_store.proofs.Sameness.{same_entry-Decides, same_constant-Decides}
 
@@ -142,61 +143,121 @@ module _ (before : Before) (after : SymbolRows) (is : IsBefore before) (rows : A
         let same = (same_constant-Decides (constant_of p k name) (constant_of q j name)).1 (constant k j stands) in
         λ i. not (entry i) || not (same i)
 
+    -- one that gives an address that is so much greater on all lines that are no `.equ`
+    pub moves-by_value : (shift : ℤ) → symbol_at_end after.text name ≡ moved_by shift (symbol_at_end before.symbols.text name) → MovesBy (base_before before) (lines_before before) (edit_on before) shift name
+    moves-by_value shift value k j stands no_equ no_equ' =
+        let p = program_after (lines_before before) (edit_on before) in
+        let here : symbol_at_end after.text name ≡ reference_of (base_before before) p k name =
+        reference-open after.text k name (ap (λ p. is_equ (body_at p k)) program-edited ∙ no_equ)
+        ∙ (λ i. reference_of (is_after.base i) (program-edited i) k name) in
+        sym here ∙ value ∙ ap (moved_by shift) (reference-open before.symbols.text j name no_equ')
+
+    -- a label, by the address that it had and the one that it has
+    pub tells-label : (shift : ℤ) (stood address : ℕ) → symbol_at_end after.text name ≡ Ok (pos address) → symbol_at_end before.symbols.text name ≡ Ok (pos stood) → equ_line (definition_of (program_in after.text) name) ≡ None → equ_line (definition_of (program_in before.symbols.text) name) ≡ None → (mark : Mark) → TellsAddress shift mark stood address → Tells (base_before before) (lines_before before) (edit_on before) shift mark name
+    tells-label shift stood address value value' none none' Unknown tells = absurd tells
+    tells-label shift stood address value value' none none' Same tells =
+        nowhere-by_value (value ∙ ap (λ a. Ok (pos a)) tells ∙ sym value') (one-by_none none none')
+    tells-label shift stood address value value' none none' Moved tells =
+        moves-by_value shift (value ∙ ap Ok tells ∙ sym (ap (moved_by shift) value'))
+    tells-label shift stood address value value' none none' Changed tells = tt
+
     -- one that has no number
-    pub nowhere-unnumbered : number_of after.text.names.now name ≡ None → DiffersNowhere (base_before before) (lines_before before) (edit_on before) name
-    nowhere-unnumbered none =
+    pub tells-unnumbered : (shift : ℤ) → number_of after.text.names.now name ≡ None → Tells (base_before before) (lines_before before) (edit_on before) shift Unknown name
+    tells-unnumbered shift none =
         let none' : number_of before.symbols.text.names.now name ≡ None = ap (λ names. number_of names name) (sym is_after.names) ∙ none in
         let here = sym (ap (λ f. f name) rows.text.defined.each) ∙ ap (entry_at after.text.definitions.now Nowhere) none in
         let there = sym (ap (λ f. f name) is.symbols.text.defined.each) ∙ ap (entry_at before.symbols.text.definitions.now Nowhere) none' in
-        nowhere-by_value (undefined after.text name here ∙ sym (undefined before.symbols.text name there)) (one-by_none (ap equ_line here) (ap equ_line there))
+        let value = undefined after.text name here in
+        let value' = undefined before.symbols.text name there in (
+          nowhere-by_value (value ∙ sym value') (one-by_none (ap equ_line here) (ap equ_line there)),
+          moves-by_value shift (value ∙ sym (ap (moved_by shift) value')),
+        )
+
+-- Marks
+
+module _ (base : ℕ) (lines : List (List ℕ)) (edit : Edit) (shift : ℤ) (name : List ℕ) where
+  tells-more : (mark other : Mark) → IsBelow mark other → Tells base lines edit shift mark name → Tells base lines edit shift other name
+  tells-more Unknown Unknown below tells = tells
+  tells-more Unknown Same below tells = tells.0
+  tells-more Unknown Moved below tells = tells.1
+  tells-more Unknown Changed below tells = tt
+  tells-more Same Unknown below tells = absurd below
+  tells-more Same Same below tells = tells
+  tells-more Same Moved below tells = absurd below
+  tells-more Same Changed below tells = tt
+  tells-more Moved Unknown below tells = absurd below
+  tells-more Moved Same below tells = absurd below
+  tells-more Moved Moved below tells = tells
+  tells-more Moved Changed below tells = tt
+  tells-more Changed Unknown below tells = absurd below
+  tells-more Changed Same below tells = absurd below
+  tells-more Changed Moved below tells = absurd below
+  tells-more Changed Changed below tells = tt
+
+  differs-or : (mark : Mark) → Tells base lines edit shift mark name → (differs mark ≡ true) ⊎ DiffersNowhere base lines edit name
+  differs-or Unknown tells = inr tells.0
+  differs-or Same tells = inr tells
+  differs-or Moved tells = inl refl
+  differs-or Changed tells = inl refl
 
 -- A loop over the names
 
--- each of the first n names is in the set, unless it differs nowhere
+-- the marks are true of the first n names, and of those that have no number
 abbrev pub HasDifferingBelow : (n : ℕ) → (names : List (List ℕ)) → Before → Marks → Type 0
 HasDifferingBelow n names before set =
-    (name : List ℕ) (number : ℕ) → number_of names name ≡ Some number → number < n → Has set name ⊎ DiffersNowhere (base_before before) (lines_before before) (edit_on before) name
+    (name : List ℕ) → ((number : ℕ) → number_of names name ≡ Some number → number < n)
+    → Tells (base_before before) (lines_before before) (edit_on before) set.shift (mark_of set (bucket_of name)) name
 
-module _ (before : Before) (names : List (List ℕ)) (n : ℕ) (set : Marks) (sized : IsSized set) (so_far : HasDifferingBelow n names before set) where
-  -- the next name is added
-  pub below-added : (added : List ℕ) → number_of names added ≡ Some n → HasDifferingBelow (n + 1) names before (with_added set added)
-  below-added added numbered name number is within = at (cases_lt number n)
+module _ (before : Before) (after : SymbolRows) (is : IsBefore before) (rows : AreSymbolRows after) (is_after : IsAfter before after.text) (set : Marks) where
+  -- no name has a mark yet
+  pub below-none : ((bucket : ℕ) → mark_of set bucket ≡ Unknown) → HasDifferingBelow 0 after.text.names.now before set
+  below-none none name within = at (number_of after.text.names.now name) refl
     where
-      at : (number < n) ⊎ (n ≤ number) → Has (with_added set added) name ⊎ DiffersNowhere (base_before before) (lines_before before) (edit_on before) name
-      at (inl earlier) = or_kept (so_far name number is earlier)
-        where
-          or_kept : Has set name ⊎ DiffersNowhere (base_before before) (lines_before before) (edit_on before) name → Has (with_added set added) name ⊎ DiffersNowhere (base_before before) (lines_before before) (edit_on before) name
-          or_kept (inl has) = inl (has-kept set added name sized has)
-          or_kept (inr nowhere) = inr nowhere
-      at (inr last) =
-          let here : number ≡ n = omega (arith, within, last) in
-          inl (subst (Has (with_added set added)) (number-same names added name n numbered (is ∙ ap Some here)) (has-added set added sized))
+      at : (number : Option ℕ) → number_of after.text.names.now name ≡ number → Tells (base_before before) (lines_before before) (edit_on before) set.shift (mark_of set (bucket_of name)) name
+      at None e =
+          subst (λ mark. Tells (base_before before) (lines_before before) (edit_on before) set.shift mark name) (sym (none (bucket_of name)))
+          (tells-unnumbered before after is rows is_after name set.shift e)
+      at (Some number) e = let below = within number e in absurd (omega (arith, below))
 
-  -- it differs nowhere
-  pub below-nowhere : ((name : List ℕ) → number_of names name ≡ Some n → DiffersNowhere (base_before before) (lines_before before) (edit_on before) name) → HasDifferingBelow (n + 1) names before set
-  below-nowhere nowhere name number is within = at (cases_lt number n)
+  -- all names have been looked at
+  pub all-below : (n : ℕ) → length after.text.names.now ≤ n → HasDifferingBelow n after.text.names.now before set → HasDiffering (base_before before) (lines_before before) (edit_on before) set
+  all-below n all so_far name =
+      so_far name (λ number e. let within = number-below after.text.names.now name number e in omega (arith, within, all))
+
+-- the next name is added, with a mark that is true of it
+module _ (before : Before) (names : List (List ℕ)) (n : ℕ) (set added : Marks) (still : added.shift ≡ set.shift) (so_far : HasDifferingBelow n names before set) (kept : (bucket : ℕ) → IsBelow (mark_of set bucket) (mark_of added bucket)) (mark : Mark) (bucket : ℕ) (below : IsBelow mark (mark_of added bucket)) (of_next : (name : List ℕ) → number_of names name ≡ Some n → bucket ≡ bucket_of name) (tells : (name : List ℕ) → number_of names name ≡ Some n → Tells (base_before before) (lines_before before) (edit_on before) set.shift mark name) where
+  pub below-added : HasDifferingBelow (n + 1) names before added
+  below-added name within = at (number_of names name) refl
     where
-      at : (number < n) ⊎ (n ≤ number) → Has set name ⊎ DiffersNowhere (base_before before) (lines_before before) (edit_on before) name
-      at (inl earlier) = so_far name number is earlier
-      at (inr last) =
-          let here : number ≡ n = omega (arith, within, last) in
-          inr (nowhere name (is ∙ ap Some here))
+      Told : Type 0
+      Told = Tells (base_before before) (lines_before before) (edit_on before) added.shift (mark_of added (bucket_of name)) name
 
--- all names have been looked at
-pub all-below : (before : Before) (after : SymbolRows) (n : ℕ) (set : Marks) → IsBefore before → AreSymbolRows after → IsAfter before after.text → length after.text.names.now ≤ n → HasDifferingBelow n after.text.names.now before set → HasDiffering (base_before before) (lines_before before) (edit_on before) set
-all-below before after n set is rows is_after all so_far name = at (number_of after.text.names.now name) refl
-  where
-    at : (number : Option ℕ) → number_of after.text.names.now name ≡ number → Has set name ⊎ DiffersNowhere (base_before before) (lines_before before) (edit_on before) name
-    at None e = inr (nowhere-unnumbered before after is rows is_after name e)
-    at (Some number) e =
-        let within = number-below after.text.names.now name number e in
-        so_far name number e (omega (arith, within, all))
+      from : (mark : Mark) → IsBelow mark (mark_of added (bucket_of name)) → Tells (base_before before) (lines_before before) (edit_on before) set.shift mark name → Told
+      from mark is true_of =
+          subst (λ shift. Tells (base_before before) (lines_before before) (edit_on before) shift (mark_of added (bucket_of name)) name) (sym still)
+          (tells-more (base_before before) (lines_before before) (edit_on before) set.shift name mark (mark_of added (bucket_of name)) is true_of)
+
+      again : Tells (base_before before) (lines_before before) (edit_on before) set.shift (mark_of set (bucket_of name)) name → Told
+      again = from (mark_of set (bucket_of name)) (kept (bucket_of name))
+
+      at-number : (number : ℕ) → number_of names name ≡ Some number → (number < n) ⊎ (n ≤ number) → Told
+      at-number number e (inl earlier) =
+          again (so_far name (λ other e'. let same : Some number ≡ Some other = sym e ∙ e' in let is : number ≡ other = cc in omega (arith, is, earlier)))
+      at-number number e (inr last) =
+          let most = within number e in
+          let here : number ≡ n = omega (arith, most, last) in
+          let next : number_of names name ≡ Some n = e ∙ ap Some here in
+          from mark (subst (λ b. IsBelow mark (mark_of added b)) (of_next name next) below) (tells name next)
+
+      at : (number : Option ℕ) → number_of names name ≡ number → Told
+      at None e = again (so_far name (λ number e'. absurd (let no : None ≡ Some number = sym e ∙ e' in cc)))
+      at (Some number) e = at-number number e (cases_lt number n)
 
 -- A line and the line that it was
 
 module _ (before : Before) (after : TextRows) (line earlier : ℕ) (is : IsBefore before) (is_after : IsAfter before after) (first : 1 ≤ line) (last : line ≤ length after.lines.now) (stands : line_before_edit (edit_on before) line ≡ Some earlier) (set : Marks) (has : HasDiffering (base_before before) (lines_before before) (edit_on before) set) where
   pub differing-on : is_equ (body_at (program_in after) line) ≡ false → (name : List ℕ) → Has set name ⊎ (differs_in_name (base_before before) (program_in before.symbols.text) (program_in after) line earlier name ≡ false)
-  differing-on no_equ name = at (has name)
+  differing-on no_equ name = at (differs-or (base_before before) (lines_before before) (edit_on before) set.shift name (mark_of set (bucket_of name)) (has name))
     where
       edited : program_in after ≡ program_after (lines_before before) (edit_on before)
       edited = ap program_of is_after.lines

@@ -6,6 +6,7 @@ pub mod AppendLaws
 pub mod AppendTexts
 pub mod Alignments
 pub mod ByteRuns
+pub mod CarriedJumps
 pub mod ChangeLaws
 pub mod Columns
 pub mod ConstantLaws

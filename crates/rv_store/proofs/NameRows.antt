@@ -1,5 +1,5 @@
 -- Numbers of names, and rows by these numbers.
-use Rattle.std.proofs.Common.{◌≡◌, ℕ, zero, suc, ◌+◌, ◌<◌, ◌≤◌, Bool, true, false, not, ◌-◌, cond, nat_lt, ltb, List, [], ◌∷◌, ◌++◌, ◌||◌, length, map, get_or, set, take, replicate, position, bytes_eq, Option, Some, None, option_map, if◌then◌else◌, arith, append_assoc, ap, sym, ◌∙◌, refl, ◌⊎◌, inl, inr}
+use Rattle.std.proofs.Common.{◌≡◌, ℕ, zero, suc, ◌+◌, ◌<◌, ◌≤◌, Bool, true, false, not, ◌-◌, cond, nat_lt, ltb, List, [], ◌∷◌, ◌++◌, ◌||◌, length, map, get_or, set, take, replicate, position, bytes_eq, Option, Some, None, option_map, if◌then◌else◌, arith, append_assoc, ap, sym, subst, ◌∙◌, refl, ◌⊎◌, inl, inr}
 use Rattle.std.proofs.Math.Path.{fun_ext}
 use Rattle.std.proofs.lemmas.Bool.{cases_lt, false≢true}
 use Rattle.std.proofs.lemmas.Grind.{common_steps}
@@ -7,7 +7,9 @@ use Rattle.std.proofs.lemmas.Bool.Decides.{nat_tests}
 use Rattle.std.proofs.lemmas.List.{append-nil, map-append, length-append, get_or_past, get_or-set_same, get_or-set_other, take_all, length-replicate}
 use Rattle.std.proofs.lemmas.Slice.Eq.{bytes_eq-Decides}
 use Rattle.std.specs.List.{list_any, position_or_len, AllByRecursion, IsDistinct}
+use Rattle.rv_store.specs.NameSets.{bucket_of}
 use Rattle.rv_store.specs.Rows.{number_of, entry_at, in_row, Grows}
+use Rattle.rv_store.proofs.NameSets.{bucket-below}
 
 -- Places of elements
 
@@ -150,6 +152,42 @@ grows-length old new g = let e : length new ≡ length old + length g.0 = ap len
 pub grows-inserted : {A : Type 0} (f : A → List ℕ) (b : Bool) (xs : List A) (y : A) → Grows (map f xs) (map f (if b then xs else xs ++ y ∷ []))
 grows-inserted f true xs y = grows-refl (map f xs)
 grows-inserted f false xs y = (f y ∷ [], map-append f xs (y ∷ []))
+
+absent : {A : Type 0} (p : A → Bool) (xs : List A) → position p xs ≡ None → list_any p xs ≡ false
+absent p [] e = refl
+absent p (x ∷ xs) e = at (p x) refl (position p xs) refl (sym (position-cons p x xs) ∙ e) (absent p xs)
+  where
+    at : (b : Bool) → p x ≡ b → (r : Option ℕ) → position p xs ≡ r → (if b then Some 0 else option_map suc r) ≡ None → (position p xs ≡ None → list_any p xs ≡ false) → (p x || list_any p xs) ≡ false
+    at true h r g e rest = absurd (let no : Some 0 ≡ None = e in cc)
+    at false h None g e rest = ap (λ b. b || list_any p xs) h ∙ rest g
+    at false h (Some k) g e rest = absurd (let no : Some (suc k) ≡ None = e in cc)
+
+-- a name that has no number goes last
+pub names-inserted : {A : Type 0} (f : A → List ℕ) (name : List ℕ) (xs : List A) (y : A) → f y ≡ name → number_of (map f xs) name ≡ None → map f (if list_any (λ n. bytes_eq (f y) (f n)) xs then xs else xs ++ y ∷ []) ≡ map f xs ++ name ∷ []
+names-inserted f name xs y is none =
+    let unknown : position (λ n. bytes_eq (f y) (f n)) xs ≡ None = sym (position-map (bytes_eq (f y)) f xs) ∙ ap (number_of (map f xs)) is ∙ none in
+    ap (λ b. map f (if b then xs else xs ++ y ∷ [])) (absent (λ n. bytes_eq (f y) (f n)) xs unknown)
+    ∙ map-append f xs (y ∷ [])
+    ∙ ap (λ n. map f xs ++ n ∷ []) is
+
+-- Buckets of names
+
+bucket-at : (names : List (List ℕ)) (n other : ℕ) → n < length names → get_or (map bucket_of names) n other ≡ bucket_of (get_or names n [])
+bucket-at [] n other within = absurd (omega (arith, within))
+bucket-at (name ∷ names) zero other within = refl
+bucket-at (name ∷ names) (suc n) other within = bucket-at names n other (omega (arith, within))
+
+module _ (names : List (List ℕ)) (buckets : List ℕ) (is : buckets ≡ map bucket_of names) (n bucket : ℕ) (within : n < length names) (here : bucket ≡ get_or buckets n bucket) where
+  of_place : bucket ≡ bucket_of (get_or names n [])
+  of_place = here ∙ ap (λ bs. get_or bs n bucket) is ∙ bucket-at names n bucket within
+
+  -- the bucket of the name that has this number
+  pub bucket-of_number : (name : List ℕ) → number_of names name ≡ Some n → bucket ≡ bucket_of name
+  bucket-of_number name numbered =
+      of_place ∙ ap bucket_of (sym ((bytes_eq-Decides name (get_or names n [])).0 (position-passes (bytes_eq name) names n [] numbered)))
+
+  pub bucket-of_number-below : bucket < 4096
+  bucket-of_number-below = subst (λ b. b < 4096) (sym of_place) (bucket-below (get_or names n []))
 
 -- Rows
 

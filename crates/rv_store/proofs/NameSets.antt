@@ -1,10 +1,9 @@
 -- Sets of names: what they have, and which tests no name of a line passes.
-use Rattle.std.proofs.Common.{◌≡◌, ℕ, zero, suc, ◌<◌, ◌⊎◌, inl, inr, Bool, true, false, ◌||◌, List, [], ◌∷◌, replicate, get_or, set, Option, Some, None, true≢false, arith, ap, sym, ◌∙◌, refl, subst}
+use Rattle.std.proofs.Common.{◌≡◌, ℕ, zero, suc, ◌<◌, ◌⊎◌, inl, inr, Bool, true, false, ◌||◌, List, [], ◌∷◌, replicate, get_or, Option, Some, None, true≢false, arith, ap, sym, ◌∙◌, refl}
 use Rattle.std.specs.List.{list_any, fold}
-use Rattle.std.proofs.lemmas.Bool.{cases_eq}
-use Rattle.std.proofs.lemmas.List.{length-set, get_or-set_same, get_or-set_other}
 use Rattle.rv_store.specs.declared.few_names.FewNames.{FewNames}
-use Rattle.rv_store.specs.NameSets.{next_bucket, bucket_of, Marks, IsSized, Has, with_added, no_names, with_bucket, with_name, with_names, few_of, any_bucket, meets_by}
+use Rattle.rv_store.specs.declared.name_set.Mark.TheVariants.{Unknown}
+use Rattle.rv_store.specs.NameSets.{next_bucket, bucket_of, no_names, with_bucket, with_name, with_names, few_of, any_bucket, meets_by}
 
 bucket-after : (bucket : ℕ) (name : List ℕ) → bucket < 4096 → fold next_bucket bucket name < 4096
 bucket-after bucket [] below = below
@@ -13,32 +12,11 @@ bucket-after bucket (byte ∷ bytes) below = bucket-after (next_bucket bucket by
 pub bucket-below : (name : List ℕ) → bucket_of name < 4096
 bucket-below name = bucket-after 0 name (omega arith)
 
--- no bucket is marked
-pub none-marked : (n bucket : ℕ) → get_or (replicate n false) bucket false ≡ false
+-- no bucket has a mark yet
+pub none-marked : (n bucket : ℕ) → get_or (replicate n Unknown) bucket Unknown ≡ Unknown
 none-marked zero bucket = refl
 none-marked (suc n) zero = refl
 none-marked (suc n) (suc bucket) = none-marked n bucket
-
--- A name that is added
-
-pub sized-added : (marks : Marks) (name : List ℕ) → IsSized marks → IsSized (with_added marks name)
-sized-added None name is = tt
-sized-added (Some marks) name is = length-set marks (bucket_of name) true ∙ is
-
-pub has-added : (marks : Marks) (name : List ℕ) → IsSized marks → Has (with_added marks name) name
-has-added None name is = refl
-has-added (Some marks) name is =
-    get_or-set_same marks (bucket_of name) true false (subst (λ n. bucket_of name < n) (sym is) (bucket-below name))
-
-pub has-kept : (marks : Marks) (added name : List ℕ) → IsSized marks → Has marks name → Has (with_added marks added) name
-has-kept None added name is has = refl
-has-kept (Some marks) added name is has = at (cases_eq (bucket_of name) (bucket_of added))
-  where
-    at : (bucket_of name ≡ bucket_of added) ⊎ (bucket_of name ≡ bucket_of added → ⊥) → get_or (set marks (bucket_of added) true) (bucket_of name) false ≡ true
-    at (inl same) =
-        ap (λ b. get_or (set marks (bucket_of added) true) b false) same
-        ∙ get_or-set_same marks (bucket_of added) true false (subst (λ n. bucket_of added < n) (sym is) (bucket-below added))
-    at (inr other) = get_or-set_other marks (bucket_of added) (bucket_of name) true false other ∙ has
 
 -- A few names: no name of a line passes a test if only names of some buckets do, and none of these is one of the line's
 

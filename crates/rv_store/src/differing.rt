@@ -2,12 +2,13 @@
 
 ghost use Rattle.std.specs.Prelude.{◌≡◌, ℕ, List, false, IsTrue, IfSome, IfOk};
 ghost use Rattle.rv_store.specs.Before.{IsBefore, IsAfter, base_before, lines_before, edit_on};
-ghost use Rattle.rv_store.specs.Differing.{IsOneConstant, DiffersNowhere, HasDiffering};
+ghost use Rattle.rv_store.specs.Differing.{IsOneConstant, DiffersNowhere, TellsAddress, Tells, HasDiffering};
 ghost use Rattle.rv_store.specs.Rows.{number_of, IsNumber};
 ghost use Rattle.rv_store.specs.SymbolRows.{AreSymbolRows};
 
 use crate::before::Before;
-use crate::name_set::NameSet;
+use crate::jumps::rise;
+use crate::name_set::{Mark, NameSet};
 use crate::names::entry_at;
 use crate::symbol_rows::SymbolRows;
 use rv_fix::is_same_entry;
@@ -33,21 +34,51 @@ fn is_one_constant(before: &Before<'_, '_>, after: &SymbolRows<'_>, number: Opti
     }
 }
 
-// Whether the symbol of this number, where a label defines it before the edit and after it, has another address: `None` where
-// there is no such label.
-fn label_has_moved(
-    before: &Before<'_, '_>,
-    after: &SymbolRows<'_>,
-    number: Option<usize>,
-) -> Option<bool>
+// How far the first line behind an edit moved. Where there is none, any number will do.
+fn shift_behind(before: &Before<'_, '_>, after: &SymbolRows<'_>) -> i64
     requires before { IsBefore before.now }
     requires rows { AreSymbolRows after.now }
     requires after { IsAfter before.now after.now.text }
-    ensures { IfSome result (λ moved. moved ≡ false → (name : List ℕ) → number_of after.now.text.names.now name ≡ number → DiffersNowhere (base_before before.now) (lines_before before.now) (edit_on before.now) name) }
+{
+    let line = before.edit.place().saturating_add(1);
+    if line as usize > after.text.lines.len() {
+        return 0;
+    }
+    match before.edit.line_before(line) {
+        Some(stood) => rise(&before.symbols.text, &after.text, stood, line),
+        None => 0,
+    }
+}
+
+// What is true of a label that had the one address and has the other, where the lines behind the edit moved so far.
+fn mark_of_label(shift: i64, stood: u32, address: u32) -> Mark
+    ensures { TellsAddress shift result stood address }
+{
+    if address == stood {
+        return Mark::Same;
+    }
+    if i64::from(address) - i64::from(stood) == shift {
+        return Mark::Moved;
+    }
+    Mark::Changed
+}
+
+// What is true of the symbol of this number, where a label defines it before the edit and after it: `None` where there is no such
+// label.
+fn mark_of_labels(
+    before: &Before<'_, '_>,
+    after: &SymbolRows<'_>,
+    differing: &NameSet,
+    number: Option<usize>,
+) -> Option<Mark>
+    requires before { IsBefore before.now }
+    requires rows { AreSymbolRows after.now }
+    requires after { IsAfter before.now after.now.text }
+    ensures { IfSome result (λ mark. (name : List ℕ) → number_of after.now.text.names.now name ≡ number → Tells (base_before before.now) (lines_before before.now) (edit_on before.now) differing.now.shift mark name) }
 {
     let stood = before.symbols.label_of(number)?;
     let address = after.label_of(number)?;
-    Some(address != stood)
+    Some(mark_of_label(differing.shift(), stood, address))
 }
 
 // Whether the symbol of this number may give another value or another constant on a line than it gave before.
@@ -58,15 +89,35 @@ fn may_differ(before: &Before<'_, '_>, after: &SymbolRows<'_>, number: Option<us
     requires numbered { IsNumber after.now.text.names.now number }
     ensures { result ≡ false → (name : List ℕ) → number_of after.now.text.names.now name ≡ number → DiffersNowhere (base_before before.now) (lines_before before.now) (edit_on before.now) name }
 {
-    if let Some(moved) = label_has_moved(before, after, number) {
-        return moved;
-    }
     !is_same_entry(after.value_of(number), before.symbols.value_of(number))
         || !is_one_constant(before, after, number)
 }
 
+// What is true of the symbol of this number.
+fn mark_of(
+    before: &Before<'_, '_>,
+    after: &SymbolRows<'_>,
+    differing: &NameSet,
+    number: Option<usize>,
+) -> Mark
+    requires before { IsBefore before.now }
+    requires rows { AreSymbolRows after.now }
+    requires after { IsAfter before.now after.now.text }
+    requires numbered { IsNumber after.now.text.names.now number }
+    ensures { (name : List ℕ) → number_of after.now.text.names.now name ≡ number → Tells (base_before before.now) (lines_before before.now) (edit_on before.now) differing.now.shift result name }
+{
+    if let Some(mark) = mark_of_labels(before, after, differing, number) {
+        return mark;
+    }
+    if may_differ(before, after, number) {
+        return Mark::Changed;
+    }
+    Mark::Same
+}
+
 /// The symbols that give another value or another constant on a line of the text after an edit than they gave before, and
-/// maybe others. A symbol that has no number is defined in neither text. Fails only where there is no memory.
+/// maybe others, with what is true of them. A symbol that has no number is defined in neither text. Fails only where there is no
+/// memory.
 pub fn differing_names(
     alloc: Global,
     before: &Before<'_, '_>,
@@ -78,12 +129,12 @@ pub fn differing_names(
     ensures { IfOk result (HasDiffering (base_before before.now) (lines_before before.now) (edit_on before.now)) }
 {
     let names = after.text.names;
-    let mut differing = NameSet::empty(alloc)?;
+    let shift = shift_behind(before, after);
+    let mut differing = NameSet::empty(alloc, shift)?;
     for number in 0..names.len() {
-        let name = names.name(number);
-        if may_differ(before, after, Some(number)) {
-            differing.add(name);
-        }
+        let bucket = names.bucket(number);
+        let mark = mark_of(before, after, &differing, Some(number));
+        differing.add(bucket, mark);
     }
     Ok(differing)
 }

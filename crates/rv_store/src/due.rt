@@ -1,6 +1,6 @@
 //! Which lines are due after an edit: what is kept of them is made anew.
 
-ghost use Rattle.std.specs.Prelude.{◌≡◌, ◌≤◌, not, true, false, Some, length, IfOk};
+ghost use Rattle.std.specs.Prelude.{◌≡◌, ◌≤◌, not, true, false, Some, length, IfOk, IsTrue};
 ghost use Rattle.rv_stmt.specs.declared.statement.Body.TheVariants.{Equ as EquBody};
 ghost use Rattle.rv_store.specs.Before.{IsBefore, IsAfter, base_before, lines_before, edit_on};
 ghost use Rattle.rv_store.specs.Briefs.{brief_of};
@@ -17,12 +17,12 @@ use crate::before::Before;
 use crate::brief::Brief;
 use crate::differing::differing_names;
 use crate::invalidation::{is_invalidated, may_be_invalidated};
-use crate::jumps::{differs_in_distance, differs_in_local_distance};
+use crate::jumps::{differs_in_distance, differs_in_local_distance, has_risen};
 use crate::line::Line;
 use crate::line_values::symbol_value;
 use crate::name_set::NameSet;
 use crate::symbol_rows::SymbolRows;
-use crate::text_lines::{equ_on, target_on};
+use crate::text_lines::{brief_on, equ_on, target_on};
 use rv_expr::{Expr, Node};
 use rv_stmt::Definition;
 use std::alloc::{AllocError, Global};
@@ -120,6 +120,39 @@ fn is_due(before: &Before<'_, '_>, after: &SymbolRows<'_>, differing: &NameSet, 
     }
 }
 
+// Whether a line is a jump to a symbol, and both moved as far as the lines behind the edit: the symbol is as far from it as it was. It
+// stays a call, so that the loop over the lines does not read what only jumps need.
+#[inline(never)]
+fn is_carried(
+    before: &Before<'_, '_>,
+    after: &SymbolRows<'_>,
+    differing: &NameSet,
+    line: u32,
+) -> bool
+    requires before { IsBefore before.now }
+    requires rows { AreSymbolRows after.now }
+    requires after { IsAfter before.now after.now.text }
+    requires differing { HasDiffering (base_before before.now) (lines_before before.now) (edit_on before.now) differing.now }
+    requires first { 1 ≤ line }
+    requires last { line ≤ length after.now.text.lines.now }
+    ensures { IsTrue result → is_due (base_before before.now) (lines_before before.now) (edit_on before.now) line ≡ false }
+{
+    let brief = brief_on(&after.text, line);
+    match before.edit.line_before(line) {
+        Some(stood) if brief.jump && !brief.uncompared => {
+            brief.names.has_moved(differing)
+                && has_risen(
+                    &before.symbols.text,
+                    &after.text,
+                    stood,
+                    line,
+                    differing.shift(),
+                )
+        }
+        _ => false,
+    }
+}
+
 // It is as for `is_due`, by the brief of the line, which is mostly enough.
 #[inline(always)]
 fn is_due_by_brief(
@@ -141,7 +174,7 @@ fn is_due_by_brief(
     if !may_be_invalidated(before, after, differing, brief, line) {
         return false;
     }
-    is_due(before, after, differing, line)
+    !is_carried(before, after, differing, line) && is_due(before, after, differing, line)
 }
 
 // The lines that are due, rising, where the lines of the text after the edit stand in a column.

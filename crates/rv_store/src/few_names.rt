@@ -1,7 +1,7 @@
 //! The names that a line uses, in brief.
 
-ghost use Rattle.std.specs.Prelude.{◌≡◌, ◌==◌};
-ghost use Rattle.rv_store.specs.NameSets.{any_bucket, no_names, with_name, has_bucket, meets, may_have};
+ghost use Rattle.std.specs.Prelude.{◌≡◌, ◌==◌, IsTrue};
+ghost use Rattle.rv_store.specs.NameSets.{any_bucket, no_names, with_name, has_bucket, meets, IsMoved, may_have};
 
 use crate::name_set::{NameSet, bucket_of};
 
@@ -78,6 +78,17 @@ impl FewNames {
         ensures { result ≡ meets self set.now }
     {
         self.more || has_names(set, self.first) || has_names(set, self.second)
+    }
+
+    /// Whether the first of them, if it gives an address, moved as far as the lines behind the edit.
+    #[inline]
+    pub fn has_moved(self, set: &NameSet) -> bool
+        ensures { IsTrue result → IsMoved self set.now }
+    {
+        match self.first {
+            Some(bucket) => set.has_moved(bucket),
+            None => false,
+        }
     }
 
     /// Whether one of them may be of a bucket.

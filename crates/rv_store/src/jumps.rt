@@ -1,6 +1,6 @@
 //! Jumps and the like: lines that use the address of one label, counted from their own, and nothing else.
 
-ghost use Rattle.std.specs.Prelude.{◌≡◌, ◌≤◌, ℕ, List, false, not, length};
+ghost use Rattle.std.specs.Prelude.{◌≡◌, ◌≤◌, ◌+ℤ◌, pos, ℕ, List, false, not, length, IsTrue};
 ghost use Rattle.std.specs.Option.{option_map};
 ghost use Rattle.rv_store.specs.declared.limits.TheConstants.{MAX_LINES};
 ghost use Rattle.rv_store.specs.Jumps.{target_among, target_of, distance};
@@ -10,7 +10,7 @@ ghost use Rattle.rv_store.specs.References.{address_of_line, local_line, referen
 ghost use Rattle.rv_store.specs.Rows.{number_of};
 ghost use Rattle.rv_store.specs.Sameness.{same_entry};
 ghost use Rattle.rv_store.specs.SymbolRows.{AreSymbolRows};
-ghost use Rattle.rv_store.specs.TextRows.{AreTextRows, program_in};
+ghost use Rattle.rv_store.specs.TextRows.{AreTextRows, program_in, address_in_text};
 ghost use Rattle.rv_store.specs.Uses.{is_equ};
 
 use crate::symbol_rows::SymbolRows;
@@ -19,6 +19,43 @@ use crate::text_rows::{TextRows, address_in};
 use rv_expr::{Direction, Expr, Node, ValueFault};
 use rv_fix::{Entry, displacement, is_same_entry};
 use rv_stmt::{Body, Operand, OperandValue, Role};
+
+/// Whether the address of `line` is so much greater than that of the line `stood` was.
+#[inline]
+pub fn has_risen(
+    before: &TextRows<'_>,
+    after: &TextRows<'_>,
+    stood: u32,
+    line: u32,
+    shift: i64,
+) -> bool
+    requires before { AreTextRows before.now }
+    requires after { AreTextRows after.now }
+    requires first_stood { 1 ≤ stood }
+    requires last_stood { stood ≤ length before.now.lines.now }
+    requires first { 1 ≤ line }
+    requires last { line ≤ length after.now.lines.now }
+    ensures { IsTrue result → pos (address_in_text after.now line) ≡ pos (address_in_text before.now stood) +ℤ shift }
+{
+    let here = place_on(after, line).address;
+    let there = place_on(before, stood).address;
+    i64::from(here) - i64::from(there) == shift
+}
+
+/// By how much the address of `line` is greater than that of the line `stood` was.
+#[inline]
+pub fn rise(before: &TextRows<'_>, after: &TextRows<'_>, stood: u32, line: u32) -> i64
+    requires before { AreTextRows before.now }
+    requires after { AreTextRows after.now }
+    requires first_stood { 1 ≤ stood }
+    requires last_stood { stood ≤ length before.now.lines.now }
+    requires first { 1 ≤ line }
+    requires last { line ≤ length after.now.lines.now }
+{
+    let here = place_on(after, line).address;
+    let there = place_on(before, stood).address;
+    i64::from(here) - i64::from(there)
+}
 
 // The symbol or local label that the only operand is, where its role is that of a target.
 fn target_among(operands: &[Operand]) -> Option<&Expr>

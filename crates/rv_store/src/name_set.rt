@@ -1,7 +1,8 @@
 //! Sets of names, which may also have names that were not added.
 
-ghost use Rattle.std.specs.Prelude.{◌≡◌, ◌<◌, ℕ, false, IfOk};
-ghost use Rattle.rv_store.specs.NameSets.{bucket_of, every_name, has_bucket, with_added, IsSized};
+ghost use Rattle.std.specs.Prelude.{◌≡◌, ◌<◌, ℕ, IfOk, IsTrue};
+ghost use Rattle.rv_store.specs.declared.name_set.Mark.TheVariants.{Unknown, Changed};
+ghost use Rattle.rv_store.specs.NameSets.{bucket_of, differs, IsBelow, HasMoved, mark_of, has_bucket, IsSized};
 
 use std::alloc::{AllocError, Global};
 use std::marker::Model;
@@ -22,11 +23,69 @@ pub fn bucket_of(mut name: &[u8]) -> u16
     bucket as u16
 }
 
+/// What is true of the symbols of a bucket after an edit.
+#[derive(Clone, Copy)]
+pub enum Mark {
+    /// None of them has a number.
+    Unknown,
+    /// They give what they gave.
+    Same,
+    /// They are labels, which moved as far as the lines behind the edit.
+    Moved,
+    /// They may give anything else.
+    Changed,
+}
+
+impl Mark {
+    // What is true of all symbols of which the one or the other is.
+    fn with(self, other: Mark) -> Mark
+        ensures first { IsBelow self result }
+        ensures second { IsBelow other result }
+    {
+        match self {
+            Mark::Unknown => other,
+            Mark::Same => match other {
+                Mark::Unknown | Mark::Same => Mark::Same,
+                Mark::Moved | Mark::Changed => Mark::Changed,
+            },
+            Mark::Moved => match other {
+                Mark::Unknown | Mark::Moved => Mark::Moved,
+                Mark::Same | Mark::Changed => Mark::Changed,
+            },
+            Mark::Changed => Mark::Changed,
+        }
+    }
+
+    // Whether one of the symbols may differ.
+    #[inline]
+    fn differs(self) -> bool
+        ensures { result ≡ differs self }
+    {
+        match self {
+            Mark::Unknown | Mark::Same => false,
+            Mark::Moved | Mark::Changed => true,
+        }
+    }
+
+    // Whether each of the symbols that gives an address moved as far as the lines behind the edit.
+    #[inline]
+    fn has_moved(self) -> bool
+        ensures { IsTrue result → HasMoved self }
+    {
+        match self {
+            Mark::Unknown | Mark::Moved => true,
+            Mark::Same | Mark::Changed => false,
+        }
+    }
+}
+
 /// A set of names: it has all names of a bucket of which one was added. Contracts see a mark for each bucket, or none where the set
-/// has every name.
+/// has every name, and how far lines moved.
 #[derive(Drop)]
 pub struct NameSet {
-    marks: Option<Vec<bool>>,
+    // How far the lines behind the edit moved.
+    shift: i64,
+    marks: Option<Vec<Mark>>,
 }
 
 impl Model for NameSet {
@@ -35,47 +94,81 @@ impl Model for NameSet {
 
     ghost Value = { Marks };
 
-    ghost view = { λ s. option_map (λ m. m.items) s.marks };
+    ghost view = { λ s. record { shift = s.shift; marks = option_map (λ m. m.items) s.marks } };
 
     ghost invariant = { λ s. IsSized (option_map (λ m. m.items) s.marks) };
 }
 
 impl NameSet {
-    /// The set of no names.
-    pub fn empty(alloc: Global) -> Result<NameSet, AllocError>
-        ensures none { IfOk result (λ set. (bucket : ℕ) → has_bucket set bucket ≡ false) }
-        ensures sized { IfOk result IsSized }
+    /// The set of no names, where the lines behind the edit moved so far.
+    pub fn empty(alloc: Global, shift: i64) -> Result<NameSet, AllocError>
+        ensures none { IfOk result (λ set. (bucket : ℕ) → mark_of set bucket ≡ Unknown) }
+        ensures shift { IfOk result (λ set. set.shift ≡ shift) }
     {
-        let marks = vec![in alloc; false; BUCKETS]?;
-        Ok(NameSet { marks: Some(marks) })
+        let marks = vec![in alloc; Mark::Unknown; BUCKETS]?;
+        Ok(NameSet {
+            shift,
+            marks: Some(marks),
+        })
     }
 
     /// The set of all names, which takes no memory.
     pub fn every() -> NameSet
-        ensures { result ≡ every_name }
+        ensures { (bucket : ℕ) → mark_of result bucket ≡ Changed }
     {
-        NameSet { marks: None }
-    }
-
-    /// Adds a name.
-    pub fn add(&mut self, name: &[u8])
-        ensures added { self.new ≡ with_added self.old name.now }
-    {
-        if let Some(marks) = &mut self.marks {
-            marks[usize::from(bucket_of(name))] = true;
+        NameSet {
+            shift: 0,
+            marks: None,
         }
     }
 
-    /// Whether it has the names of a bucket.
-    pub fn has(&self, bucket: u16) -> bool
-        ensures { result ≡ has_bucket self.now bucket }
+    /// How far the lines behind the edit moved.
+    pub fn shift(&self) -> i64
+        ensures { result ≡ self.now.shift }
+    {
+        self.shift
+    }
+
+    /// Adds a name of this bucket, of which this is true.
+    pub fn add(&mut self, bucket: u16, mark: Mark)
+        requires { bucket < 4096 }
+        ensures kept { (other : ℕ) → IsBelow (mark_of self.old other) (mark_of self.new other) }
+        ensures added { IsBelow mark (mark_of self.new bucket) }
+        ensures shift { self.new.shift ≡ self.old.shift }
+    {
+        if let Some(marks) = &mut self.marks {
+            let place = usize::from(bucket);
+            marks[place] = marks[place].with(mark);
+        }
+    }
+
+    // What is true of the names of a bucket.
+    #[inline]
+    fn mark(&self, bucket: u16) -> Mark
+        ensures { result ≡ mark_of self.now bucket }
     {
         match &self.marks {
             Some(marks) => match marks.get(usize::from(bucket)) {
                 Some(mark) => *mark,
-                None => false,
+                None => Mark::Unknown,
             },
-            None => true,
+            None => Mark::Changed,
         }
+    }
+
+    /// Whether it has the names of a bucket.
+    #[inline]
+    pub fn has(&self, bucket: u16) -> bool
+        ensures { result ≡ has_bucket self.now bucket }
+    {
+        self.mark(bucket).differs()
+    }
+
+    /// Whether each name of a bucket that gives an address moved as far as the lines behind the edit.
+    #[inline]
+    pub fn has_moved(&self, bucket: u16) -> bool
+        ensures { IsTrue result → HasMoved (mark_of self.now bucket) }
+    {
+        self.mark(bucket).has_moved()
     }
 }

@@ -1,8 +1,10 @@
 //! Names that have numbers.
 
-ghost use Rattle.std.specs.Prelude.{◌≡◌, ◌<◌, [], Some, length, IfSome, IfOk};
-ghost use Rattle.rv_store.specs.Rows.{number_of, entry_at, in_row, Grows};
+ghost use Rattle.std.specs.Prelude.{◌≡◌, ◌<◌, ℕ, List, [], Some, length, IfSome, IfOk};
+ghost use Rattle.rv_store.specs.NameSets.{bucket_of};
+ghost use Rattle.rv_store.specs.Rows.{number_of, IsNumber, entry_at, in_row, Grows};
 
+use crate::name_set::bucket_of;
 use indexmap::IndexSet;
 use std::alloc::{AllocError, Global};
 use std::marker::Model;
@@ -11,6 +13,8 @@ use std::marker::Model;
 #[derive(Drop)]
 pub struct NameTable {
     names: IndexSet<Vec<u8>>,
+    // The bucket of each name.
+    buckets: Vec<u16>,
 }
 
 impl Model for NameTable {
@@ -19,6 +23,11 @@ impl Model for NameTable {
     ghost Value = { List (List ℕ) };
 
     ghost view = { λ t. map (λ n. n.items) t.names.keys };
+
+    ghost use Rattle.std.specs.Prelude.{◌≡◌};
+    ghost use Rattle.rv_store.specs.NameSets.{bucket_of};
+
+    ghost invariant = { λ t. t.buckets.items ≡ map bucket_of (map (λ n. n.items) t.names.keys) };
 }
 
 impl NameTable {
@@ -28,6 +37,7 @@ impl NameTable {
     {
         NameTable {
             names: IndexSet::new(alloc),
+            buckets: Vec::new(alloc),
         }
     }
 
@@ -54,6 +64,17 @@ impl NameTable {
         self.names.as_slice()[number].as_slice()
     }
 
+    /// The bucket of the name that has this number.
+    pub fn bucket(&self, number: usize) -> u16
+        requires { number < length self.now }
+        ensures bucket { (name : List ℕ) → number_of self.now name ≡ Some number → result ≡ bucket_of name }
+        ensures below { result < 4096 }
+        ensures numbered { IsNumber self.now (Some number) }
+    {
+        let _name = self.name(number);
+        self.buckets[number]
+    }
+
     /// The number of a name, which gets the next one if it has none. Names that have numbers keep them, also where there is
     /// no memory for one more.
     pub fn intern(&mut self, alloc: Global, name: &[u8]) -> Result<usize, AllocError>
@@ -64,7 +85,9 @@ impl NameTable {
             return Ok(number);
         }
         let owned = Vec::from_slice(alloc, name)?;
+        self.buckets.reserve(1)?;
         let (number, _) = self.names.insert_full(owned)?;
+        self.buckets.push_reserved(bucket_of(name));
         Ok(number)
     }
 }

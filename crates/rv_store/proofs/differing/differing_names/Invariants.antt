@@ -1,11 +1,9 @@
 use Rattle.std.proofs.Common.{◌≤◌, length}
-use Rattle.rv_store.specs.NameSets.{IsSized}
 use Rattle.rv_store.proofs.DifferingNames.{HasDifferingBelow}
 use Rattle.rv_store.proofs.differing.differing_names.Given as goal
 
 abbrev pub invariant-loop-number : goal.invariant-loop-number
 invariant-loop-number l = record {
   within : l.number ≤ length l.after.text.names.now;
-  sized : IsSized l.differing;
   so_far : HasDifferingBelow l.number l.after.text.names.now l.before l.differing;
 }
