@@ -1,5 +1,5 @@
 -- Lines that an edit does not invalidate, by their briefs.
-use Rattle.std.proofs.Common.{◌≡◌, ℕ, ◌≤◌, false, ◌&&◌, ◌||◌, length, Option, Some, None, ap, sym, ◌∙◌, refl}
+use Rattle.std.proofs.Common.{◌≡◌, ℕ, ◌≤◌, Bool, true, false, not, true≢false, ◌&&◌, ◌||◌, List, [], ◌∷◌, length, Option, Some, None, ap, sym, ◌∙◌, refl}
 use Rattle.std.specs.List.{list_any}
 use Rattle.std.proofs.lemmas.Bool.{or_parts}
 use Rattle.rv_stmt.specs.declared.statement.Body.{Body}
@@ -14,10 +14,18 @@ use Rattle.rv_store.specs.Edits.{line_before_edit}
 use Rattle.rv_store.specs.NameSets.{Marks, few_of, has_bucket, meets}
 use Rattle.rv_store.specs.Program.{Program, statement_at, body_at}
 use Rattle.rv_store.specs.TextRows.{program_in}
-use Rattle.rv_store.specs.Uses.{names_used, uses_address, uses_local_label, uses_paired_high, is_equ}
+use Rattle.rv_store.specs.Uses.{names_used, uses_symbols, uses_address, uses_local_label, uses_paired_high, is_equ}
 use Rattle.rv_store.proofs.DifferingNames.{differing-on}
 use Rattle.rv_store.proofs.LinePairLaws.{same-by_brief, invalidated-by_uses}
 use Rattle.rv_store.proofs.NameSets.{none-passes}
+
+not-true : (b : Bool) → not b ≡ true → b ≡ false
+not-true false h = refl
+not-true true h = absurd (true≢false (sym h))
+
+no-names : (names : List (List ℕ)) → list_any (λ name. true) names ≡ false → names ≡ []
+no-names [] none = refl
+no-names (n ∷ ns) none = absurd (true≢false none)
 
 module _ (before : Before) (after : TextRows) (line : ℕ) (is : IsBefore before) (is_after : IsAfter before after) (first : 1 ≤ line) (last : line ≤ length after.lines.now) (set : Marks) (has : HasDiffering (base_before before) (lines_before before) (edit_on before) set) (brief : Brief) (of_line : brief ≡ brief_of (statement_at (program_in after) line)) where
   -- a line that stayed, and uses no symbol that differs, nor its own address where it moved, nor what is not compared
@@ -51,3 +59,16 @@ module _ (before : Before) (after : TextRows) (line : ℕ) (is : IsBefore before
           ap (λ used. used && differs_in_place (base_before before) old new line stood) (sym (ap (λ b. b.address) of_line)) ∙ place stood stands in
           invalidated-by_uses before after line stood is is_after first last stands
           ∙ same-by_brief (base_before before) old new line stood body names unmoved compared_body
+
+  -- a line that stayed, and uses no symbol, nor its own address, nor what is not compared
+  pub valid-by_plain : (line_before_edit (edit_on before) line ≡ None → ⊥) → brief.plain ≡ true → is_invalidated (base_before before) (lines_before before) (edit_on before) line ≡ false
+  valid-by_plain stays plain =
+      let body = body_at (program_in after) line in
+      let uncompared = uses_local_label body || uses_paired_high body || is_equ body in
+      let nothing : (uses_symbols body || uses_address body || uncompared) ≡ false = not-true _ (sym (ap (λ b. b.plain) of_line) ∙ plain) in
+      let others = or_parts (uses_symbols body || uses_address body) uncompared nothing in
+      let both = or_parts (uses_symbols body) (uses_address body) others.0 in
+      let names : names_used body ≡ [] = no-names (names_used body) both.0 in
+      valid-by_brief stays (ap (λ b. b.uncompared) of_line ∙ others.1)
+      (ap (λ b. meets b.names set) of_line ∙ ap (λ ns. meets (few_of ns) set) names)
+      (λ stood stands. ap (λ used. used && differs_in_place (base_before before) (program_in before.symbols.text) (program_in after) line stood) (ap (λ b. b.address) of_line ∙ both.1))

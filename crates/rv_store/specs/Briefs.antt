@@ -21,4 +21,5 @@ brief_of s = record {
   address = uses_address s.body;
   jump = is_some (target_of s.body);
   uncompared = uses_local_label s.body || uses_paired_high s.body || is_equ s.body;
+  plain = not (uses_symbols s.body || uses_address s.body || (uses_local_label s.body || uses_paired_high s.body || is_equ s.body));
 }

@@ -1,6 +1,6 @@
 //! What lines have to do with other lines, in brief.
 
-ghost use Rattle.std.specs.Prelude.{◌≡◌, ◌||◌};
+ghost use Rattle.std.specs.Prelude.{◌≡◌, ◌||◌, not};
 ghost use Rattle.rv_store.specs.Briefs.{brief_of};
 ghost use Rattle.rv_store.specs.Uses.{uses_local_label, uses_paired_high, is_equ};
 
@@ -37,6 +37,8 @@ pub struct Brief {
     pub jump: bool,
     /// It uses a local label or `%pcrel_lo`, or is an `.equ`: what such a line uses is not compared.
     pub uncompared: bool,
+    /// It is none of this: it uses no symbol, nor its own address, nor what is not compared.
+    pub plain: bool,
 }
 
 impl Brief {
@@ -45,19 +47,30 @@ impl Brief {
         ensures { result ≡ brief_of stmt.now }
     {
         let body = &stmt.body;
+        let symbols = uses_symbols(body);
+        let address = uses_address(body);
+        let uncompared = is_uncompared(body);
         Brief {
             labels: !stmt.labels.as_slice().is_empty(),
             local_labels: has_local_labels(stmt.labels.as_slice()),
             equ: is_equ(body),
             pcrel_high: pcrel_high(body).is_some(),
             sized: is_sized(body),
-            symbols: uses_symbols(body),
+            symbols,
             names: brief_names(body),
-            address: uses_address(body),
+            address,
             jump: target(body).is_some(),
-            uncompared: is_uncompared(body),
+            uncompared,
+            plain: is_plain(symbols, address, uncompared),
         }
     }
+}
+
+// Whether a line does none of this.
+fn is_plain(symbols: bool, address: bool, uncompared: bool) -> bool
+    ensures { result ≡ not (symbols || address || uncompared) }
+{
+    !symbols && !address && !uncompared
 }
 
 // Whether a line uses what is not compared.

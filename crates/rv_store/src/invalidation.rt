@@ -108,6 +108,9 @@ pub fn may_be_invalidated(
     requires last { line ≤ length after.now.text.lines.now }
     ensures { result ≡ false → is_invalidated (base_before before.now) (lines_before before.now) (edit_on before.now) line ≡ false }
 {
+    if brief.plain && line != before.edit.place() {
+        return false;
+    }
     if line == before.edit.place() || brief.uncompared || brief.names.meets(differing) {
         return true;
     }
