@@ -1,11 +1,8 @@
 -- A name that is a constant has its value.
-use Rattle.std.proofs.Common.{◌≡◌, ℕ, ℤ, zero, suc, ◌-◌, ◌≤◌, Bool, true, false, List, [], ◌∷◌, length, Option, Some, None, Result, Ok, Err, if◌then◌else◌, arith, ap, sym, refl, ◌∙◌}
-use Rattle.std.specs.Prelude.{nat_le}
+use Rattle.std.proofs.Common.{◌≡◌, ℕ, ℤ, zero, suc, ◌-◌, ◌≤◌, Bool, true, false, List, [], ◌∷◌, length, Option, Some, None, Ok, Err, if◌then◌else◌, arith, ap, sym, refl, ◌∙◌}
 use Rattle.std.specs.Result.{result_ok}
 use Rattle.std.proofs.lemmas.Bool.{le-leb}
-use Rattle.rv_text.specs.declared.faults.Fault.{Fault}
 use Rattle.rv_text.specs.declared.lexeme.Span.{Span}
-use Rattle.rv_expr.specs.declared.faults.ValueFault.{ValueFault}
 use Rattle.rv_expr.specs.declared.faults.ValueFault.TheVariants.{NotConstant, LaterEqu}
 use Rattle.rv_expr.specs.Arithmetic.{apply, apply_unary}
 use Rattle.rv_expr.specs.Tree.{Tree, Number, Symbol, Local, Here, Unary, Binary}
@@ -17,7 +14,6 @@ use Rattle.rv_stmt.specs.declared.statement.Body.{Body}
 use Rattle.rv_stmt.specs.declared.statement.Body.TheVariants.{Equ as EquBody}
 use Rattle.rv_layout.specs.Shapes.{or_not_constant, constants, is_size, value_of_constant, value_at, constant_of_operand}
 use Rattle.rv_fix.specs.Values.{Entry, for_constants, given_to, operand_value}
-use Rattle.rv_list.specs.declared.view.DefinitionPlace.TheVariants.{Equ}
 use Rattle.rv_store.specs.Constants.{defined_value, first_value, value_without_modifier, constant_through, constant_of}
 use Rattle.rv_store.specs.Definitions.{definition_of, is_equ_on}
 use Rattle.rv_store.specs.Layout.{address_at}

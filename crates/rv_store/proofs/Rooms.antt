@@ -1,14 +1,12 @@
 -- What shapes do to the layout: where they take the same room, all lines lie where they lay.
-use Rattle.std.proofs.Common.{◌≡◌, ℕ, zero, suc, ◌+◌, ◌-◌, ◌==◌, ◌⊎◌, inl, inr, ◌<◌, ◌≤◌, List, [], ◌∷◌, ◌++◌, length, map, take, get_or, if◌then◌else◌, arith, ap, sym, ◌∙◌, refl}
-use Rattle.std.proofs.lemmas.Bool.{cases_lt}
-use Rattle.std.proofs.lemmas.List.{get_or-map, get_or_past, length-map, map-append, take-map}
-use Rattle.std.proofs.Math.Path.{fun_ext}
+use Rattle.std.proofs.Common.{◌≡◌, ℕ, zero, suc, ◌+◌, ◌-◌, ◌==◌, List, [], ◌∷◌, ◌++◌, map, take, get_or, if◌then◌else◌, ap, ◌∙◌, refl}
+use Rattle.std.proofs.lemmas.List.{map-append, take-map}
 use Rattle.rv_stmt.specs.declared.section.Sect.{Sect}
 use Rattle.rv_stmt.specs.declared.section.Sect.TheVariants.{Text}
 use Rattle.rv_layout.specs.declared.measured.Measured.{Measured}
 use Rattle.rv_layout.specs.declared.measured.Measured.TheVariants.{Bytes, Align, Switch, Nothing, Faulty}
 use Rattle.rv_layout.specs.Effects.{join, effect_of, layout_of}
-use Rattle.rv_layout.specs.Places.{section_after, offset_after, section_through, offset_through, section_of, offset_of, section_end_of, section_base_of, base_from, size_at, line_size_of, address_of}
+use Rattle.rv_layout.specs.Places.{section_after, offset_after, section_through, offset_through, section_of, offset_of, section_end_of, base_from, size_at, line_size_of, address_of}
 use Rattle.rv_layout.specs.Sections.{section_number}
 use Rattle.rv_store.specs.Alike.{room_of}
 use Rattle.rv_store.specs.Program.{for_lines}

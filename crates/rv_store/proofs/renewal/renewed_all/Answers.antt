@@ -1,4 +1,3 @@
-use Rattle.std.proofs.Common.{◌∙◌}
 use Rattle.rv_store.proofs.renewal.renewed_all.Goals as goal
 
 pub returns-clause-counted : goal.returns-clause-counted

@@ -1,7 +1,6 @@
-use Rattle.std.proofs.Common.{◌≡◌, ◌+◌, ◌<◌, ◌≤◌, [], ◌∷◌, ◌++◌, length, arith, ap, sym, subst, ◌∙◌}
-use Rattle.rv_layout.specs.Effects.{layout_of, offset_reached}
-use Rattle.rv_layout.specs.Places.{sum_below, AreLimited}
-use Rattle.rv_layout.specs.Sections.{sections}
+use Rattle.std.proofs.Common.{◌<◌, ◌≤◌, [], ◌∷◌, ◌++◌, length, arith, ap, sym, subst, ◌∙◌}
+use Rattle.rv_layout.specs.Effects.{layout_of}
+use Rattle.rv_layout.specs.Places.{AreLimited}
 use Rattle.rv_store.specs.Ends.{place_by_shapes}
 use Rattle.rv_store.specs.Program.{for_lines}
 use Rattle.rv_store.proofs.Endings.{together-before, together-all, place-fits, place-is}
