@@ -1,4 +1,5 @@
 pub mod Contents
+pub mod Counts
 pub mod Passes
 pub mod PassLaws
 pub mod Refusals

@@ -3,6 +3,7 @@
 #![tactic(auto)]
 
 mod balance;
+mod counted;
 mod edits;
 mod error;
 mod items;
@@ -14,6 +15,7 @@ mod rewriting;
 mod sums;
 mod tree;
 
+pub use counted::CountedPass;
 pub use error::TreeError;
 pub use items::Items;
 pub use limits::{MAX_HEIGHT, MAX_ITEMS};
