@@ -19,6 +19,7 @@ use Rattle.rv_store.specs.declared.brief.Brief.{Brief}
 use Rattle.rv_store.specs.declared.name_set.Mark.{Mark}
 use Rattle.rv_store.specs.declared.name_set.Mark.TheVariants.{Unknown, Same, Moved, Changed}
 use Rattle.rv_store.specs.declared.text_rows.TextRows.{TextRows}
+use Rattle.rv_store.specs.declared.used_names.UsedNames.TheVariants.{Few}
 use Rattle.rv_store.specs.Before.{IsBefore, IsAfter, base_before, lines_before, edit_on}
 use Rattle.rv_store.specs.Briefs.{brief_of}
 use Rattle.rv_store.specs.Changes.{is_reencoded, is_due}
@@ -26,7 +27,7 @@ use Rattle.rv_store.specs.Differing.{moved_by, MovesBy, Tells, HasDiffering}
 use Rattle.rv_store.specs.Edits.{line_before_edit}
 use Rattle.rv_store.specs.Jumps.{label_in, target_in, target_among, target_of, distance}
 use Rattle.rv_store.specs.Layout.{address_at}
-use Rattle.rv_store.specs.NameSets.{bucket_of, Marks, mark_of, few_of, HasMoved, IsMoved}
+use Rattle.rv_store.specs.NameSets.{bucket_of, Marks, mark_of, brief_of_names, HasMoved, IsMoved}
 use Rattle.rv_store.specs.Program.{program_of, statement_at, body_at}
 use Rattle.rv_store.specs.References.{reference_of}
 use Rattle.rv_store.specs.Text.{Edit}
@@ -105,7 +106,7 @@ module _ (before : Before) (after : TextRows) (line stood : ℕ) (is : IsBefore 
           let there = body-before before after line stood is is_after first last stands in
           let goes' : target_of body ≡ Some (Tree.Symbol name) = goes ∙ ap Some only.1 in
           let bucket : carried.0 ≡ bucket_of name =
-          (let same : Some carried.0 ≡ Some (bucket_of name) = sym carried.1 ∙ ap (λ b. b.names.first) of_line ∙ ap (λ names. (few_of names).first) only.2 in cc) in
+          (let same : Few (Some carried.0) None ≡ Few (Some (bucket_of name)) None = sym carried.1 ∙ ap (λ b. b.names) of_line ∙ ap brief_of_names only.2 in cc) in
           let moves : MovesBy (base_before before) (lines_before before) (edit_on before) shift name =
           moves-by (base_before before) (lines_before before) (edit_on before) name shift (mark_of set (bucket_of name)) (subst (λ b. HasMoved (mark_of set b)) bucket carried.2) (has name) in
           let no_equ : is_equ body ≡ false = jump-open body target goes in

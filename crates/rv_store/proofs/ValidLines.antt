@@ -11,7 +11,7 @@ use Rattle.rv_store.specs.Briefs.{brief_of}
 use Rattle.rv_store.specs.Changes.{differs_in_name, differs_in_place, is_invalidated}
 use Rattle.rv_store.specs.Differing.{HasDiffering}
 use Rattle.rv_store.specs.Edits.{line_before_edit}
-use Rattle.rv_store.specs.NameSets.{Marks, few_of, has_bucket, meets}
+use Rattle.rv_store.specs.NameSets.{Marks, brief_of_names, has_bucket, may_have, IsApart}
 use Rattle.rv_store.specs.Program.{Program, statement_at, body_at}
 use Rattle.rv_store.specs.TextRows.{program_in}
 use Rattle.rv_store.specs.Uses.{names_used, uses_symbols, uses_address, uses_local_label, uses_paired_high, is_equ}
@@ -29,7 +29,7 @@ no-names (n ∷ ns) none = absurd (true≢false none)
 
 module _ (before : Before) (after : TextRows) (line : ℕ) (is : IsBefore before) (is_after : IsAfter before after) (first : 1 ≤ line) (last : line ≤ length after.lines.now) (set : Marks) (has : HasDiffering (base_before before) (lines_before before) (edit_on before) set) (brief : Brief) (of_line : brief ≡ brief_of (statement_at (program_in after) line)) where
   -- a line that stayed, and uses no symbol that differs, nor its own address where it moved, nor what is not compared
-  pub valid-by_brief : (line_before_edit (edit_on before) line ≡ None → ⊥) → brief.uncompared ≡ false → meets brief.names set ≡ false → ((stood : ℕ) → line_before_edit (edit_on before) line ≡ Some stood → (brief.address && differs_in_place (base_before before) (program_in before.symbols.text) (program_in after) line stood) ≡ false) → is_invalidated (base_before before) (lines_before before) (edit_on before) line ≡ false
+  pub valid-by_brief : (line_before_edit (edit_on before) line ≡ None → ⊥) → brief.uncompared ≡ false → IsApart brief.names set → ((stood : ℕ) → line_before_edit (edit_on before) line ≡ Some stood → (brief.address && differs_in_place (base_before before) (program_in before.symbols.text) (program_in after) line stood) ≡ false) → is_invalidated (base_before before) (lines_before before) (edit_on before) line ≡ false
   valid-by_brief stays compared apart place = at (line_before_edit (edit_on before) line) refl
     where
       old : Program
@@ -47,8 +47,8 @@ module _ (before : Before) (after : TextRows) (line : ℕ) (is : IsBefore before
       no_equ : is_equ body ≡ false
       no_equ = (or_parts (uses_local_label body || uses_paired_high body) (is_equ body) compared_body).1
 
-      apart_body : meets (few_of (names_used body)) set ≡ false
-      apart_body = sym (ap (λ b. meets b.names set) of_line) ∙ apart
+      apart_body : IsApart (brief_of_names (names_used body)) set
+      apart_body bucket has = sym (ap (λ b. may_have b.names bucket) of_line) ∙ apart bucket has
 
       at : (stood : Option ℕ) → line_before_edit (edit_on before) line ≡ stood → is_invalidated (base_before before) (lines_before before) (edit_on before) line ≡ false
       at None new_line = absurd (stays new_line)
@@ -70,5 +70,5 @@ module _ (before : Before) (after : TextRows) (line : ℕ) (is : IsBefore before
       let both = or_parts (uses_symbols body) (uses_address body) others.0 in
       let names : names_used body ≡ [] = no-names (names_used body) both.0 in
       valid-by_brief stays (ap (λ b. b.uncompared) of_line ∙ others.1)
-      (ap (λ b. meets b.names set) of_line ∙ ap (λ ns. meets (few_of ns) set) names)
+      (λ bucket has. ap (λ b. may_have b.names bucket) of_line ∙ ap (λ ns. may_have (brief_of_names ns) bucket) names)
       (λ stood stands. ap (λ used. used && differs_in_place (base_before before) (program_in before.symbols.text) (program_in after) line stood) (ap (λ b. b.address) of_line ∙ both.1))

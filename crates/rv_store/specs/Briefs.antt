@@ -3,7 +3,7 @@ use Rattle.std.specs.Prelude.{◌==◌, not, ◌||◌, length}
 use Rattle.std.specs.Option.{is_some}
 use Rattle.rv_stmt.specs.declared.statement.Stmt.{Stmt}
 use Rattle.rv_store.specs.declared.brief.Brief.{Brief}
-use Rattle.rv_store.specs.NameSets.{few_of}
+use Rattle.rv_store.specs.NameSets.{brief_of_names}
 use Rattle.rv_store.specs.Jumps.{target_of}
 use Rattle.rv_store.specs.Locals.{has_local_labels}
 use Rattle.rv_store.specs.Pairs.{pcrel_high_of}
@@ -17,7 +17,7 @@ brief_of s = record {
   pcrel_high = is_some (pcrel_high_of s.body);
   sized = is_sized s.body;
   symbols = uses_symbols s.body;
-  names = few_of (names_used s.body);
+  names = brief_of_names (names_used s.body);
   address = uses_address s.body;
   jump = is_some (target_of s.body);
   uncompared = uses_local_label s.body || uses_paired_high s.body || is_equ s.body;

@@ -1,7 +1,11 @@
 -- Sets of names by their buckets: a set that has a name has all names of its bucket.
-use Rattle.std.specs.Prelude.{◌≡◌, ℕ, ℤ, ◌+◌, ◌*◌, ◌%◌, ◌==◌, Bool, true, false, ◌||◌, List, length, get_or, Option, Some, None}
+use Rattle.std.specs.Prelude.{◌≡◌, ℕ, ℤ, ◌+◌, ◌-◌, ◌*◌, ◌/◌, ◌%◌, ◌^◌, ◌==◌, Bool, true, false, not, ◌||◌, List, length, get_or, Option, Some, None}
+use Rattle.std.specs.Int.{bit_at}
+use Rattle.std.specs.Int.Bits.{bit_and, bit_or}
 use Rattle.std.specs.List.{fold}
-use Rattle.rv_store.specs.declared.few_names.FewNames.{FewNames}
+use Rattle.rv_store.specs.declared.groups.Groups.{Groups}
+use Rattle.rv_store.specs.declared.used_names.UsedNames.{UsedNames}
+use Rattle.rv_store.specs.declared.used_names.UsedNames.TheVariants.{Few, Many}
 use Rattle.rv_store.specs.declared.name_set.Mark.{Mark}
 use Rattle.rv_store.specs.declared.name_set.Mark.TheVariants.{Unknown, Same, Moved, Changed}
 
@@ -37,6 +41,30 @@ HasMoved Unknown = Unit {0}
 HasMoved Moved = Unit {0}
 HasMoved mark = ⊥
 
+-- Groups of buckets: there are 64
+
+abbrev pub bits_of : Groups → ℕ
+bits_of groups = groups.high * 2 ^ 32 + groups.low
+
+abbrev pub groups_of : (bits : ℕ) → Groups
+groups_of bits = record { low = bits % 2 ^ 32; high = bits / 2 ^ 32 % 2 ^ 32 }
+
+abbrev pub no_groups : Groups
+no_groups = record { low = 0; high = 0 }
+
+abbrev pub every_group : Groups
+every_group = record { low = 2 ^ 32 - 1; high = 2 ^ 32 - 1 }
+
+-- with the group of a bucket
+abbrev pub with_group : Groups → (bucket : ℕ) → Groups
+with_group groups bucket = groups_of (bit_or (bits_of groups) (2 ^ (bucket % 64)))
+
+abbrev pub has_group : Groups → (bucket : ℕ) → Bool
+has_group groups bucket = bit_at (bits_of groups) (bucket % 64) == 1
+
+abbrev pub share_group : Groups → Groups → Bool
+share_group groups others = not (bit_and (bits_of groups) (bits_of others) == 0)
+
 -- Sets of any number of names: a mark for each bucket, or none where the set has every name, and how far the lines behind the edit
 -- moved
 
@@ -55,6 +83,10 @@ mark_among (Some marks) bucket = get_or marks bucket Unknown
 abbrev pub mark_of : Marks → (bucket : ℕ) → Mark
 mark_of set bucket = mark_among set.marks bucket
 
+-- each bucket of which a name may differ is in one of these groups
+abbrev pub AreGrouped : Option (List Mark) → Groups → Type 0
+AreGrouped marks groups = (bucket : ℕ) → differs (mark_among marks bucket) ≡ true → has_group groups bucket ≡ true
+
 abbrev pub has_bucket : Marks → (bucket : ℕ) → Bool
 has_bucket marks bucket = differs (mark_of marks bucket)
 
@@ -62,41 +94,39 @@ has_bucket marks bucket = differs (mark_of marks bucket)
 abbrev pub Has : Marks → (name : List ℕ) → Type 0
 Has marks name = has_bucket marks (bucket_of name) ≡ true
 
--- A few names: the buckets of two, and whether there are more
+-- The names that a line uses: the buckets of one or two, or the groups of the buckets of more
 
-abbrev pub no_names : FewNames
-no_names = record { first = None; second = None; more = false }
+abbrev pub no_names : UsedNames
+no_names = Few None None
 
-abbrev pub with_bucket : (first second : Option ℕ) → (more : Bool) → (bucket : ℕ) → FewNames
-with_bucket None second more bucket = record { first = Some bucket; second = second; more = more }
-with_bucket (Some first) None more bucket = record { first = Some first; second = Some bucket; more = more }
-with_bucket (Some first) (Some second) more bucket = record { first = Some first; second = Some second; more = true }
+abbrev pub with_bucket : UsedNames → (bucket : ℕ) → UsedNames
+with_bucket (Few None second) bucket = Few (Some bucket) second
+with_bucket (Few (Some first) None) bucket = Few (Some first) (Some bucket)
+with_bucket (Few (Some first) (Some second)) bucket = Many (with_group (with_group (with_group no_groups first) second) bucket)
+with_bucket (Many groups) bucket = Many (with_group groups bucket)
 
-abbrev pub with_name : FewNames → (name : List ℕ) → FewNames
-with_name few name = with_bucket few.first few.second few.more (bucket_of name)
+abbrev pub with_name : UsedNames → (name : List ℕ) → UsedNames
+with_name used name = with_bucket used (bucket_of name)
 
-abbrev pub with_names : FewNames → (names : List (List ℕ)) → FewNames
-with_names few names = fold with_name few names
+abbrev pub with_names : UsedNames → (names : List (List ℕ)) → UsedNames
+with_names used names = fold with_name used names
 
-abbrev pub few_of : (names : List (List ℕ)) → FewNames
-few_of names = with_names no_names names
+abbrev pub brief_of_names : (names : List (List ℕ)) → UsedNames
+brief_of_names names = with_names no_names names
 
--- one of them may be in a bucket that passes
-abbrev pub any_bucket : (ℕ → Bool) → Option ℕ → Bool
-any_bucket test None = false
-any_bucket test (Some bucket) = test bucket
-
-abbrev pub meets_by : (ℕ → Bool) → FewNames → Bool
-meets_by test few = few.more || any_bucket test few.first || any_bucket test few.second
-
--- one of them may be in a set
-abbrev pub meets : FewNames → Marks → Bool
-meets few marks = meets_by (has_bucket marks) few
-
--- the first of them moved as far as the lines behind the edit, if it gives an address
-abbrev pub IsMoved : FewNames → Marks → Type 0
-IsMoved few set = (bucket : ℕ) × (few.first ≡ Some bucket) × HasMoved (mark_of set bucket)
+abbrev pub is_bucket : Option ℕ → (bucket : ℕ) → Bool
+is_bucket None bucket = false
+is_bucket (Some other) bucket = other == bucket
 
 -- one of them may be of a bucket
-abbrev pub may_have : FewNames → (bucket : ℕ) → Bool
-may_have few bucket = meets_by (λ b. b == bucket) few
+abbrev pub may_have : UsedNames → (bucket : ℕ) → Bool
+may_have (Few first second) bucket = is_bucket first bucket || is_bucket second bucket
+may_have (Many groups) bucket = has_group groups bucket
+
+-- none of them is in a set
+abbrev pub IsApart : UsedNames → Marks → Type 0
+IsApart used set = (bucket : ℕ) → has_bucket set bucket ≡ true → may_have used bucket ≡ false
+
+-- it is one name, which moved as far as the lines behind the edit, if it gives an address
+abbrev pub IsMoved : UsedNames → Marks → Type 0
+IsMoved used set = (bucket : ℕ) × (used ≡ Few (Some bucket) None) × HasMoved (mark_of set bucket)

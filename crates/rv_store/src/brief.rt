@@ -4,10 +4,10 @@ ghost use Rattle.std.specs.Prelude.{◌≡◌, ◌||◌, not};
 ghost use Rattle.rv_store.specs.Briefs.{brief_of};
 ghost use Rattle.rv_store.specs.Uses.{uses_local_label, uses_paired_high, is_equ};
 
-use crate::few_names::FewNames;
 use crate::highs::pcrel_high;
 use crate::jumps::target;
 use crate::locals::has_local_labels;
+use crate::used_names::UsedNames;
 use crate::uses::{
     brief_names, is_equ, is_sized, uses_address, uses_local_label, uses_paired_high, uses_symbols,
 };
@@ -30,7 +30,7 @@ pub struct Brief {
     /// It uses symbols.
     pub symbols: bool,
     /// The symbols that it uses.
-    pub names: FewNames,
+    pub names: UsedNames,
     /// It uses its own address.
     pub address: bool,
     /// It uses the address of one label, counted from its own, and nothing else.

@@ -108,10 +108,11 @@ pub fn may_be_invalidated(
     requires last { line ≤ length after.now.text.lines.now }
     ensures { result ≡ false → is_invalidated (base_before before.now) (lines_before before.now) (edit_on before.now) line ≡ false }
 {
-    if brief.plain && line != before.edit.place() {
+    let is_new = line == before.edit.place();
+    if brief.plain && !is_new {
         return false;
     }
-    if line == before.edit.place() || brief.uncompared || brief.names.meets(differing) {
+    if is_new || brief.uncompared || brief.names.meets(differing) {
         return true;
     }
     brief.address && has_moved(before, after, line)

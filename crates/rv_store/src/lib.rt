@@ -18,7 +18,7 @@ mod ending;
 mod ends;
 mod equ_values;
 mod extension;
-mod few_names;
+mod groups;
 mod highs;
 mod invalidation;
 mod item;
@@ -53,6 +53,7 @@ mod symbol_rows;
 mod symbols;
 mod text_lines;
 mod text_rows;
+mod used_names;
 mod uses;
 mod value_rows;
 

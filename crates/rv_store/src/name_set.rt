@@ -1,9 +1,10 @@
 //! Sets of names, which may also have names that were not added.
 
-ghost use Rattle.std.specs.Prelude.{◌≡◌, ◌<◌, ℕ, IfOk, IsTrue};
+ghost use Rattle.std.specs.Prelude.{◌≡◌, ◌<◌, ℕ, IfOk, IsTrue, true, false};
 ghost use Rattle.rv_store.specs.declared.name_set.Mark.TheVariants.{Unknown, Changed};
-ghost use Rattle.rv_store.specs.NameSets.{bucket_of, differs, IsBelow, HasMoved, mark_of, has_bucket, IsSized};
+ghost use Rattle.rv_store.specs.NameSets.{bucket_of, differs, IsBelow, HasMoved, mark_of, has_bucket, has_group};
 
+use crate::groups::Groups;
 use std::alloc::{AllocError, Global};
 use std::marker::Model;
 
@@ -85,18 +86,20 @@ impl Mark {
 pub struct NameSet {
     // How far the lines behind the edit moved.
     shift: i64,
+    // The groups of the buckets of which a name may differ, and maybe others.
+    groups: Groups,
     marks: Option<Vec<Mark>>,
 }
 
 impl Model for NameSet {
     ghost use Rattle.std.specs.Option.{option_map};
-    ghost use Rattle.rv_store.specs.NameSets.{Marks, IsSized};
+    ghost use Rattle.rv_store.specs.NameSets.{Marks, IsSized, AreGrouped};
 
     ghost Value = { Marks };
 
     ghost view = { λ s. record { shift = s.shift; marks = option_map (λ m. m.items) s.marks } };
 
-    ghost invariant = { λ s. IsSized (option_map (λ m. m.items) s.marks) };
+    ghost invariant = { λ s. IsSized (option_map (λ m. m.items) s.marks) × AreGrouped (option_map (λ m. m.items) s.marks) s.groups };
 }
 
 impl NameSet {
@@ -108,6 +111,7 @@ impl NameSet {
         let marks = vec![in alloc; Mark::Unknown; BUCKETS]?;
         Ok(NameSet {
             shift,
+            groups: Groups::none(),
             marks: Some(marks),
         })
     }
@@ -118,6 +122,7 @@ impl NameSet {
     {
         NameSet {
             shift: 0,
+            groups: Groups::every(),
             marks: None,
         }
     }
@@ -138,7 +143,11 @@ impl NameSet {
     {
         if let Some(marks) = &mut self.marks {
             let place = usize::from(bucket);
-            marks[place] = marks[place].with(mark);
+            let mark = marks[place].with(mark);
+            marks[place] = mark;
+            if mark.differs() {
+                self.groups = self.groups.with(bucket);
+            }
         }
     }
 
@@ -162,6 +171,14 @@ impl NameSet {
         ensures { result ≡ has_bucket self.now bucket }
     {
         self.mark(bucket).differs()
+    }
+
+    /// Whether it may have names of these groups.
+    #[inline]
+    pub fn meets(&self, groups: Groups) -> bool
+        ensures { result ≡ false → (bucket : ℕ) → has_bucket self.now bucket ≡ true → has_group groups bucket ≡ false }
+    {
+        self.groups.meets(groups)
     }
 
     /// Whether each name of a bucket that gives an address moved as far as the lines behind the edit.

@@ -2,11 +2,11 @@
 
 ghost use Rattle.std.specs.Prelude.{◌≡◌, true};
 ghost use Rattle.std.specs.List.{list_any, flat_map};
-ghost use Rattle.rv_store.specs.NameSets.{with_names, few_of};
+ghost use Rattle.rv_store.specs.NameSets.{with_names, brief_of_names};
 ghost use Rattle.rv_store.specs.Uses.{names_in, has_here, has_local_label, tree_of_label, expression_of, is_pcrel_high, is_pcrel_low, is_relative, operand_uses_address, names_used, uses_address, uses_local_label, uses_paired_high, is_equ, is_sized, uses_symbols};
 ghost use Rattle.rv_layout.specs.Shapes.{is_size};
 
-use crate::few_names::FewNames;
+use crate::used_names::UsedNames;
 use rv_expr::{Expr, LabelReference, Node};
 use rv_stmt::{Body, Operand, OperandValue, Role};
 
@@ -81,8 +81,8 @@ pub fn any_name<T: NameTest>(body: &Body, names: &T) -> bool
     any_in_operands(body.operands(), names)
 }
 
-// A few names with the symbols in an expression added.
-fn with_names_in(expression: &Expr, names: FewNames) -> FewNames
+// The names of a line with the symbols in an expression added.
+fn with_names_in(expression: &Expr, names: UsedNames) -> UsedNames
     ensures { result ≡ with_names names (names_in expression.now) }
 {
     match &expression.node {
@@ -93,8 +93,8 @@ fn with_names_in(expression: &Expr, names: FewNames) -> FewNames
     }
 }
 
-// A few names with the symbols in an operand added.
-fn with_names_in_value(value: &OperandValue, names: FewNames) -> FewNames
+// The names of a line with the symbols in an operand added.
+fn with_names_in_value(value: &OperandValue, names: UsedNames) -> UsedNames
     ensures { result ≡ with_names names (names_in (expression_of value.now)) }
 {
     match value {
@@ -108,11 +108,11 @@ fn with_names_in_value(value: &OperandValue, names: FewNames) -> FewNames
 }
 
 /// The symbols that a line uses, in brief.
-pub fn brief_names(body: &Body) -> FewNames
-    ensures { result ≡ few_of (names_used body.now) }
+pub fn brief_names(body: &Body) -> UsedNames
+    ensures { result ≡ brief_of_names (names_used body.now) }
 {
     let mut operands = body.operands();
-    let mut names = FewNames::none();
+    let mut names = UsedNames::none();
     while let [operand, rest @ ..] = operands {
         names = with_names_in_value(&operand.value, names);
         operands = rest;

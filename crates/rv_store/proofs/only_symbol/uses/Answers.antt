@@ -1,8 +1,8 @@
 use Rattle.std.proofs.Common.{◌≡◌, ◌==◌, false, bytes_eq, ap, sym, ◌∙◌, ◌⊎◌, inl, inr, refl, ℕ, List, Bool, true}
-use Rattle.std.proofs.lemmas.Bool.{eq-eqb}
+use Rattle.std.proofs.lemmas.Bool.{eqb-true, eq-eqb}
 use Rattle.std.proofs.lemmas.Slice.Eq.{bytes_eq-Decides}
 use Rattle.rv_stmt.specs.Statement.{statement_of}
-use Rattle.rv_store.specs.NameSets.{bucket_of, few_of, meets_by}
+use Rattle.rv_store.specs.NameSets.{bucket_of, brief_of_names, may_have}
 use Rattle.rv_store.specs.Uses.{names_used}
 use Rattle.rv_store.proofs.NameSets.{none-passes}
 use Rattle.rv_store.proofs.only_symbol.uses.Goals as goal
@@ -19,6 +19,8 @@ pub returns-else-may_have : goal.returns-else-may_have
 returns-else-may_have c =
     let symbol = c.args.symbol.now.name.now in
     let names = names_used (statement_of c.args.line.now).body in
-    let apart : meets_by (λ b. b == bucket_of symbol) (few_of names) ≡ false =
-    (λ j. meets_by (λ b. b == sym c.requires j) (few_of names)) ∙ sym (ap (λ b. meets_by (λ n. n == c.args.bucket) b.names) c.brief.ensures) ∙ sym c.may_have.ensures ∙ c.if-may_have.false in
+    let apart : (bucket : ℕ) → (bucket == bucket_of symbol) ≡ true → may_have (brief_of_names names) bucket ≡ false =
+    λ bucket is.
+    ap (may_have (brief_of_names names)) (eqb-true bucket (bucket_of symbol) is ∙ sym c.requires)
+    ∙ sym (ap (λ b. may_have b.names c.args.bucket) c.brief.ensures) ∙ sym c.may_have.ensures ∙ c.if-may_have.false in
     c.if-may_have.false ∙ sym (none-passes (λ b. b == bucket_of symbol) (bytes_eq symbol) (same-bucket symbol) names apart)
