@@ -12,3 +12,6 @@ returns-clause-alike g c =
           ∙ c.take_same_room.ensures c.if-not-take_same_room.false
           ∙ ap room_of is;
     }
+
+pub returns-clause-shape : goal.returns-clause-shape
+returns-clause-shape g c = λ program k. c.unsized_shape-shape.ensures.shape program k
