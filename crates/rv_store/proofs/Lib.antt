@@ -36,7 +36,6 @@ pub mod KeptLines
 pub mod KeptShapes
 pub mod LineNameLaws
 pub mod LinePairLaws
-pub mod LineSums
 pub mod LinesWithout
 pub mod ListedLines
 pub mod LastSymbols

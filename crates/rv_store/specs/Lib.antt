@@ -24,7 +24,6 @@ pub mod Layout
 pub mod LineNames
 pub mod LinePairs
 pub mod LinesAhead
-pub mod LineSums
 pub mod Lines
 pub mod LinesWithout
 pub mod Locals
@@ -32,6 +31,7 @@ pub mod MovedDefinitions
 pub mod MovedLines
 pub mod MovedLocals
 pub mod NameSets
+pub mod NoSums
 pub mod PairedHighs
 pub mod Pairs
 pub mod Passed

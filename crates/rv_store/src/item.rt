@@ -1,13 +1,13 @@
 //! The lines of a text with their codes.
 
 ghost use Rattle.std.specs.Prelude.{◌≡◌, IfOk};
-ghost use Rattle.rv_store.specs.LineSums.{line_sum_of};
+ghost use Rattle.rv_store.specs.NoSums.{no_sum};
 
 use crate::line::Line;
-use crate::line_sum::LineSum;
 use crate::line_values::LineValues;
+use crate::no_sum::NoSum;
 use rv_fix::Coded;
-use rv_layout::{Layout, Measured};
+use rv_layout::Measured;
 use rv_tree::Summed;
 use std::alloc::{AllocError, Global};
 use std::rc::Rc;
@@ -22,15 +22,12 @@ pub struct Item {
 }
 
 impl Summed for Item {
-    type Sum = LineSum;
+    type Sum = NoSum;
 
-    ghost sum_of = { line_sum_of };
+    ghost sum_of = { λ item. no_sum };
 
-    fn sum(&self) -> LineSum {
-        LineSum {
-            count: 1,
-            layout: Layout::of(&self.shape),
-        }
+    fn sum(&self) -> NoSum {
+        NoSum
     }
 }
 

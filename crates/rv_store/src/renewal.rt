@@ -19,7 +19,6 @@ use crate::before::Before;
 use crate::due::due_lines;
 use crate::edit::LineEdit;
 use crate::item::Item;
-use crate::line_sum::LineSum;
 use crate::lines::Lines;
 use crate::names::NameTable;
 use crate::renewal_pass::renewed_in_one_pass;

@@ -38,7 +38,7 @@ use crate::survey::Survey;
 use crate::symbols::SymValue;
 use crate::text_rows::address_in;
 use rv_fix::Coded;
-use rv_layout::{Measured, base_ok, layouts_tell_places, place};
+use rv_layout::{Measured, base_ok};
 use rv_list::{DefinitionPlace, View};
 use rv_text::Count;
 use rv_tree::SumTree;
@@ -113,10 +113,7 @@ impl Store {
         if k == 0 || k > self.items.len() {
             return None;
         }
-        layouts_tell_places();
-        let before = self.items.prefix(k - 1);
-        let total = self.items.total();
-        Some(place(&before.layout, self.base, &total.layout))
+        Some(self.place(k).address)
     }
 
     /// The code of line number `k`, if there is such a line: its bytes, and the fault of its body.

@@ -59,7 +59,7 @@ impl LineSource for StoreLines<'_> {
 
 impl Store {
     // Where line number `k` lies.
-    fn place(&self, k: u32) -> LinePlace
+    pub(crate) fn place(&self, k: u32) -> LinePlace
         requires first { 1 ≤ k }
         requires last { k ≤ length self.now.lines }
         ensures { result ≡ place_at self.now.base (program_of self.now.lines) k }
