@@ -7,7 +7,7 @@ ghost use Rattle.rv_text.specs.Streams.{failures_after, Writes};
 ghost use Rattle.rv_commands.specs.Pages.{ended, text_of, page_text};
 
 use crate::numbered::push_numbered;
-use rv_list::{ListError, write_faults, write_image, write_listing, write_symbols};
+use rv_list::{ListError, write_image, write_listing, write_symbols, write_tested_faults};
 use rv_store::Store;
 use rv_text::{Failed, OutputBlock, Sink};
 
@@ -85,7 +85,7 @@ pub fn write_page<W: Sink>(page: Page, store: &Store, sink: &mut W) -> Result<()
         Page::Image => write_image(&store, sink),
         Page::Listing => write_listing(&store, sink),
         Page::Symbols => write_symbols(&store, sink),
-        Page::Faults => write_faults(&store, sink),
+        Page::Faults => write_tested_faults(&store, sink),
         Page::Lines => write_text(store, sink),
     }
 }

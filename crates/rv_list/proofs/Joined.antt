@@ -13,6 +13,10 @@ use Rattle.rv_list.specs.Joined.{joined}
 pub joined_more : {A : Type 0} (f : ℕ → List A) (k : ℕ) → joined f (k + 1) ≡ joined f k ++ f k
 joined_more f k = rw add-one refl
 
+-- the next one is empty
+pub joined_none : {A : Type 0} (f : ℕ → List A) (k : ℕ) → f k ≡ [] → joined f (k + 1) ≡ joined f k
+joined_none f k none = joined_more f k ∙ ap (λ l. joined f k ++ l) none ∙ append-nil (joined f k)
+
 -- there is more after the first ones
 record Then {A : Type 0} (f : ℕ → List A) (k n : ℕ) : Type 0 where
   later : List A

@@ -9,7 +9,8 @@ ghost use Rattle.rv_list.specs.Shown.{shown_line};
 
 use crate::error::ListError;
 use crate::rows::{push_count, push_field};
-use crate::view::{LinePlace, LineSource, LineView, View, shows_bytes};
+use crate::untested::Untested;
+use crate::view::{LinePlace, LineView, TestedLines, View, shows_bytes};
 use arrayvec::ArrayVec;
 use rv_fix::Payload;
 use rv_layout::section_number;
@@ -178,15 +179,19 @@ fn find_faults<V: View>(
     push_at_name(faults, lost, FaultNumber::InBss, body.name());
 }
 
-// How many faults there are.
-fn count_faults<V: View>(view: &V) -> u32
+// How many faults there are; `lines` are all lines of the view.
+fn count_faults<V: View, L: TestedLines>(view: &V, mut lines: L) -> u32
+    requires text { L.shown lines ≡ V.shown view.now }
+    requires first { L.passed lines ≡ 0 }
     ensures { result ≡ length (fault_rows (V.shown view.now)) }
 {
     let mut faults = ArrayVec::new();
     let mut count = 0;
-    let mut lines = view.lines();
     for k in 0..view.line_count() {
         lines.advance();
+        if !lines.may_have_faults() {
+            continue;
+        }
         find_faults(&mut faults, view, k + 1, &lines.line());
         count += faults.len() as u32;
     }
@@ -282,25 +287,30 @@ fn push_line_faults<W: Sink>(
 }
 
 // Adds the rows of all lines, which have so many faults. The lines behind the last one with a fault are not looked at.
-fn push_fault_rows<V: View, W: Sink>(
+fn push_fault_rows<V: View, L: TestedLines, W: Sink>(
     block: &mut OutputBlock,
     sink: &mut W,
     view: &V,
+    mut lines: L,
     count: u32,
 ) -> Result<(), Failed>
+    requires text { L.shown lines ≡ V.shown view.now }
+    requires first { L.passed lines ≡ 0 }
     requires counted { count ≡ length (fault_rows (V.shown view.now)) }
     requires failures { W.failures sink.old < 2 ^ 64 - 1 }
     ensures text { Gathers (W.taken sink.old) block.old (concat (fault_rows (V.shown view.now))) result (W.taken sink.new) block.new }
     ensures count { W.failures sink.new ≡ failures_after (W.failures sink.old) result }
 {
     let mut faults = ArrayVec::new();
-    let mut lines = view.lines();
     let mut left = count;
     for k in 0..view.line_count() {
         if left == 0 {
             return Ok(());
         }
         lines.advance();
+        if !lines.may_have_faults() {
+            continue;
+        }
         find_faults(&mut faults, view, k + 1, &lines.line());
         push_line_faults(block, sink, k + 1, faults.as_slice())?;
         left -= faults.len() as u32;
@@ -308,20 +318,26 @@ fn push_fault_rows<V: View, W: Sink>(
     Ok(())
 }
 
-// Adds the whole text.
+// Adds the whole text. All lines of the view are gone through twice, so they are handed over twice.
 #[tactic(auto, unfolding(crate::specs::Faults::fault_text))]
-fn push_faults<V: View, W: Sink>(
+fn push_faults<V: View, L: TestedLines, W: Sink>(
     block: &mut OutputBlock,
     sink: &mut W,
     view: &V,
+    lines: L,
+    again: L,
 ) -> Result<(), Failed>
-    requires { W.failures sink.old < 2 ^ 64 - 1 }
+    requires text { L.shown lines ≡ V.shown view.now }
+    requires first { L.passed lines ≡ 0 }
+    requires text_again { L.shown again ≡ V.shown view.now }
+    requires first_again { L.passed again ≡ 0 }
+    requires failures { W.failures sink.old < 2 ^ 64 - 1 }
     ensures text { Gathers (W.taken sink.old) block.old (fault_text (V.shown view.now)) result (W.taken sink.new) block.new }
     ensures count { W.failures sink.new ≡ failures_after (W.failures sink.old) result }
 {
-    let count = count_faults(view);
+    let count = count_faults(view, lines);
     push_count(block, sink, b"faults", count)?;
-    push_fault_rows(block, sink, view, count)
+    push_fault_rows(block, sink, view, again, count)
 }
 
 /// Writes the faults of a text, up to the first failure of the writer: how many there are, and for each its line, the bytes of
@@ -338,7 +354,27 @@ pub fn write_faults<V: View, W: Sink>(view: &V, sink: &mut W) -> Result<(), List
     ensures count { W.failures sink.new ≡ failures_after (W.failures sink.old) result }
 {
     let mut block = OutputBlock::new();
-    push_faults(&mut block, sink, view)?;
+    let lines = Untested::new(view.lines());
+    let again = Untested::new(view.lines());
+    push_faults(&mut block, sink, view, lines, again)?;
+    block.flush(sink)?;
+    Ok(())
+}
+
+/// It is as for `write_faults`, but only the lines that may have faults are looked at.
+///
+/// # Errors
+///
+/// `Write` if a call of the writer failed.
+pub fn write_tested_faults<V: View, W: Sink>(view: &V, sink: &mut W) -> Result<(), ListError>
+where
+    V::Lines: TestedLines,
+    requires { W.failures sink.old < 2 ^ 64 - 1 }
+    ensures text { Writes (W.taken sink.old) (fault_text (V.shown view.now)) result (W.taken sink.new) }
+    ensures count { W.failures sink.new ≡ failures_after (W.failures sink.old) result }
+{
+    let mut block = OutputBlock::new();
+    push_faults(&mut block, sink, view, view.lines(), view.lines())?;
     block.flush(sink)?;
     Ok(())
 }

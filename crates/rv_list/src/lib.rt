@@ -8,13 +8,14 @@ mod image;
 mod listing;
 mod rows;
 mod symbols;
+mod untested;
 mod view;
 
 pub use bytes_left::section_bytes;
 pub use error::ListError;
-pub use faults::write_faults;
+pub use faults::{write_faults, write_tested_faults};
 pub use image::write_image;
 pub use listing::write_listing;
 pub use rows::push_row;
 pub use symbols::write_symbols;
-pub use view::{DefinitionPlace, LinePlace, LineSource, LineView, SectionPlace, View};
+pub use view::{DefinitionPlace, LinePlace, LineSource, LineView, SectionPlace, TestedLines, View};

@@ -1,7 +1,8 @@
 //! What a text has to tell for it to be shown.
 
-ghost use Rattle.std.specs.Prelude.{◌≡◌, ℕ, ◌+◌, ◌≤◌, ◌<◌, length};
+ghost use Rattle.std.specs.Prelude.{◌≡◌, ℕ, ◌+◌, ◌≤◌, ◌<◌, [], false, length};
 ghost use Rattle.rv_layout.specs.Sections.{sections};
+ghost use Rattle.rv_list.specs.Faults.{faults_of};
 ghost use Rattle.rv_list.specs.Shown.{Shown, shown_line, is_label, is_equ, shows_bytes};
 
 use rv_fix::Coded;
@@ -93,6 +94,14 @@ pub trait LineSource: Drop {
         requires { 1 ≤ passed self.now }
         ensures value { shown_line result ≡ (shown self.now).line (passed self.now) }
         ensures few { length result.stmt.now.labels ≤ 1000 };
+}
+
+/// Lines that can tell whether they may have faults without being looked at.
+pub trait TestedLines: LineSource {
+    /// Whether the line that was passed last may have faults. There has to be one.
+    fn may_have_faults(&self) -> bool
+        requires { 1 ≤ Self.passed self.now }
+        ensures { result ≡ false → faults_of (Self.shown self.now) (Self.passed self.now) ((Self.shown self.now).line (Self.passed self.now)) ≡ [] };
 }
 
 /// A text that can be shown. Its lines are counted from 1; its sections have numbers, from 0 on, in the order in which they

@@ -235,7 +235,7 @@ module _ (base : ℕ) (lines : List (List ℕ)) (k : ℕ) (line : List ℕ) (fir
             ∙ row-put (values_at base (program_of lines)) (values_at base (program_of after)) k values-stay (length lines) first last
             ∙ ap (for_lines (values_at base (program_of after))) count;
         codes =
-            map-set (λ i. i.code.value) items (k - 1) item
+            map-set (λ i. i.code) items (k - 1) item
             ∙ (λ j. set (are.codes j) (k - 1) (is.code j))
             ∙ row-put (code_at base (program_of lines)) (code_at base (program_of after)) k code-stays (length lines) first last
             ∙ ap (for_lines (code_at base (program_of after))) count;

@@ -29,7 +29,7 @@ one_item_more base text k items item within are is =
           ∙ ap (λ x. take k text ++ x ∷ []) (is.line ∙ ap (λ j. get_or text j []) place) ∙ sym (take_more text k [] within);
       shapes = one_more (λ i. i.shape) (shape_at (program_of text)) k items item are.shapes is.shape;
       values = one_more (λ i. i.values.value) (values_at base (program_of text)) k items item are.values is.values;
-      codes = one_more (λ i. i.code.value) (code_at base (program_of text)) k items item are.codes is.code;
+      codes = one_more (λ i. i.code) (code_at base (program_of text)) k items item are.codes is.code;
     }
 
 -- all items
@@ -59,5 +59,5 @@ item_of_line base text items i other are first last =
       line = sym (get_or-map (λ item. item.line) items (i - 1) other [] within) ∙ ap (λ ls. get_or ls (i - 1) []) are.lines;
       shape = part_of_line (λ item. item.shape) (shape_at (program_of text)) items i other (are.shapes ∙ ap (for_lines (shape_at (program_of text))) count) first there;
       values = part_of_line (λ item. item.values.value) (values_at base (program_of text)) items i other (are.values ∙ ap (for_lines (values_at base (program_of text))) count) first there;
-      code = part_of_line (λ item. item.code.value) (code_at base (program_of text)) items i other (are.codes ∙ ap (for_lines (code_at base (program_of text))) count) first there;
+      code = part_of_line (λ item. item.code) (code_at base (program_of text)) items i other (are.codes ∙ ap (for_lines (code_at base (program_of text))) count) first there;
     }

@@ -53,6 +53,7 @@ pub mod PairedHighs
 pub mod PassedItems
 pub mod PlacedWith
 pub mod Programs
+pub mod QuietLines
 pub mod RenewalRuns
 pub mod Rooms
 pub mod Sameness

@@ -60,11 +60,11 @@ module _ (base : ℕ) (lines : List (List ℕ)) (edit : Edit) (k : ℕ) (item : 
       ∙ sym (ap (is_new_or (differs_in_values base (program_of lines) (program_after lines edit) k)) (sym here ∙ at))
 
   -- and whether it is changed
-  pub stood-changed : (o : Option ℕ) (none : Bool) → o ≡ line_before_edit edit k → is_some o ≡ not none → none ≡ false → (code : Coded) → code ≡ code_at base (program_after lines edit) k → (same : Bool) → Decides same (code ≡ item.code.value) → not same ≡ is_changed base lines edit k
+  pub stood-changed : (o : Option ℕ) (none : Bool) → o ≡ line_before_edit edit k → is_some o ≡ not none → none ≡ false → (code : Coded) → code ≡ code_at base (program_after lines edit) k → (same : Bool) → Decides same (code ≡ item.code) → not same ≡ is_changed base lines edit k
   stood-changed o none here test stands code is same decides =
       let (j, at) = stood_somewhere o none test stands in
       let kept : IsItem base lines j item = former.kept j (sym here ∙ at) in
-      let tested : same ≡ same_code code item.code.value = same_from_decides _ _ decides (same_code-Decides code item.code.value) in
+      let tested : same ≡ same_code code item.code = same_from_decides _ _ decides (same_code-Decides code item.code) in
       ap not tested
       ∙ (λ i. not (same_code (is i) (kept.code i)))
       ∙ sym (ap (is_new_or (differs_in_code base (program_of lines) (program_after lines edit) k)) (sym here ∙ at))

@@ -3,6 +3,7 @@
 ghost use Rattle.std.specs.Prelude.{◌≡◌, IfOk};
 ghost use Rattle.rv_store.specs.NoSums.{no_sum};
 
+use crate::kept_code::KeptCode;
 use crate::line::Line;
 use crate::line_values::LineValues;
 use crate::no_sum::NoSum;
@@ -18,7 +19,7 @@ pub struct Item {
     pub line: Line,
     pub shape: Measured,
     pub values: Rc<LineValues>,
-    pub code: Rc<Coded>,
+    pub code: KeptCode,
 }
 
 impl Summed for Item {
@@ -40,7 +41,7 @@ impl Item {
             line,
             shape: Measured::Nothing,
             values: Rc::new(alloc, LineValues::Nothing)?,
-            code: Rc::new(alloc, Coded::padding(false, 0))?,
+            code: KeptCode::new(alloc, Coded::padding(false, 0))?,
         })
     }
 
@@ -55,13 +56,13 @@ impl Item {
         ensures line { IfOk result (λ item. item.line ≡ line.now) }
         ensures shape { IfOk result (λ item. item.shape ≡ shape) }
         ensures values { IfOk result (λ item. item.values.value ≡ values) }
-        ensures code { IfOk result (λ item. item.code.value ≡ code) }
+        ensures code { IfOk result (λ item. item.code ≡ code) }
     {
         Ok(Item {
             line: line.share()?,
             shape,
             values: Rc::new(alloc, values)?,
-            code: Rc::new(alloc, code)?,
+            code: KeptCode::new(alloc, code)?,
         })
     }
 }

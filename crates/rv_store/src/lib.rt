@@ -23,6 +23,7 @@ mod highs;
 mod invalidation;
 mod item;
 mod jumps;
+mod kept_code;
 mod last_symbol;
 mod laws;
 mod limits;

@@ -15,6 +15,7 @@ ghost use Rattle.rv_store.specs.ValueRows.{AreValueRows, base_of};
 use crate::before::Before;
 use crate::edit_error::EditError;
 use crate::item::Item;
+use crate::kept_code::KeptCode;
 use crate::line_values::LineValues;
 use crate::text_lines::operands_are_few_on;
 use crate::value_rows::{ValueRows, shape_on};
@@ -77,7 +78,7 @@ pub fn renewed<C: Count>(
         line: former.line.share()?,
         shape,
         values: Rc::new(alloc, values)?,
-        code: Rc::new(alloc, code)?,
+        code: KeptCode::new(alloc, code)?,
     }))
 }
 
@@ -91,7 +92,7 @@ fn is_changed(before: &Before<'_, '_>, line: u32, former: &Item, item: &Item) ->
     if before.edit.line_before(line).is_none() {
         return true;
     }
-    !item.code.is_same(&former.code)
+    !item.code.coded().is_same(former.code.coded())
 }
 
 /// Adds a line to the changed ones if it is new or has another code than it had.

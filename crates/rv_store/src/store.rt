@@ -121,7 +121,7 @@ impl Store {
         ensures { option_map (λ c. c.now) result ≡ at_line self.now.lines k (code_at self.now.base (program_of self.now.lines) k) }
     {
         match self.items.get(k) {
-            Some(item) => Some(&item.code),
+            Some(item) => Some(item.code.coded()),
             None => None,
         }
     }

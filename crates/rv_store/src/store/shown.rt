@@ -2,6 +2,7 @@
 
 ghost use Rattle.std.specs.Prelude.{◌≡◌, ◌≤◌, length};
 ghost use Rattle.rv_store.specs.Layout.{place_at};
+ghost use Rattle.rv_store.specs.Passed.{is_loud, may_be_misplaced};
 ghost use Rattle.rv_store.specs.Program.{program_of};
 ghost use Rattle.rv_store.specs.Shown.{shown_of};
 
@@ -9,7 +10,8 @@ use crate::item::Item;
 use crate::names::entry_of;
 use crate::store::Store;
 use rv_expr::ValueFault;
-use rv_list::{DefinitionPlace, LinePlace, LineSource, LineView, SectionPlace, View};
+use rv_list::{DefinitionPlace, LinePlace, LineSource, LineView, SectionPlace, TestedLines, View};
+use rv_stmt::Sect;
 use rv_tree::Items;
 use std::marker::Model;
 
@@ -52,8 +54,32 @@ impl LineSource for StoreLines<'_> {
             text: item.line.text(),
             stmt: item.line.stmt(),
             place: self.store.place(self.passed),
-            code: &item.code,
+            code: item.code.coded(),
         }
+    }
+}
+
+// Whether a line may have faults in any place: it defines something, or its body is faulty.
+fn is_loud(item: &Item) -> bool
+    ensures { result ≡ is_loud item.now }
+{
+    let brief = item.line.brief();
+    brief.labels || brief.equ || item.code.is_faulty()
+}
+
+// Whether something in this place may be misplaced there: an instruction at an odd address, or bytes in `.bss`.
+fn may_be_misplaced(place: LinePlace) -> bool
+    ensures { result ≡ may_be_misplaced place }
+{
+    place.address % 2 == 1 || matches!(place.section, Sect::Bss)
+}
+
+impl TestedLines for StoreLines<'_> {
+    fn may_have_faults(&self) -> bool {
+        let Some(item) = self.last else {
+            unreachable!()
+        };
+        is_loud(item) || may_be_misplaced(self.store.place(self.passed))
     }
 }
 

@@ -1,9 +1,9 @@
-use Rattle.std.proofs.Common.{◌≡◌, ℕ, ◌+◌, List, length, map, Some, arith, ap, ◌∙◌}
+use Rattle.std.proofs.Common.{◌≡◌, ℕ, ◌+◌, List, [], length, map, Some, arith, ap, sym, ◌∙◌}
 use Rattle.std.proofs.lemmas.List.{length-map}
 use Rattle.rv_text.specs.declared.faults.Fault.{Fault}
 use Rattle.rv_list.specs.Faults.{fault_row, faults_of}
-use Rattle.rv_list.proofs.Joined.{length_of_more}
-use Rattle.rv_list.proofs.PassedLines.{passed_line}
+use Rattle.rv_list.proofs.Joined.{joined_none, length_of_more}
+use Rattle.rv_list.proofs.PassedLines.{passed_line, passed_quiet}
 use Rattle.rv_list.proofs.faults.count_faults.Goals as goal
 
 pub loop-k-preserved : goal.loop-k-preserved
@@ -17,6 +17,20 @@ loop-k-preserved g c =
     record {
       count = omega (arith, c.loop-k.invariant.count, here, rows, length_of_more (λ k. map (fault_row (k + 1)) (faults k)) k);
       few = omega (arith, c.loop-k.invariant.few, c.len.ensures.value, c.find_faults.ensures.few);
+      text = c.advance.ensures.text ∙ c.loop-k.invariant.text;
+      passed = omega (arith, c.advance.ensures.passed, c.loop-k.invariant.passed);
+    }
+
+pub loop-k-preserved-then-not-may_have_faults : goal.loop-k-preserved-then-not-may_have_faults
+loop-k-preserved-then-not-may_have_faults g c =
+    let shown = g.V.View.shown c.args.view.now in
+    let k = c.loop-k.k in
+    let rows : ℕ → List (List ℕ) = λ k. map (fault_row (k + 1)) (faults_of shown (k + 1) (shown.line (k + 1))) in
+    let quiet : faults_of shown (k + 1) (shown.line (k + 1)) ≡ [] =
+    passed_quiet (c.may_have_faults.ensures c.if-not-may_have_faults.true) c.advance.ensures.text c.loop-k.invariant.text c.advance.ensures.passed c.loop-k.invariant.passed in
+    record {
+      count = c.loop-k.invariant.count ∙ ap length (sym (joined_none rows k (ap (map (fault_row (k + 1))) quiet)));
+      few = omega (arith, c.loop-k.invariant.few);
       text = c.advance.ensures.text ∙ c.loop-k.invariant.text;
       passed = omega (arith, c.advance.ensures.passed, c.loop-k.invariant.passed);
     }

@@ -8,6 +8,6 @@ abbrev pub invariant-loop-k : goal.invariant-loop-k
 invariant-loop-k g l = record {
   count : l.count ≡ length (joined (λ k. map (fault_row (k + 1)) (faults_of (g.V.View.shown l.view) (k + 1) ((g.V.View.shown l.view).line (k + 1)))) l.k);
   few : l.count ≤ 1004 * l.k;
-  text : g.V.Lines.LineSource.shown l.lines ≡ g.V.View.shown l.view;
-  passed : g.V.Lines.LineSource.passed l.lines ≡ l.k;
+  text : g.L.LineSource.shown l.lines ≡ g.V.View.shown l.view;
+  passed : g.L.LineSource.passed l.lines ≡ l.k;
 }

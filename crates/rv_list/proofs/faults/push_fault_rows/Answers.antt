@@ -1,4 +1,4 @@
-use Rattle.std.proofs.Common.{◌≡◌, ℕ, ◌+◌, ◌≤◌, ◌<◌, List, length, map, Some, arith, ap, ◌∙◌}
+use Rattle.std.proofs.Common.{◌≡◌, ℕ, ◌+◌, ◌≤◌, ◌<◌, List, [], length, map, Some, arith, ap, ◌∙◌}
 use Rattle.std.proofs.lemmas.Grind.{common_steps}
 use Rattle.std.proofs.lemmas.Result.{err_from_is_err_and}
 use Rattle.std.proofs.lemmas.List.{length-map}
@@ -6,8 +6,8 @@ use Rattle.rv_text.specs.declared.faults.Fault.{Fault}
 use Rattle.rv_list.specs.Faults.{fault_row, faults_of}
 use Rattle.rv_list.specs.Joined.{joined}
 use Rattle.rv_list.proofs.FaultRows.{all_found}
-use Rattle.rv_list.proofs.Joined.{joined_within, joined_no_more, length_of_more, lost_rows, gathered_rows}
-use Rattle.rv_list.proofs.PassedLines.{passed_line}
+use Rattle.rv_list.proofs.Joined.{joined_none, joined_within, joined_no_more, length_of_more, lost_rows, gathered_rows}
+use Rattle.rv_list.proofs.PassedLines.{passed_line, passed_quiet}
 use Rattle.rv_list.proofs.faults.push_fault_rows.Goals as goal
 
 pub returns-in_err-push_line_faults-clause-text : goal.returns-in_err-push_line_faults-clause-text
@@ -56,6 +56,22 @@ loop-k-preserved g c =
       left = omega (arith, c.loop-k.invariant.left, c.requires.counted, here, row, length_of_more rows c.loop-k.k, joined_within rows (c.loop-k.k + 1) shown.count within);
       waits = gathered_rows rows c.loop-k.k _ _ _ _ _ _ c.loop-k.invariant.waits text;
       failures = grind (arith, common_steps, c.in_ok-push_line_faults.ensures.count);
+      text = c.advance.ensures.text ∙ c.loop-k.invariant.text;
+      passed = omega (arith, c.advance.ensures.passed, c.loop-k.invariant.passed);
+    }
+
+pub loop-k-preserved-then-not-may_have_faults : goal.loop-k-preserved-then-not-may_have_faults
+loop-k-preserved-then-not-may_have_faults g c =
+    let shown = g.V.View.shown c.args.view.now in
+    let k = c.loop-k.k in
+    let rows : ℕ → List (List ℕ) = λ k. map (fault_row (k + 1)) (faults_of shown (k + 1) (shown.line (k + 1))) in
+    let quiet : faults_of shown (k + 1) (shown.line (k + 1)) ≡ [] =
+    passed_quiet (c.may_have_faults.ensures c.if-not-may_have_faults.true) c.advance.ensures.text c.loop-k.invariant.text c.advance.ensures.passed c.loop-k.invariant.passed in
+    let none = joined_none rows k (ap (map (fault_row (k + 1))) quiet) in
+    record {
+      left = ap (λ l. c.loop-k.left + length l) none ∙ c.loop-k.invariant.left;
+      waits = rw none c.loop-k.invariant.waits;
+      failures = c.loop-k.invariant.failures;
       text = c.advance.ensures.text ∙ c.loop-k.invariant.text;
       passed = omega (arith, c.advance.ensures.passed, c.loop-k.invariant.passed);
     }

@@ -33,4 +33,4 @@ returns-clause-value c =
     (c.text.ensures.text ∙ item.line)
     (c.stmt.ensures ∙ ap statement_of item.line ∙ stmt)
     c.place.ensures
-    (c.deref.ensures ∙ item.code))
+    (c.coded.ensures ∙ item.code))
