@@ -13,13 +13,14 @@ use rv_tree::Summed;
 use std::alloc::{AllocError, Global};
 use std::rc::Rc;
 
-/// A line with what is kept of it: its shape, the values from which its code is made, and its code.
+/// A line with what is kept of it: its code, its shape, and the values from which its code is made. What is read of all lines to find
+/// their faults stands first, so that it lies together.
 #[derive(Drop)]
 pub struct Item {
+    pub code: KeptCode,
     pub line: Line,
     pub shape: Measured,
     pub values: Rc<LineValues>,
-    pub code: KeptCode,
 }
 
 impl Summed for Item {
