@@ -8,8 +8,7 @@ ghost use Rattle.rv_layout.specs.Advances.{wrap, up, advanced, then_advance, no_
 #[derive(Clone, Copy)]
 pub struct Advance {
     pub before: u32,
-    // As wide as the others, so that there is no padding to copy.
-    pub exponent: u32,
+    pub exponent: u8,
     pub after: u32,
 }
 
@@ -39,7 +38,7 @@ impl Advance {
         requires { IsAdvance self }
         ensures { result ≡ advanced self offset }
     {
-        round_up(offset.wrapping_add(self.before), self.exponent as u8).wrapping_add(self.after)
+        round_up(offset.wrapping_add(self.before), self.exponent).wrapping_add(self.after)
     }
 
     /// This advance, then the next. The coarser of the two roundings is left.
@@ -53,13 +52,11 @@ impl Advance {
             Advance {
                 before: self.before,
                 exponent: self.exponent,
-                after: round_up(between, next.exponent as u8).wrapping_add(next.after),
+                after: round_up(between, next.exponent).wrapping_add(next.after),
             }
         } else {
             Advance {
-                before: self
-                    .before
-                    .wrapping_add(round_up(between, self.exponent as u8)),
+                before: self.before.wrapping_add(round_up(between, self.exponent)),
                 exponent: next.exponent,
                 after: next.after,
             }

@@ -44,8 +44,6 @@ impl Joined for Layout {
         Layout::start()
     }
 
-    // Within the caller's own join, so that the sections' advances are copied once.
-    #[inline(always)]
     fn join(&self, other: &Layout) -> Layout {
         Layout {
             effect: join(&self.effect, &other.effect),
@@ -74,7 +72,7 @@ fn effect_of(measured: &Measured) -> Effect
         }),
         Measured::Align(alignment) => Effect::Plain(Advance {
             before: 0,
-            exponent: alignment.exponent() as u32,
+            exponent: alignment.exponent(),
             after: 0,
         }),
         Measured::Switch(section) => {

@@ -23,6 +23,7 @@ pub mod Kept
 pub mod Layout
 pub mod LineNames
 pub mod LinePairs
+pub mod LineSums
 pub mod LinesAhead
 pub mod Lines
 pub mod LinesWithout
@@ -31,7 +32,6 @@ pub mod MovedDefinitions
 pub mod MovedLines
 pub mod MovedLocals
 pub mod NameSets
-pub mod NoSums
 pub mod PairedHighs
 pub mod Pairs
 pub mod Passed

@@ -1,16 +1,18 @@
 -- The items of a text after an edit, those of the lines that are due made anew, from the first to the last.
 use Rattle.std.proofs.Common.{◌≡◌, ℕ, suc, ◌+◌, ◌-◌, ◌*◌, ◌^◌, ◌<◌, ◌≤◌, ◌⊎◌, inl, inr, false, List, ◌∷◌, ◌++◌, length, get_or, arith, ap, subst, sym, ◌∙◌, refl}
 use Rattle.rv_text.specs.Counting.{Counts}
-use Rattle.rv_tree.specs.Counts.{one, count_laws, all-ones, total-ones}
 use Rattle.rv_tree.specs.PassLaws.{kept_by_parts}
 use Rattle.rv_tree.specs.Passes.{Runs}
+use Rattle.rv_tree.specs.Sums.{total, AllSums}
 use Rattle.rv_store.specs.declared.before.Before.{Before}
 use Rattle.rv_store.specs.declared.item.Item.{Item}
+use Rattle.rv_store.specs.declared.line_sum.LineSum.{LineSum}
 use Rattle.rv_store.specs.declared.value_rows.ValueRows.{ValueRows}
 use Rattle.rv_store.specs.Before.{IsBefore, IsAfter, base_before, lines_before, edit_on}
 use Rattle.rv_store.specs.Changes.{is_due, is_reencoded, is_changed}
 use Rattle.rv_store.specs.Former.{IsFormer, AreFormer}
 use Rattle.rv_store.specs.Items.{IsItem}
+use Rattle.rv_store.specs.LineSums.{IsLineSum, no_line_sum, both_line_sums, line_sum_of, line_sum_laws}
 use Rattle.rv_store.specs.LinesAhead.{ahead-left, apart-fails}
 use Rattle.rv_store.specs.Program.{lines_that, lines_ahead}
 use Rattle.rv_store.specs.ValueRows.{AreValueRows, base_of}
@@ -46,21 +48,21 @@ pub record AreListed (before : Before) (k n : ℕ) (old new : List ℕ) : Type 0
 
 -- One pass over all items
 
--- behind lines of this k these items are left, one for each line; `row` are those of their lines that are due,
+-- behind lines of this sum these items are left, one for each line; `row` are those of their lines that are due,
 -- and the counts have room for them
-pub record AreLeft (before : Before) (rows : ValueRows) (row : List ℕ) (k : ℕ) (items : List Item) (counts : Counts) : Type 0 where
+pub record AreLeft (before : Before) (rows : ValueRows) (row : List ℕ) (sum : LineSum) (items : List Item) (counts : Counts) : Type 0 where
   pub is_before : IsBefore before
   pub of_text : AreValueRows rows
   pub is_after : IsAfter before rows.symbols.text
-  pub lines : k + length items ≡ length rows.symbols.text.lines.now
-  pub ahead : row ≡ lines_ahead (is_due (base_before before) (lines_before before) (edit_on before)) k (length items)
-  pub former : AreFormer (base_before before) (lines_before before) (edit_on before) k items
+  pub lines : sum.count + length items ≡ length rows.symbols.text.lines.now
+  pub ahead : row ≡ lines_ahead (is_due (base_before before) (lines_before before) (edit_on before)) sum.count (length items)
+  pub former : AreFormer (base_before before) (lines_before before) (edit_on before) sum.count items
   pub valued : counts.valued + 1000 * length items < 2 ^ 64
   pub encoded : counts.encoded + length items < 2 ^ 64
 
 -- the item of the next line
-abbrev pub IsRenewed : ValueRows → (k : ℕ) → Item → Type 0
-IsRenewed rows k item = IsItem (base_of rows) rows.symbols.text.lines.now (k + 1) item
+abbrev pub IsRenewed : ValueRows → (sum : LineSum) → Item → Type 0
+IsRenewed rows sum item = IsItem (base_of rows) rows.symbols.text.lines.now (sum.count + 1) item
 
 -- if the one row holds the lines ahead of line k, the other one holds those ahead of line k + 1
 pub record IsAheadNext (before : Before) (k : ℕ) (row row' : List ℕ) : Type 0 where
@@ -71,31 +73,31 @@ pub record IsAheadNext (before : Before) (k : ℕ) (row row' : List ℕ) : Type 
 -- and after it, and these lines ahead
 
 -- it leaves the item of the next line
-pub record IsVisited (before : Before) (rows : ValueRows) (k : ℕ) (y : Item) (counts counts' : Counts) (changed changed' row row' : List ℕ) : Type 0 where
-  pub item : IsRenewed rows k y
-  pub counted : AreCounted before k (k + 1) counts counts'
-  pub listed : AreListed before k (k + 1) changed changed'
-  pub ahead : IsAheadNext before k row row'
+pub record IsVisited (before : Before) (rows : ValueRows) (sum : LineSum) (y : Item) (counts counts' : Counts) (changed changed' row row' : List ℕ) : Type 0 where
+  pub item : IsRenewed rows sum y
+  pub counted : AreCounted before sum.count (sum.count + 1) counts counts'
+  pub listed : AreListed before sum.count (sum.count + 1) changed changed'
+  pub ahead : IsAheadNext before sum.count row row'
 
 -- the next line is not due, so all stays as it is
-pub record IsLeft (before : Before) (k : ℕ) (x y : Item) (counts counts' : Counts) (changed changed' row row' : List ℕ) : Type 0 where
-  pub not_due : is_due (base_before before) (lines_before before) (edit_on before) (k + 1) ≡ false
+pub record IsLeft (before : Before) (sum : LineSum) (x y : Item) (counts counts' : Counts) (changed changed' row row' : List ℕ) : Type 0 where
+  pub not_due : is_due (base_before before) (lines_before before) (edit_on before) (sum.count + 1) ≡ false
   pub item : y ≡ x
   pub counts_stay : counts' ≡ counts
   pub changed_stay : changed' ≡ changed
   pub row_stays : row' ≡ row
 
-abbrev pub IsDone : (before : Before) → (rows : ValueRows) → (k : ℕ) → (x y : Item) → (counts counts' : Counts) → (changed changed' row row' : List ℕ) → Type 0
-IsDone before rows k x y counts counts' changed changed' row row' =
-    (items : List Item) → AreLeft before rows row k (x ∷ items) counts → IsVisited before rows k y counts counts' changed changed' row row' ⊎ IsLeft before k x y counts counts' changed changed' row row'
+abbrev pub IsDone : (before : Before) → (rows : ValueRows) → (sum : LineSum) → (x y : Item) → (counts counts' : Counts) → (changed changed' row row' : List ℕ) → Type 0
+IsDone before rows sum x y counts counts' changed changed' row row' =
+    (items : List Item) → AreLeft before rows row sum (x ∷ items) counts → IsVisited before rows sum y counts counts' changed changed' row row' ⊎ IsLeft before sum x y counts counts' changed changed' row row'
 
 -- one line further
-left-next : (before before' : Before) (rows rows' : ValueRows) (row row' : List ℕ) (k : ℕ) (x y : Item) (items : List Item) (counts counts' : Counts) → AreLeft before rows row k (x ∷ items) counts → before' ≡ before → rows' ≡ rows → counts'.valued + 1000 * k ≤ counts.valued + 1000 * (k + 1) → counts'.encoded + k ≤ counts.encoded + (k + 1) → IsAheadNext before k row row' → AreLeft before' rows' row' (k + 1) items counts'
-left-next before before' rows rows' row row' k x y items counts counts' left same same_rows valued encoded next =
+left-next : (before before' : Before) (rows rows' : ValueRows) (row row' : List ℕ) (sum : LineSum) (x y : Item) (items : List Item) (counts counts' : Counts) → AreLeft before rows row sum (x ∷ items) counts → before' ≡ before → rows' ≡ rows → counts'.valued + 1000 * sum.count ≤ counts.valued + 1000 * (sum.count + 1) → counts'.encoded + sum.count ≤ counts.encoded + (sum.count + 1) → IsAheadNext before sum.count row row' → AreLeft before' rows' row' (both_line_sums sum (line_sum_of y)) items counts'
+left-next before before' rows rows' row row' sum x y items counts counts' left same same_rows valued encoded next =
     let test = is_due (base_before before) (lines_before before) (edit_on before) in
-    let count : suc k ≡ (k + 1) = omega (arith, left.is_after.few, left.lines) in
-    subst (λ f. AreLeft f rows' row' (k + 1) items counts') (sym same)
-    (subst (λ r. AreLeft before r row' (k + 1) items counts') (sym same_rows) (record {
+    let count : suc sum.count ≡ (both_line_sums sum (line_sum_of y)).count = omega (arith, left.is_after.few, left.lines) in
+    subst (λ f. AreLeft f rows' row' (both_line_sums sum (line_sum_of y)) items counts') (sym same)
+    (subst (λ r. AreLeft before r row' (both_line_sums sum (line_sum_of y)) items counts') (sym same_rows) (record {
       is_before = left.is_before;
       of_text = left.of_text;
       is_after = left.is_after;
@@ -113,37 +115,37 @@ ahead-stays before k row row' same not_due =
     let next : suc k ≡ k + 1 = omega arith in
     record { next = λ m are. same ∙ ahead-left test k m row (ap test next ∙ not_due) are }
 
-pub done-next : (before before' : Before) (rows rows' : ValueRows) (row row' : List ℕ) (k : ℕ) (x y : Item) (items : List Item) (counts counts' : Counts) (changed changed' : List ℕ) → AreLeft before rows row k (x ∷ items) counts → IsDone before rows k x y counts counts' changed changed' row row' → before' ≡ before → rows' ≡ rows → AreLeft before' rows' row' (k + 1) items counts'
-done-next before before' rows rows' row row' k x y items counts counts' changed changed' left done same same_rows = at (done items left)
+pub done-next : (before before' : Before) (rows rows' : ValueRows) (row row' : List ℕ) (sum : LineSum) (x y : Item) (items : List Item) (counts counts' : Counts) (changed changed' : List ℕ) → AreLeft before rows row sum (x ∷ items) counts → IsDone before rows sum x y counts counts' changed changed' row row' → before' ≡ before → rows' ≡ rows → AreLeft before' rows' row' (both_line_sums sum (line_sum_of y)) items counts'
+done-next before before' rows rows' row row' sum x y items counts counts' changed changed' left done same same_rows = at (done items left)
   where
-    at : IsVisited before rows k y counts counts' changed changed' row row' ⊎ IsLeft before k x y counts counts' changed changed' row row' → AreLeft before' rows' row' (k + 1) items counts'
+    at : IsVisited before rows sum y counts counts' changed changed' row row' ⊎ IsLeft before sum x y counts counts' changed changed' row row' → AreLeft before' rows' row' (both_line_sums sum (line_sum_of y)) items counts'
     at (inl visited) =
-        left-next before before' rows rows' row row' k x y items counts counts' left same same_rows visited.counted.valued_few visited.counted.encoded_few visited.ahead
+        left-next before before' rows rows' row row' sum x y items counts counts' left same same_rows visited.counted.valued_few visited.counted.encoded_few visited.ahead
     at (inr stays) =
         let counts_stay = stays.counts_stay in
-        left-next before before' rows rows' row row' k x y items counts counts' left same same_rows
+        left-next before before' rows rows' row row' sum x y items counts counts' left same same_rows
         (let v = ap (λ c. c.valued) counts_stay in omega (arith, v))
         (let e = ap (λ c. c.encoded) counts_stay in omega (arith, e))
-        (ahead-stays before k row row' stays.row_stays stays.not_due)
+        (ahead-stays before sum.count row row' stays.row_stays stays.not_due)
 
 -- Passing over lines of which none is due
 
--- the first of the lines ahead is behind lines of the second k, which are behind those of the first, and the counts are exact
-abbrev pub AreApart : (row : List ℕ) → ℕ → ℕ → Type 0
-AreApart row b s = (b + s < 2 ^ 32 - 1) × (b + s < get_or row 0 (2 ^ 32 - 1))
+-- the first of the lines ahead is behind lines of the second sum, which are behind those of the first, and the counts are exact
+abbrev pub AreApart : (row : List ℕ) → LineSum → LineSum → Type 0
+AreApart row b s = (b.count + s.count < 2 ^ 32 - 1) × (b.count + s.count < get_or row 0 (2 ^ 32 - 1))
 
-apart-first : (row : List ℕ) (b x y : ℕ) → AreApart row b (x + y) → AreApart row b x
+apart-first : (row : List ℕ) (b x y : LineSum) → AreApart row b (both_line_sums x y) → AreApart row b x
 apart-first row b x y k = (omega (arith, k.0), omega (arith, k.0, k.1))
 
-apart-rest : (row : List ℕ) (b x y : ℕ) → AreApart row b (x + y) → AreApart row (b + x) y
+apart-rest : (row : List ℕ) (b x y : LineSum) → AreApart row b (both_line_sums x y) → AreApart row (both_line_sums b x) y
 apart-rest row b x y k = (omega (arith, k.0), omega (arith, k.0, k.1))
 
-apart-done : (before : Before) (rows : ValueRows) (row : List ℕ) (k : ℕ) (x : Item) (counts : Counts) (changed : List ℕ) → AreApart row k 1 → IsDone before rows k x x counts counts changed changed row row
-apart-done before rows row k x counts changed apart = λ items left.
+apart-done : (before : Before) (rows : ValueRows) (row : List ℕ) (sum : LineSum) (x : Item) (counts : Counts) (changed : List ℕ) → AreApart row sum (line_sum_of x) → IsDone before rows sum x x counts counts changed changed row row
+apart-done before rows row sum x counts changed apart = λ items left.
     let test = is_due (base_before before) (lines_before before) (edit_on before) in
-    let next : suc k ≡ k + 1 = omega arith in
+    let next : suc sum.count ≡ sum.count + 1 = omega arith in
     inr (record {
-      not_due = ap test (sym next) ∙ apart-fails test k (length items) (2 ^ 32 - 1) row left.ahead (omega (arith, apart.1));
+      not_due = ap test (sym next) ∙ apart-fails test sum.count (length items) (2 ^ 32 - 1) row left.ahead (omega (arith, apart.1));
       item = refl;
       counts_stay = refl;
       changed_stay = refl;
@@ -151,7 +153,7 @@ apart-done before rows row k x counts changed apart = λ items left.
     })
 
 -- the law of skipping: the items of such lines are left as they are
-pub apart_left : {P : Type 0} (gives : P → ℕ → Item → Item → P → Type 0) (p : P) (before : Before) (rows : ValueRows) (row : List ℕ) (counts : Counts) (changed : List ℕ) → ((b : ℕ) (x : Item) → IsDone before rows b x x counts counts changed changed row row → gives p b x x p) → (b : ℕ) (xs : List Item) → AreApart row b (length xs) → Runs gives ◌+◌ one p b xs xs p
-apart_left gives p before rows row counts changed leaves b xs apart =
-    kept_by_parts gives count_laws one p (AreApart row) (λ c x y _ _ _ h. apart-first row c x y h) (λ c x y _ _ _ h. apart-rest row c x y h)
-    (λ c x _ h. leaves c x (apart-done before rows row c x counts changed h)) b xs tt (all-ones xs) (subst (AreApart row b) (sym (total-ones xs)) apart)
+pub apart_left : {P : Type 0} (gives : P → LineSum → Item → Item → P → Type 0) (p : P) (before : Before) (rows : ValueRows) (row : List ℕ) (counts : Counts) (changed : List ℕ) → ((b : LineSum) (x : Item) → IsDone before rows b x x counts counts changed changed row row → gives p b x x p) → (b : LineSum) (xs : List Item) → IsLineSum b → AllSums IsLineSum line_sum_of xs → AreApart row b (total no_line_sum both_line_sums line_sum_of xs) → Runs gives both_line_sums line_sum_of p b xs xs p
+apart_left gives p before rows row counts changed one b xs v a k =
+    kept_by_parts gives line_sum_laws line_sum_of p (AreApart row) (λ c x y _ _ _ h. apart-first row c x y h) (λ c x y _ _ _ h. apart-rest row c x y h)
+    (λ c x _ h. one c x (apart-done before rows row c x counts changed h)) b xs v a k

@@ -1,12 +1,12 @@
 //! The lines of a text with their codes.
 
 ghost use Rattle.std.specs.Prelude.{◌≡◌, IfOk};
-ghost use Rattle.rv_store.specs.NoSums.{no_sum};
+ghost use Rattle.rv_store.specs.LineSums.{line_sum_of};
 
 use crate::kept_code::KeptCode;
 use crate::line::Line;
+use crate::line_sum::LineSum;
 use crate::line_values::LineValues;
-use crate::no_sum::NoSum;
 use rv_fix::Coded;
 use rv_layout::Measured;
 use rv_tree::Summed;
@@ -24,12 +24,12 @@ pub struct Item {
 }
 
 impl Summed for Item {
-    type Sum = NoSum;
+    type Sum = LineSum;
 
-    ghost sum_of = { λ item. no_sum };
+    ghost sum_of = { line_sum_of };
 
-    fn sum(&self) -> NoSum {
-        NoSum
+    fn sum(&self) -> LineSum {
+        LineSum { count: 1 }
     }
 }
 

@@ -13,10 +13,11 @@ ghost use Rattle.rv_store.specs.ValueRows.{AreValueRows, base_of};
 
 use crate::before::Before;
 use crate::item::Item;
+use crate::line_sum::LineSum;
 use crate::renewed_line::{add_changed, renewed};
 use crate::value_rows::ValueRows;
 use rv_text::Count;
-use rv_tree::{CountedPass, SumTree, TreeError};
+use rv_tree::{Pass, SumTree, TreeError};
 use std::alloc::{AllocError, Global};
 
 #[derive(Drop)]
@@ -60,7 +61,7 @@ fn first_of(lines: &[u32]) -> u32
     }
 }
 
-impl<'a, 'e, C: Count> CountedPass<Item> for Renewal<'a, 'e, C> {
+impl<'a, 'e, C: Count> Pass<Item> for Renewal<'a, 'e, C> {
     ghost accepts = { λ p b xs. AreLeft p.before.now p.rows.now p.ahead.now b xs (counts_of C.parsed_count C.valued_count C.encoded_count p.counter.now) };
 
     ghost gives = { λ p b x y q.
@@ -71,18 +72,18 @@ impl<'a, 'e, C: Count> CountedPass<Item> for Renewal<'a, 'e, C> {
         × (q.counter.ghost_name ≡ p.counter.ghost_name) };
 
     ghost refuses = { λ p b x q. (q.before.now ≡ p.before.now)
-        × AreCounted p.before.now b (b + 1) (counts_of C.parsed_count C.valued_count C.encoded_count p.counter.now) (counts_of C.parsed_count C.valued_count C.encoded_count q.counter.now)
+        × AreCounted p.before.now b.count (b.count + 1) (counts_of C.parsed_count C.valued_count C.encoded_count p.counter.now) (counts_of C.parsed_count C.valued_count C.encoded_count q.counter.now)
         × (q.changed.ghost_name ≡ p.changed.ghost_name)
         × (q.counter.ghost_name ≡ p.counter.ghost_name) };
 
     ghost keeps = { λ p b s. AreApart p.ahead.now b s };
 
-    fn visit(&mut self, before: u32, item: &Item) -> Result<Option<Item>, AllocError> {
-        let Some(ahead) = ahead_of_next(self.before, self.ahead, before) else {
+    fn visit(&mut self, before: &LineSum, item: &Item) -> Result<Option<Item>, AllocError> {
+        let Some(ahead) = ahead_of_next(self.before, self.ahead, before.count) else {
             return Ok(None);
         };
         self.ahead = ahead;
-        let line = before + 1;
+        let line = before.count + 1;
         match renewed(self.alloc, self.before, self.rows, line, item, self.counter) {
             Ok(Some(new)) => {
                 add_changed(self.before, line, item, &new, self.changed)?;
@@ -93,8 +94,11 @@ impl<'a, 'e, C: Count> CountedPass<Item> for Renewal<'a, 'e, C> {
         }
     }
 
-    fn skips(&self, before: u32, len: u32) -> bool {
-        before + len < first_of(self.ahead)
+    fn skips(&self, before: &LineSum, sum: &LineSum) -> bool {
+        match before.count.checked_add(sum.count) {
+            Some(last) => last < first_of(self.ahead),
+            None => false,
+        }
     }
 
     ghost use Rattle.std.proofs.Common.{refl};
@@ -102,7 +106,7 @@ impl<'a, 'e, C: Count> CountedPass<Item> for Renewal<'a, 'e, C> {
 
     ghost accepts_rest = { λ p q b x y xs c g. done-next p.before.now q.before.now p.rows.now q.rows.now _ _ b x y xs _ _ _ _ c g.0 g.1 g.2 };
 
-    ghost kept = { λ p b xs k. apart_left _ p p.before.now p.rows.now p.ahead.now (counts_of C.parsed_count C.valued_count C.encoded_count p.counter.now) p.changed.now.items (λ c x done. (done, refl, refl, refl, refl)) b xs k };
+    ghost kept = { λ p b xs n v a k. apart_left _ p p.before.now p.rows.now p.ahead.now (counts_of C.parsed_count C.valued_count C.encoded_count p.counter.now) p.changed.now.items (λ c x done. (done, refl, refl, refl, refl)) b xs v a k };
 }
 
 /// The items of a text after an edit, those of these lines made anew, which are those that are due: one pass over the tree. It
@@ -138,5 +142,5 @@ pub fn renewed_in_one_pass<C: Count>(
         changed,
         counter,
     };
-    items.rewritten_by_count(&mut pass)
+    items.rewritten(&mut pass)
 }

@@ -1,5 +1,4 @@
 pub mod Contents
-pub mod Counts
 pub mod Passes
 pub mod PassLaws
 pub mod Refusals

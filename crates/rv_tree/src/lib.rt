@@ -3,7 +3,6 @@
 #![tactic(auto)]
 
 mod balance;
-mod counted;
 mod edits;
 mod error;
 mod items;
@@ -15,7 +14,6 @@ mod rewriting;
 mod sums;
 mod tree;
 
-pub use counted::CountedPass;
 pub use error::TreeError;
 pub use items::Items;
 pub use limits::{MAX_HEIGHT, MAX_ITEMS};

@@ -32,10 +32,11 @@ impl<T: Summed> Subtree<T> {
     {
         match &self.node {
             Node::Leaf(item) => {
+                let unit = T::Sum::unit();
                 if count == 0 {
-                    T::Sum::unit()
+                    unit
                 } else {
-                    item.sum()
+                    item.sum().join(&unit)
                 }
             }
             Node::Fork { left, right, .. } => {
@@ -44,7 +45,7 @@ impl<T: Summed> Subtree<T> {
                     left.prefix(count)
                 } else {
                     let rest = right.prefix(count - left_len);
-                    left.sum_ahead(&rest)
+                    left.sum().join(&rest)
                 }
             }
         }

@@ -91,7 +91,7 @@ impl<T: Summed> Subtree<T> {
         ensures sums { AllSums T.Sum.IsValue T.sum_of self.now.items }
     {
         match &self.node {
-            Node::Leaf(item) => item.sum(),
+            Node::Leaf(item) => item.sum().join(&T::Sum::unit()),
             Node::Fork { sum, .. } => sum.join(&T::Sum::unit()),
         }
     }
@@ -102,31 +102,8 @@ impl<T: Summed> Subtree<T> {
         ensures sums { AllSums T.Sum.IsValue T.sum_of self.now.items }
     {
         match &self.node {
-            Node::Leaf(item) => before.join(&item.sum()),
+            Node::Leaf(item) => before.join(&item.sum().join(&T::Sum::unit())),
             Node::Fork { sum, .. } => before.join(sum),
-        }
-    }
-
-    // The sum of all items and of some behind the tree.
-    pub(crate) fn sum_ahead(&self, behind: &T::Sum) -> T::Sum
-        ensures value { result ≡ T.Sum.op (total T.Sum.empty T.Sum.op T.sum_of self.now.items) behind.now }
-        ensures sums { AllSums T.Sum.IsValue T.sum_of self.now.items }
-    {
-        match &self.node {
-            Node::Leaf(item) => item.sum().join(behind),
-            Node::Fork { sum, .. } => sum.join(behind),
-        }
-    }
-
-    // The sum of all items and, behind them, of those of another tree.
-    fn sum_with(&self, next: &Subtree<T>) -> T::Sum
-        ensures value { result ≡ T.Sum.op (total T.Sum.empty T.Sum.op T.sum_of self.now.items) (total T.Sum.empty T.Sum.op T.sum_of next.now.items) }
-        ensures first { AllSums T.Sum.IsValue T.sum_of self.now.items }
-        ensures second { AllSums T.Sum.IsValue T.sum_of next.now.items }
-    {
-        match &self.node {
-            Node::Leaf(item) => next.sum_behind(&item.sum()),
-            Node::Fork { sum, .. } => next.sum_behind(sum),
         }
     }
 
@@ -140,7 +117,7 @@ impl<T: Summed> Subtree<T> {
         let second: &Subtree<T> = &right;
         let len = first.len() + second.len();
         let height = first.height().max(second.height()) + 1;
-        let sum = first.sum_with(second);
+        let sum = second.sum_behind(&first.sum());
         Subtree {
             node: Node::Fork {
                 left,

@@ -99,7 +99,7 @@ impl<T: Summed> Subtree<T> {
     }
 
     // A tree whose sides became these.
-    pub(crate) fn rejoined(
+    fn rejoined(
         alloc: Global,
         tree: &Rc<Subtree<T>>,
         first: Rewritten<T>,

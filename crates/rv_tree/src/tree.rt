@@ -1,13 +1,11 @@
 //! The list of items that callers see.
 
-ghost use Rattle.std.specs.Prelude.{◌≡◌, ◌+◌, ◌-◌, ◌≤◌, ◌==◌, length, [], None, if◌then◌else◌, IfOk, IfErr, OnErr, slice_get, slice_set, take, insert, remove, unwrap_or};
+ghost use Rattle.std.specs.Prelude.{◌≡◌, ◌-◌, ◌≤◌, ◌==◌, length, [], None, if◌then◌else◌, IfOk, IfErr, OnErr, slice_get, slice_set, take, insert, remove, unwrap_or};
 ghost use Rattle.std.specs.Option.{option_map};
-ghost use Rattle.rv_tree.specs.Counts.{one};
 ghost use Rattle.rv_tree.specs.Passes.{Runs, Stops};
 ghost use Rattle.rv_tree.specs.Refusals.{insert_refusal, place_refusal};
 ghost use Rattle.rv_tree.specs.Sums.{total, AllSums};
 
-use crate::counted::CountedPass;
 use crate::error::TreeError;
 use crate::items::Items;
 use crate::limits::{MAX_HEIGHT, MAX_ITEMS};
@@ -195,29 +193,6 @@ impl<T: Summed> SumTree<T> {
             Some(root) => {
                 let unit = T::Sum::unit();
                 let Rewritten { tree, .. } = Subtree::rewritten(self.alloc, root, &unit, pass)?;
-                Ok(SumTree::with_root(self.alloc, tree))
-            }
-        }
-    }
-
-    /// The list that a pass makes of the items, handed one by one from the first on. It is as for `rewritten`, but that the pass is told
-    /// how many items there are before each, so that no sums are joined but those of new nodes.
-    pub fn rewritten_by_count<P: CountedPass<T>>(
-        &self,
-        pass: &mut P,
-    ) -> Result<SumTree<T>, TreeError>
-        requires accepted { P.accepts pass.old 0 self.now.items }
-        ensures refused { IfErr result (λ e. e ≡ TreeError.Memory) }
-        ensures runs { IfOk result (λ t. Runs P.gives ◌+◌ one pass.old 0 self.now.items t.items pass.new) }
-        ensures stops { OnErr result (Stops P.gives P.refuses ◌+◌ one pass.old 0 self.now.items pass.new) }
-        ensures height { IfOk result (λ t. t.height ≡ self.now.height) }
-    {
-        match &self.root {
-            None => Ok(SumTree::new(self.alloc)),
-            Some(root) => {
-                let Rewritten { tree, .. } = Subtree::rewritten_by_count(
-                    self.alloc, root, 0, pass,
-                )?;
                 Ok(SumTree::with_root(self.alloc, tree))
             }
         }

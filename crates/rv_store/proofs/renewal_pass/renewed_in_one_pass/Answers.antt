@@ -11,8 +11,8 @@ use Rattle.rv_store.specs.Renewals.{AreLeft, done-next}
 use Rattle.rv_store.proofs.RenewalRuns.{visited, run_items, run_listed, outcome_counted}
 use Rattle.rv_store.proofs.renewal_pass.renewed_in_one_pass.Goals as goal
 
-pub rewritten_by_count-requires : goal.rewritten_by_count-requires
-rewritten_by_count-requires g c =
+pub rewritten-requires : goal.rewritten-requires
+rewritten-requires g c =
     let before = c.args.before.now in
     let n = length c.args.rows.now.symbols.text.lines.now in
     let test = is_due (base_before before) (lines_before before) (edit_on before) in
@@ -36,7 +36,7 @@ returns-clause-items g c =
     let before = c.args.before.now in
     let n = length rows.symbols.text.lines.now in
     let test = is_due (base_before before) (lines_before before) (edit_on before) in
-    IfOk-weaker c.rewritten_by_count.result _ _
+    IfOk-weaker c.rewritten.result _ _
     (λ t r. run_items _ (λ p b xs. AreLeft p.before.now p.rows.now p.ahead.now b xs (count p.counter.now)) (λ p. p.before.now) (λ p. p.rows.now) (λ p. count p.counter.now) (λ p. p.changed.now.items) (λ p. p.changed.ghost_name) (λ p. p.counter.ghost_name) (λ p. p.ahead.now)
     (λ p q b x y xs can g. done-next p.before.now q.before.now p.rows.now q.rows.now _ _ b x y xs _ _ _ _ can g.0 g.1 g.2)
     (λ p q b x y xs can g. (visited p.before.now p.rows.now b x y xs _ _ _ _ _ _ can g.0, g.1, g.2, g.3, g.4)) rows [] refl (record {
@@ -49,7 +49,7 @@ returns-clause-items g c =
       valued = omega (arith, c.requires.valued, c.requires.count);
       encoded = omega (arith, c.requires.encoded, c.requires.count);
     }) r c.requires.after.few (omega (arith, c.requires.count)) (no_items (base_of rows) rows.symbols.text.lines.now))
-    c.rewritten_by_count.ensures.runs
+    c.rewritten.ensures.runs
 
 pub returns-clause-changed : goal.returns-clause-changed
 returns-clause-changed g c =
@@ -57,7 +57,7 @@ returns-clause-changed g c =
     let before = c.args.before.now in
     let n = length c.args.rows.now.symbols.text.lines.now in
     let test = is_due (base_before before) (lines_before before) (edit_on before) in
-    IfOk-weaker c.rewritten_by_count.result _ _
+    IfOk-weaker c.rewritten.result _ _
     (λ t r. run_listed _ (λ p b xs. AreLeft p.before.now p.rows.now p.ahead.now b xs (count p.counter.now)) (λ p. p.before.now) (λ p. p.rows.now) (λ p. count p.counter.now) (λ p. p.changed.now.items) (λ p. p.changed.ghost_name) (λ p. p.counter.ghost_name) (λ p. p.ahead.now)
     (λ p q b x y xs can g. done-next p.before.now q.before.now p.rows.now q.rows.now _ _ b x y xs _ _ _ _ can g.0 g.1 g.2)
     (λ p q b x y xs can g. (visited p.before.now p.rows.now b x y xs _ _ _ _ _ _ can g.0, g.1, g.2, g.3, g.4)) before n refl (record {
@@ -70,7 +70,7 @@ returns-clause-changed g c =
       valued = omega (arith, c.requires.valued, c.requires.count);
       encoded = omega (arith, c.requires.encoded, c.requires.count);
     }) r c.requires.after.few (omega (arith, c.requires.count)) refl c.requires.changed _ (λ e. ap (λ v. v.items) (c.changed-1.given.1 e)))
-    c.rewritten_by_count.ensures.runs
+    c.rewritten.ensures.runs
 
 pub returns-clause-counted : goal.returns-clause-counted
 returns-clause-counted g c =
@@ -90,5 +90,5 @@ returns-clause-counted g c =
       former = c.requires.former;
       valued = omega (arith, c.requires.valued, c.requires.count);
       encoded = omega (arith, c.requires.encoded, c.requires.count);
-    }) c.requires.after.few (omega (arith, c.requires.count)) c.rewritten_by_count.result (λ t. t.items) c.rewritten_by_count.ensures.runs c.rewritten_by_count.ensures.stops in
+    }) c.requires.after.few (omega (arith, c.requires.count)) c.rewritten.result (λ t. t.items) c.rewritten.ensures.runs c.rewritten.ensures.stops in
     rw (c.counter-1.given.1 (sym all.1)) all.0

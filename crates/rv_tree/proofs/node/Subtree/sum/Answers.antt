@@ -10,4 +10,4 @@ returns-in-Fork-clause-value g c =
     let ok = rw c.in-Fork.is at c.self.invariant in
     let is = rw c.in-Fork.is at c.self.view_is in
     let value : j.IsValue c.in-Fork.sum = rw ok.sum_is (total_is_value laws g.T.Summed.sum_of _ ok.sums) in
-    c.join.ensures ∙ ap (j.op c.in-Fork.sum) c.unit.ensures ∙ laws.right_unit c.in-Fork.sum value ∙ ok.sum_is ∙ ap (λ d. total j.empty j.op g.T.Summed.sum_of d.items) is
+    c.join-in-Fork.ensures ∙ ap (j.op c.in-Fork.sum) c.unit-in-Fork.ensures ∙ laws.right_unit c.in-Fork.sum value ∙ ok.sum_is ∙ ap (λ d. total j.empty j.op g.T.Summed.sum_of d.items) is

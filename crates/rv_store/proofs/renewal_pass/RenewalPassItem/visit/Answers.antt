@@ -5,7 +5,7 @@ use Rattle.rv_store.specs.Renewals.{AreCounted}
 use Rattle.rv_store.proofs.ChangeLaws.{not_changed}
 use Rattle.rv_store.proofs.ListedLines.{none_listed}
 use Rattle.rv_store.proofs.RenewalRuns.{first_former}
-use Rattle.rv_store.proofs.renewal_pass.RenewalCountedPassItem.visit.Goals as goal
+use Rattle.rv_store.proofs.renewal_pass.RenewalPassItem.visit.Goals as goal
 
 pub ahead_of_next-requires-clause-within : goal.ahead_of_next-requires-clause-within
 ahead_of_next-requires-clause-within g c =
@@ -31,18 +31,18 @@ returns-in_default-clause-given g c = (
 pub renewed-requires-clause-former : goal.renewed-requires-clause-former
 renewed-requires-clause-former g c =
     let before = c.args.self.now.before.now in
-    first_former (base_before before) (lines_before before) (edit_on before) c.args.before c.args.item.now c.requires.accepted.0 c.requires.accepted.1.former
+    first_former (base_before before) (lines_before before) (edit_on before) c.args.before.now.count c.args.item.now c.requires.accepted.0 c.requires.accepted.1.former
 
 pub add_changed-requires-clause-former : goal.add_changed-requires-clause-former
 add_changed-requires-clause-former g c =
     let before = c.args.self.now.before.now in
-    first_former (base_before before) (lines_before before) (edit_on before) c.args.before c.args.item.now c.requires.accepted.0 c.requires.accepted.1.former
+    first_former (base_before before) (lines_before before) (edit_on before) c.args.before.now.count c.args.item.now c.requires.accepted.0 c.requires.accepted.1.former
 
 pub returns-in-Ok-None-clause-given : goal.returns-in-Ok-None-clause-given
 returns-in-Ok-None-clause-given g c =
     let before = c.args.self.now.before.now in
     let count = counts_of g.C.Count.parsed_count g.C.Count.valued_count g.C.Count.encoded_count in
-    let k = c.args.before in
+    let k = c.args.before.now.count in
     let left = c.requires.accepted.1 in
     let none = rw c.in-Ok-None.field-0-is at c.in-Ok-None.ensures in
     let back : k + 1 - 1 ≡ k = omega arith in
