@@ -1,6 +1,6 @@
 -- The faults of lines, and their rows.
-use Rattle.std.proofs.Common.{◌≡◌, ℕ, zero, suc, ◌+◌, ◌-◌, ◌==◌, ◌≤◌, not, ◌||◌, List, [], ◌∷◌, ◌++◌, length, take, drop, get_or, map, Option, Some, refl, ap, ◌∙◌, add-one, append_assoc}
-use Rattle.std.proofs.lemmas.List.{map-append}
+use Rattle.std.proofs.Common.{◌≡◌, ℕ, zero, suc, ◌+◌, ◌-◌, ◌==◌, ◌≤◌, not, ◌||◌, List, [], ◌∷◌, ◌++◌, length, take, drop, get_or, map, Option, Some, refl, ap, sym, ◌∙◌, add-one, append_assoc}
+use Rattle.std.proofs.lemmas.List.{length-map, map-append}
 use Rattle.std.proofs.lemmas.List.Folds.{concat-append}
 use Rattle.std.specs.List.{concat, list_any}
 use Rattle.std.specs.Prelude.{slice_get}
@@ -25,6 +25,10 @@ set_from bytes i = rw add-one (at bytes i)
 pub all_found : (fs : List Fault) → found (map (λ f. Some f) fs) ≡ fs
 all_found [] = refl
 all_found (f ∷ fs) = ap (λ l. f ∷ l) (all_found fs)
+
+-- and a line has a row for each
+pub found_rows : (line : ℕ) (fs : List Fault) (found : List (Option Fault)) → found ≡ map (λ f. Some f) fs → length found ≡ length (map (fault_row line) fs)
+found_rows line fs found is = ap length is ∙ length-map fs (λ f. Some f) ∙ sym (length-map fs (fault_row line))
 
 -- the rows of faults
 abbrev rows_of : (line : ℕ) → List (Option Fault) → List ℕ

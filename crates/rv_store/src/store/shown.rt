@@ -1,6 +1,7 @@
 //! What a store shows of its text.
 
 ghost use Rattle.std.specs.Prelude.{◌≡◌, ◌≤◌, length};
+ghost use Rattle.rv_store.specs.Items.{IsItem};
 ghost use Rattle.rv_store.specs.Layout.{place_at};
 ghost use Rattle.rv_store.specs.Passed.{is_loud, may_be_misplaced};
 ghost use Rattle.rv_store.specs.Program.{program_of};
@@ -35,6 +36,20 @@ impl<'a> Model for StoreLines<'a> {
     ghost invariant = { λ s. ArePassed s.store.now.base s.store.now.lines s.passed (option_map (λ i. i.now) s.last) s.left };
 }
 
+impl StoreLines<'_> {
+    // The item of the line that was passed last.
+    fn last_item(&self) -> &Item
+        requires { 1 ≤ self.now.count }
+        ensures item { IsItem self.now.text.base self.now.text.lines self.now.count result.now }
+        ensures within { self.now.count ≤ length self.now.text.lines }
+    {
+        let Some(item) = self.last else {
+            unreachable!()
+        };
+        item
+    }
+}
+
 impl LineSource for StoreLines<'_> {
     ghost shown = { λ l. shown_of l.text };
 
@@ -46,9 +61,7 @@ impl LineSource for StoreLines<'_> {
     }
 
     fn line(&self) -> LineView<'_> {
-        let Some(item) = self.last else {
-            unreachable!()
-        };
+        let item = self.last_item();
         item.line.labels_are_few();
         LineView {
             text: item.line.text(),
@@ -76,9 +89,7 @@ fn may_be_misplaced(place: LinePlace) -> bool
 
 impl TestedLines for StoreLines<'_> {
     fn may_have_faults(&self) -> bool {
-        let Some(item) = self.last else {
-            unreachable!()
-        };
+        let item = self.last_item();
         is_loud(item) || may_be_misplaced(self.store.place(self.passed))
     }
 }

@@ -1,7 +1,6 @@
-use Rattle.std.proofs.Common.{◌≡◌, ℕ, ◌+◌, List, [], length, map, Some, arith, ap, sym, ◌∙◌}
-use Rattle.std.proofs.lemmas.List.{length-map}
-use Rattle.rv_text.specs.declared.faults.Fault.{Fault}
+use Rattle.std.proofs.Common.{◌≡◌, ℕ, ◌+◌, List, [], length, map, arith, ap, sym, ◌∙◌}
 use Rattle.rv_list.specs.Faults.{fault_row, faults_of}
+use Rattle.rv_list.proofs.FaultRows.{found_rows}
 use Rattle.rv_list.proofs.Joined.{joined_none, length_of_more}
 use Rattle.rv_list.proofs.PassedLines.{passed_line, passed_quiet}
 use Rattle.rv_list.proofs.faults.count_faults.Goals as goal
@@ -10,12 +9,11 @@ pub loop-k-preserved : goal.loop-k-preserved
 loop-k-preserved g c =
     let shown = g.V.View.shown c.args.view.now in
     let k = c.loop-k.k in
-    let faults : ℕ → List Fault = λ k. faults_of shown (k + 1) (shown.line (k + 1)) in
+    let rows : ℕ → List (List ℕ) = λ k. map (fault_row (k + 1)) (faults_of shown (k + 1) (shown.line (k + 1))) in
     let found = rw (passed_line c.line.ensures.value c.advance.ensures.text c.loop-k.invariant.text c.advance.ensures.passed c.loop-k.invariant.passed) at c.find_faults.ensures.faults in
-    let here : c.len.result ≡ length (faults k) = c.len.ensures.value ∙ ap length found ∙ length-map (faults k) (λ f. Some f) in
-    let rows : length (map (fault_row (k + 1)) (faults k)) ≡ length (faults k) = length-map (faults k) (fault_row (k + 1)) in
+    let here : c.len.result ≡ length (rows k) = c.len.ensures.value ∙ found_rows (k + 1) _ _ found in
     record {
-      count = omega (arith, c.loop-k.invariant.count, here, rows, length_of_more (λ k. map (fault_row (k + 1)) (faults k)) k);
+      count = omega (arith, c.loop-k.invariant.count, here, length_of_more rows k);
       few = omega (arith, c.loop-k.invariant.few, c.len.ensures.value, c.find_faults.ensures.few);
       text = c.advance.ensures.text ∙ c.loop-k.invariant.text;
       passed = omega (arith, c.advance.ensures.passed, c.loop-k.invariant.passed);

@@ -1,11 +1,9 @@
-use Rattle.std.proofs.Common.{◌≡◌, ℕ, ◌+◌, ◌≤◌, ◌<◌, List, [], length, map, Some, arith, ap, ◌∙◌}
+use Rattle.std.proofs.Common.{◌≡◌, ℕ, ◌+◌, ◌≤◌, ◌<◌, List, [], length, map, arith, ap, ◌∙◌}
 use Rattle.std.proofs.lemmas.Grind.{common_steps}
 use Rattle.std.proofs.lemmas.Result.{err_from_is_err_and}
-use Rattle.std.proofs.lemmas.List.{length-map}
-use Rattle.rv_text.specs.declared.faults.Fault.{Fault}
 use Rattle.rv_list.specs.Faults.{fault_row, faults_of}
 use Rattle.rv_list.specs.Joined.{joined}
-use Rattle.rv_list.proofs.FaultRows.{all_found}
+use Rattle.rv_list.proofs.FaultRows.{all_found, found_rows}
 use Rattle.rv_list.proofs.Joined.{joined_none, joined_within, joined_no_more, length_of_more, lost_rows, gathered_rows}
 use Rattle.rv_list.proofs.PassedLines.{passed_line, passed_quiet}
 use Rattle.rv_list.proofs.faults.push_fault_rows.Goals as goal
@@ -33,13 +31,11 @@ pub overflow_sub-left : goal.overflow_sub-left
 overflow_sub-left g c =
     let shown = g.V.View.shown c.args.view.now in
     let k = c.loop-k.k in
-    let faults : ℕ → List Fault = λ k. faults_of shown (k + 1) (shown.line (k + 1)) in
-    let rows : ℕ → List (List ℕ) = λ k. map (fault_row (k + 1)) (faults k) in
+    let rows : ℕ → List (List ℕ) = λ k. map (fault_row (k + 1)) (faults_of shown (k + 1) (shown.line (k + 1))) in
     let within : k + 1 ≤ shown.count = omega (arith, c.loop-k-test.true, c.line_count-k-end.ensures.value) in
     let found = rw (passed_line c.line.ensures.value c.advance.ensures.text c.loop-k.invariant.text c.advance.ensures.passed c.loop-k.invariant.passed) at c.find_faults.ensures.faults in
-    let here : c.len.result ≡ length (faults k) = c.len.ensures.value ∙ ap length found ∙ length-map (faults k) (λ f. Some f) in
-    let row : length (rows k) ≡ length (faults k) = length-map (faults k) (fault_row (k + 1)) in
-    omega (arith, c.loop-k.invariant.left, c.requires.counted, here, row, length_of_more rows k, joined_within rows (k + 1) shown.count within)
+    let here : c.len.result ≡ length (rows k) = c.len.ensures.value ∙ found_rows (k + 1) _ _ found in
+    omega (arith, c.loop-k.invariant.left, c.requires.counted, here, length_of_more rows k, joined_within rows (k + 1) shown.count within)
 
 pub loop-k-preserved : goal.loop-k-preserved
 loop-k-preserved g c =
@@ -47,13 +43,10 @@ loop-k-preserved g c =
     let rows : ℕ → List (List ℕ) = λ k. map (fault_row (k + 1)) (faults_of shown (k + 1) (shown.line (k + 1))) in
     let found = rw (passed_line c.line.ensures.value c.advance.ensures.text c.loop-k.invariant.text c.advance.ensures.passed c.loop-k.invariant.passed) at c.find_faults.ensures.faults in
     let text = rw (c.as_slice.ensures.value, found, all_found) at c.in_ok-push_line_faults.ensures.text in
-    let here : c.len.result ≡ length (faults_of shown (c.loop-k.k + 1) (shown.line (c.loop-k.k + 1))) =
-    c.len.ensures.value ∙ ap length found ∙ length-map (faults_of shown (c.loop-k.k + 1) (shown.line (c.loop-k.k + 1))) (λ f. Some f) in
+    let here : c.len.result ≡ length (rows c.loop-k.k) = c.len.ensures.value ∙ found_rows (c.loop-k.k + 1) _ _ found in
     let within : c.loop-k.k + 1 ≤ shown.count = omega (arith, c.loop-k-test.true, c.line_count-k-end.ensures.value) in
-    let row : length (rows c.loop-k.k) ≡ length (faults_of shown (c.loop-k.k + 1) (shown.line (c.loop-k.k + 1))) =
-    length-map (faults_of shown (c.loop-k.k + 1) (shown.line (c.loop-k.k + 1))) (fault_row (c.loop-k.k + 1)) in
     record {
-      left = omega (arith, c.loop-k.invariant.left, c.requires.counted, here, row, length_of_more rows c.loop-k.k, joined_within rows (c.loop-k.k + 1) shown.count within);
+      left = omega (arith, c.loop-k.invariant.left, c.requires.counted, here, length_of_more rows c.loop-k.k, joined_within rows (c.loop-k.k + 1) shown.count within);
       waits = gathered_rows rows c.loop-k.k _ _ _ _ _ _ c.loop-k.invariant.waits text;
       failures = grind (arith, common_steps, c.in_ok-push_line_faults.ensures.count);
       text = c.advance.ensures.text ∙ c.loop-k.invariant.text;
