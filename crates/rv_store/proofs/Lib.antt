@@ -54,6 +54,7 @@ pub mod PassedItems
 pub mod PlacedWith
 pub mod Programs
 pub mod QuietLines
+pub mod RememberedNames
 pub mod RenewalRuns
 pub mod Rooms
 pub mod Sameness

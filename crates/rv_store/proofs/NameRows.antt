@@ -14,7 +14,7 @@ use Rattle.rv_store.proofs.NameSets.{bucket-below}
 -- Places of elements
 
 -- the first place is the head's, or one more than that in the tail
-position-cons : {A : Type 0} (p : A → Bool) (x : A) (xs : List A) → position p (x ∷ xs) ≡ (if p x then Some 0 else option_map suc (position p xs))
+pub position-cons : {A : Type 0} (p : A → Bool) (x : A) (xs : List A) → position p (x ∷ xs) ≡ (if p x then Some 0 else option_map suc (position p xs))
 position-cons p x xs = at (p x) (position_or_len p xs) (length xs)
   where
     ltb-suc : (k n : ℕ) → ltb (1 + k) (suc n) ≡ ltb k n
@@ -102,11 +102,13 @@ position-inserted p (x ∷ xs) y h = at (p x) refl (list_any p xs) refl (positio
 pub number-below : (names : List (List ℕ)) (name : List ℕ) (n : ℕ) → number_of names name ≡ Some n → n < length names
 number-below names name n e = position-below (bytes_eq name) names n e
 
+-- a name stands at the place that is its number
+pub name-at : (names : List (List ℕ)) (name : List ℕ) (n : ℕ) (other : List ℕ) → number_of names name ≡ Some n → name ≡ get_or names n other
+name-at names name n other e = (bytes_eq-Decides name (get_or names n other)).0 (position-passes (bytes_eq name) names n other e)
+
 -- names with the same number are one
 pub number-same : (names : List (List ℕ)) (m name : List ℕ) (n : ℕ) → number_of names m ≡ Some n → number_of names name ≡ Some n → m ≡ name
-number-same names m name n e g =
-    (bytes_eq-Decides m (get_or names n [])).0 (position-passes (bytes_eq m) names n [] e)
-    ∙ sym ((bytes_eq-Decides name (get_or names n [])).0 (position-passes (bytes_eq name) names n [] g))
+number-same names m name n e g = name-at names m n [] e ∙ sym (name-at names name n [] g)
 
 -- among names that differ
 
@@ -184,7 +186,7 @@ module _ (names : List (List ℕ)) (buckets : List ℕ) (is : buckets ≡ map bu
   -- the bucket of the name that has this number
   pub bucket-of_number : (name : List ℕ) → number_of names name ≡ Some n → bucket ≡ bucket_of name
   bucket-of_number name numbered =
-      of_place ∙ ap bucket_of (sym ((bytes_eq-Decides name (get_or names n [])).0 (position-passes (bytes_eq name) names n [] numbered)))
+      of_place ∙ ap bucket_of (sym (name-at names name n [] numbered))
 
   pub bucket-of_number-below : bucket < 4096
   bucket-of_number-below = subst (λ b. b < 4096) (sym of_place) (bucket-below (get_or names n []))

@@ -15,6 +15,7 @@ pub mod Differing
 pub mod Edits
 pub mod Ends
 pub mod Fits
+pub mod Forgetting
 pub mod Former
 pub mod FormerShapes
 pub mod Items

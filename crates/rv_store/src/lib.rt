@@ -18,6 +18,7 @@ mod ending;
 mod ends;
 mod equ_values;
 mod extension;
+mod forgetting;
 mod groups;
 mod highs;
 mod invalidation;

@@ -1,6 +1,6 @@
 //! Names that have numbers.
 
-ghost use Rattle.std.specs.Prelude.{◌≡◌, ◌<◌, ℕ, List, [], Some, length, IfSome, IfOk};
+ghost use Rattle.std.specs.Prelude.{◌≡◌, ◌<◌, ℕ, List, [], ◌∷◌, ◌++◌, None, Some, length, IfSome, IfOk, OnOk};
 ghost use Rattle.rv_store.specs.NameSets.{bucket_of};
 ghost use Rattle.rv_store.specs.Rows.{number_of, IsNumber, entry_at, in_row, Grows};
 
@@ -79,6 +79,7 @@ impl NameTable {
     /// no memory for one more.
     pub fn intern(&mut self, alloc: Global, name: &[u8]) -> Result<usize, AllocError>
         ensures number { IfOk result (λ n. number_of self.new name.now ≡ Some n) }
+        ensures last { number_of self.old name.now ≡ None → OnOk result (self.new ≡ self.old ++ name.now ∷ []) }
         ensures grows { Grows self.old self.new }
     {
         if let Some(number) = self.number(name) {

@@ -29,6 +29,7 @@ use crate::edit::{LineEdit, ReadEdit};
 use crate::edit_error::EditError;
 use crate::ending::{Ending, apart_ending, appended, shape_at_end};
 use crate::extension::extended;
+use crate::forgetting::{Remembered, has_many_others};
 use crate::item::Item;
 use crate::limits::MAX_LINES;
 use crate::line::Line;
@@ -422,6 +423,23 @@ impl Store {
         }
     }
 
+    // Names that the text does not define lose their numbers where they are many. Where there is no memory for that, they keep
+    // them.
+    fn forget_names(&mut self)
+        ensures { self.new ≡ self.old }
+    {
+        if !has_many_others(&self.names, &self.survey.definitions) {
+            return;
+        }
+        let Ok(remembered) = Remembered::of(self.alloc, &self.names, &self.survey) else {
+            return;
+        };
+        self.names = remembered.names;
+        self.survey.definitions = remembered.definitions;
+        self.survey.constants = remembered.constants;
+        self.survey.equ_values = remembered.equ_values;
+    }
+
     // Makes an edit that is not refused, whose line was read, by the items that it leaves. Where there is no memory for that,
     // the text stays.
     fn rework<C: Count>(
@@ -444,6 +462,7 @@ impl Store {
         ensures values { C.valued_count counter.new ≤ C.valued_count counter.old + most_values self.old.base self.old.lines (edit_of edit.now) }
         ensures codes { C.encoded_count counter.new ≤ C.encoded_count counter.old + most_codes self.old.base self.old.lines (edit_of edit.now) }
     {
+        self.forget_names();
         let items = self.edited(&read)?;
         self.assemble(edit, read, items, counter)
     }

@@ -20,6 +20,16 @@ returns-clause-grows c =
     let grows = grows-inserted {A = Vec ℕ Global} (λ n. n.items) _ c.self.inside.names.keys c.in_ok-owned.owned in
     (grows.0, ap (map {A = Vec ℕ Global} (λ n. n.items)) c.in_ok-number.ensures.keys ∙ grows.1 ∙ ap (λ names. names ++ grows.0) c.self.view_is)
 
+pub returns-clause-last : goal.returns-clause-last
+returns-clause-last c = λ none.
+    let f = λ (n : Vec ℕ Global). n.items in
+    let name = c.args.name.now in
+    let keys = c.self.inside.names.keys in
+    let unknown : number_of (map f keys) name ≡ None = ap (λ names. number_of names name) c.self.view_is ∙ none in
+    ap (map f) c.in_ok-number.ensures.keys
+    ∙ names-inserted f name keys c.in_ok-owned.owned c.in_ok-owned.ensures.items unknown
+    ∙ ap (λ names. names ++ name ∷ []) c.self.view_is
+
 pub invariant_of-self-2 : goal.invariant_of-self-2
 invariant_of-self-2 c =
     let f = λ (n : Vec ℕ Global). n.items in
