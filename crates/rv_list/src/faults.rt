@@ -17,8 +17,8 @@ use rv_layout::section_number;
 use rv_stmt::{Body, Label, LabelName, Sect};
 use rv_text::{Failed, Fault, FaultNumber, OutputBlock, OutputRow, Sink, Span};
 
-// A line has at most one fault for each label, and four more.
-const MAX_FAULTS: usize = 1004;
+/// How many faults a line has at most: one for each label, and four more.
+pub const MAX_FAULTS: usize = 1004;
 
 // Adds a fault, where there is one.
 fn push_if(
@@ -155,9 +155,9 @@ fn is_lost_in_bss(section: Sect, payload: &Payload) -> bool
     !shows_bytes(section_number(section)) && has_set_byte(payload)
 }
 
-// Puts the faults of a line, in their order, in the place of those in the list.
+/// Puts the faults of line number `number` of a text, in their order, in the place of those in the list.
 #[tactic(auto, unfolding(crate::specs::Faults::faults_of))]
-fn find_faults<V: View>(
+pub fn find_faults<V: View>(
     faults: &mut ArrayVec<Option<Fault>, MAX_FAULTS>,
     view: &V,
     number: u32,
@@ -198,9 +198,9 @@ fn count_faults<V: View, L: TestedLines>(view: &V, mut lines: L) -> u32
     count
 }
 
-// The name of a fault.
+/// The name of a fault.
 #[tactic(auto, unfolding(crate::specs::Faults::fault_name))]
-fn fault_name(number: FaultNumber) -> &'static str
+pub fn fault_name(number: FaultNumber) -> &'static str
     ensures name { result.now ≡ fault_name number }
     ensures short { length result.now ≤ 13 }
 {

@@ -33,13 +33,17 @@ mod value_slots;
 mod values;
 
 pub use directive::{Data, DataContent, Definition, Directive};
+pub use directives::{DIRECTIVES, DirectiveForm, DirectiveKind, DirectiveRow, directive_named};
 pub use error::StmtError;
 pub use expansion::{Expansion, Instructions, MachineInstruction, expansion_of, instructions_of};
-pub use form::operand_slots;
+pub use form::{Form, form_of, operand_slots};
+pub use forms::{FORMS, FormRow};
 pub use label::{Label, LabelName};
 pub use laws::{data_are_few, operands_are_few, parts_are_the_value, values_keep_sizes};
 pub use line::read_line;
 pub use operand::{AlignmentUnit, DataWidth, Operand, OperandValue, Role};
+pub use operand_count::OperandCount;
+pub use runs::operands_from;
 pub use section::Sect;
 pub use sets::set_name;
 pub use slots::Slot;

@@ -1,7 +1,8 @@
 //! Cuts the tokens after a name into runs at commas.
 
-ghost use Rattle.std.specs.Prelude.{◌≡◌, ◌+◌, ◌-◌, ◌&&◌, ◌==◌, codes, ◌<◌, ◌≤◌, ◌^◌, [], ◌∷◌, length, map, IfOk};
+ghost use Rattle.std.specs.Prelude.{◌≡◌, ◌+◌, ◌-◌, ◌&&◌, ◌==◌, codes, ◌<◌, ◌≤◌, ◌^◌, [], ◌∷◌, drop, length, map, IfOk};
 ghost use Rattle.rv_text.specs.declared.lexeme.Span.{Span};
+ghost use Rattle.rv_text.specs.Lexing.{spelled_tokens};
 ghost use Rattle.rv_stmt.specs.FirstRun.{run_length, run_end, runs_after};
 ghost use Rattle.rv_stmt.specs.Operands.{reported_at, operand_of_run};
 ghost use Rattle.rv_stmt.specs.Runs.{runs_from, runs_of};
@@ -10,7 +11,7 @@ ghost use Rattle.rv_stmt.specs.Tokens.{is_punctuation};
 use crate::reading::Reading;
 use crate::token_range::{Lexeme, TokenRange};
 use rv_expr::depth_after;
-use rv_text::{Fault, FaultNumber, Span};
+use rv_text::{Fault, FaultNumber, Span, Tokens};
 use std::alloc::{AllocError, Global};
 
 /// The tokens between two commas, with the span from the first to the last. The span of no tokens is empty, at the
@@ -111,4 +112,19 @@ pub fn runs<'a>(
         end = comma.span.to;
         rest = after;
     }
+}
+
+/// How many operands the tokens from a place on are, where the tokens after the name of a statement begin there.
+///
+/// # Errors
+///
+/// `AllocError` if there is no memory for the operands.
+#[tactic(auto, using(crate::proofs::StatementLemmas::all_spelled_tokens, rv_text::specs::TokenLaws::count_of_spelled_tokens))]
+pub fn operands_from(alloc: Global, tokens: &Tokens<'_>, place: usize) -> Result<usize, AllocError>
+    requires { length tokens.now.tokens < 2 ^ 31 }
+    ensures { IfOk result (λ n. n ≡ length (runs_of 0 (drop place (spelled_tokens tokens.now)))) }
+{
+    let line = TokenRange::new(tokens, 0, tokens.tokens().len());
+    let runs = runs(alloc, &line.skip(place), 0)?;
+    Ok(runs.len())
 }

@@ -42,11 +42,11 @@ symbols-grown base program k old new t grows are =
 
 -- A symbol that a text does not define
 
-no-constant : (p : Program) (k : ℕ) (name : List ℕ) → definition_of p name ≡ Nowhere → constant_through p k name ≡ None
+pub no-constant : (p : Program) (k : ℕ) (name : List ℕ) → definition_of p name ≡ Nowhere → constant_through p k name ≡ None
 no-constant p zero name none = refl
 no-constant p (suc k) name none = constant-kept p k name (ap (is_equ_on (suc k)) none) ∙ no-constant p k name none
 
-no-equ_value : (base : ℕ) (p : Program) (k : ℕ) (name : List ℕ) → definition_of p name ≡ Nowhere → equ_value base p k name ≡ Err LaterEqu
+pub no-equ_value : (base : ℕ) (p : Program) (k : ℕ) (name : List ℕ) → definition_of p name ≡ Nowhere → equ_value base p k name ≡ Err LaterEqu
 no-equ_value base p zero name none = refl
 no-equ_value base p (suc k) name none = equ_value-kept base p k name (ap (is_equ_on (suc k)) none) ∙ no-equ_value base p k name none
 

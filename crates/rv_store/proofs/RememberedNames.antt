@@ -1,8 +1,8 @@
 -- Names that keep numbers when others lose theirs, and rows by the new numbers.
 use Rattle.std.proofs.Common.{◌≡◌, ℕ, zero, suc, ◌+◌, ◌≤◌, Bool, true, false, cond, List, [], ◌∷◌, ◌++◌, length, map, take, bytes_eq, Option, Some, None, option_map, Err, if◌then◌else◌, true≢false, arith, ap, sym, refl, ◌∙◌}
 use Rattle.std.proofs.Math.Path.{fun_ext}
-use Rattle.std.proofs.lemmas.List.{append-nil, map-append, get_or-map, length-map, take_all, take_more}
-use Rattle.std.proofs.lemmas.List.Elements.{filter-append}
+use Rattle.std.proofs.lemmas.List.{append-nil, map-append, get_or-map, length-map, take_all}
+use Rattle.std.proofs.lemmas.List.Elements.{filter_more}
 use Rattle.std.proofs.lemmas.Slice.Eq.{bytes_eq-Decides}
 use Rattle.std.specs.List.{filter}
 use Rattle.rv_expr.specs.declared.faults.ValueFault.TheVariants.{LaterEqu}
@@ -15,18 +15,12 @@ use Rattle.rv_store.specs.Forgetting.{is_defined, AreRemembered}
 use Rattle.rv_store.specs.Program.{Program}
 use Rattle.rv_store.specs.References.{equ_value}
 use Rattle.rv_store.specs.Rows.{number_of, entry_at, in_row, AreDefinitions, AreConstants, AreEquValues}
-use Rattle.rv_store.proofs.ConstantLaws.{constant-none}
-use Rattle.rv_store.proofs.EquLaws.{equ_value-kept}
+use Rattle.rv_store.proofs.LastSymbols.{no-constant, no-equ_value}
 use Rattle.rv_store.proofs.NameRows.{position-cons, number-below, name-at}
 
 -- One name more
 
--- the name with the number n comes after the first n names
-next-name : (names : List (List ℕ)) (name : List ℕ) (n : ℕ) → number_of names name ≡ Some n → take (n + 1) names ≡ take n names ++ name ∷ []
-next-name names name n number =
-    take_more names n [] (number-below names name n number) ∙ ap (λ m. take n names ++ m ∷ []) (sym (name-at names name n [] number))
-
--- and is none of these
+-- the name with the number n is none of the first n names
 pub name-new : (p : List ℕ → Bool) (names : List (List ℕ)) (name : List ℕ) (n : ℕ) → number_of names name ≡ Some n → number_of (filter p (take n names)) name ≡ None
 name-new p [] name n e = absurd (let no : None ≡ Some n = e in cc)
 name-new p (x ∷ xs) name n e =
@@ -47,10 +41,11 @@ name-new p (x ∷ xs) name n e =
         let is : Some (suc k) ≡ Some (suc n) = e in
         let same : k ≡ n = cc in kept n (p x) h (ih n (g ∙ ap Some same))
 
+-- it comes after them, if it passes
 filtered-next : (p : List ℕ → Bool) (names : List (List ℕ)) (name : List ℕ) (n : ℕ) (b : Bool) → number_of names name ≡ Some n → p name ≡ b → filter p (take (n + 1) names) ≡ filter p (take n names) ++ cond b (name ∷ []) []
 filtered-next p names name n b number passes =
-    ap (filter p) (next-name names name n number)
-    ∙ filter-append p (take n names) (name ∷ [])
+    filter_more p names n [] (number-below names name n number)
+    ∙ ap (λ m. filter p (take n names) ++ cond (p m) (m ∷ []) []) (sym (name-at names name n [] number))
     ∙ ap (λ t. filter p (take n names) ++ cond t (name ∷ []) []) passes
 
 -- a row with the entry of one name more
@@ -132,12 +127,6 @@ is_defined-false Nowhere e = refl
 is_defined-false (ByLabel line index) e = absurd (true≢false e)
 is_defined-false (Equ line) e = absurd (true≢false e)
 
--- a name without a definition has no value of an `.equ`
-equ_value-none : (base : ℕ) (program : Program) (name : List ℕ) (k : ℕ) → definition_of program name ≡ Nowhere → equ_value base program k name ≡ Err LaterEqu
-equ_value-none base program name zero e = refl
-equ_value-none base program name (suc k) e =
-    equ_value-kept base program k name (ap (is_equ_on (suc k)) e) ∙ equ_value-none base program name k e
-
 -- The rows of a text
 
 nowhere : (program : Program) (names : List (List ℕ)) (row : List DefinitionPlace) (name : List ℕ) → AreDefinitions program names row → is_defined (in_row names row Nowhere name) ≡ false → definition_of program name ≡ Nowhere
@@ -153,12 +142,12 @@ pub constants-remembered : (program : Program) (k : ℕ) (names : List (List ℕ
 constants-remembered program k names survey r are defined constant =
     let held = row-remembered _ names survey.constants.items None r.names r.constants.items are.names are.constants
     (λ name none. ap (λ f. f name) constant.each
-    ∙ constant-none program name k (λ i l. ap (is_equ_on (suc i)) (nowhere program names survey.definitions.items name defined none))) in
+    ∙ no-constant program k name (nowhere program names survey.definitions.items name defined none)) in
     record { each = held.0 ∙ constant.each; within = held.1 }
 
 pub equ_values-remembered : (base : ℕ) (program : Program) (k : ℕ) (names : List (List ℕ)) (survey : Survey) (r : Remembered) → AreRemembered names survey (length names) r → AreDefinitions program names survey.definitions.items → AreEquValues base program k names survey.equ_values.items → AreEquValues base program k r.names r.equ_values.items
 equ_values-remembered base program k names survey r are defined values =
     let held = row-remembered _ names survey.equ_values.items (Err LaterEqu) r.names r.equ_values.items are.names are.equ_values
     (λ name none. ap (λ f. f name) values.each
-    ∙ equ_value-none base program name k (nowhere program names survey.definitions.items name defined none)) in
+    ∙ no-equ_value base program k name (nowhere program names survey.definitions.items name defined none)) in
     record { each = held.0 ∙ values.each; within = held.1 }

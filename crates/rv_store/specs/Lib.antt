@@ -27,6 +27,7 @@ pub mod LinePairs
 pub mod LineSums
 pub mod LinesAhead
 pub mod Lines
+pub mod LinesOfTexts
 pub mod LinesWithout
 pub mod Locals
 pub mod MovedDefinitions

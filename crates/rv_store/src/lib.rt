@@ -66,5 +66,5 @@ pub use laws::{constants_are_values, only_invalidated_lines_change};
 pub use limits::MAX_LINES;
 pub use rv_layout::base_ok;
 pub use rv_text::MAX_LINE_LENGTH;
-pub use store::Store;
+pub use store::{NamesOnLine, Store};
 pub use symbols::SymValue;

@@ -19,6 +19,7 @@ ghost use Rattle.rv_store.specs.Program.{program_of};
 ghost use Rattle.rv_store.specs.Symbols.{symbol_of};
 ghost use Rattle.rv_store.specs.Text.{is_line, at_line, Insert, Delete, Replace, refusal_of, lines_after, text_after, Edits};
 
+mod names;
 mod shown;
 
 use crate::alike::alike_shape;
@@ -38,6 +39,7 @@ use crate::replacement::item_replaced;
 use crate::survey::Survey;
 use crate::symbols::SymValue;
 use crate::text_rows::address_in;
+pub use names::NamesOnLine;
 use rv_fix::Coded;
 use rv_layout::{Measured, base_ok};
 use rv_list::{DefinitionPlace, View};
