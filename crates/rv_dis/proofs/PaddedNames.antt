@@ -57,5 +57,8 @@ are_cuts (row ∷ rows) zero h =
     }
 are_cuts (row ∷ rows) (suc n) h = are_cuts rows n (and_parts _ _ h).1
 
+pub operation_cut : (o : Op) → IsCut (operation_text o) (operation_length o)
+operation_cut o = are_cuts OPERATION_NAMES (number_of o) refl
+
 pub register_cut : (n : ℕ) → IsCut (register_text n) (register_length n)
 register_cut n = are_cuts REGISTER_NAMES n refl
