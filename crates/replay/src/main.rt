@@ -1,10 +1,10 @@
-//! Makes the edits of a script, and answers its questions, by the calls of a store. What it prints is the script, with the answer
-//! of a row behind ` => `.
+//! Answers the rows of a script, by the calls of a store and of what stands on it. What it prints is the script, with the answer of
+//! a row behind ` => `. `# REMARK` and empty rows say nothing.
 //!
-//! Edits are `a LINE`, `i K LINE`, `r K LINE` and `d K`, as in the commands of the editor. The answer has the numbers of the
-//! lines that have another code, or the number of the refusal. More rows:
+//! A row `base B` begins a text without lines, from whose base on its sections lie. Where B is no base, its refusal, and the text
+//! stays. Rows that make its edits are `a LINE`, `i K LINE`, `r K LINE` and `d K`, as in the commands of the editor. The answer has
+//! the numbers of the lines that have another code, or the number of the refusal. More rows about a text:
 //!
-//! - `base B`: a text without lines, from whose base on its sections lie. Where B is no base, its refusal, and the text stays.
 //! - `spelled EDIT`: an edit whose LINE is spelled by strings of the language, as in `"a" 3 * "b"`.
 //! - `repeat N LINE`: LINE is put behind the others N times; the answer is how many lines there are then.
 //! - `chain N`: `.equ n0, 1`, `.equ n1, n0 + 1` and so on, N lines, are put behind the others; the answer is that of `repeat`.
@@ -18,33 +18,96 @@
 //! - `show`: each line, with its address and code; and the image, the symbols, the listing and the faults.
 //! - `faults`: the faults; `hash faults`: how many bytes these are, and their FNV-1a hash of 64 bits.
 //! - `base_ok B`, `errors`: whether B is a base, and the numbers of the refusals.
-//! - `# REMARK` and empty rows say nothing.
+//!
+//! A row `session B` begins a session of the editor without commands, over a text whose sections lie from B on. Rows about it:
+//!
+//! - `> COMMAND`: a command, with its line break.
+//! - `spelled BYTES`: bytes that strings of the language spell, as in `"a" 3 * "b"`.
+//! - `repeat N ROW`: N times the bytes of a row of these two kinds.
+//! - `run`: how a run over the bytes so far ends, and what it writes beyond that of the last run.
+//! - `run by 3`: whether a run whose reader gives three bytes at once ends and writes as the last one.
+//! - `run in brief`: how a run ends, how many bytes it writes, and their FNV-1a hash of 64 bits.
+//! - `writes`: in how many calls of the writer the last run wrote.
+//! - `reads fail`: call 1, 2 and so on of a reader of three bytes at once is failed, up to a run that ends well. How many bytes
+//!   of the answers each run writes before it ends with a read fault.
+//! - `writes fail`: the same of a writer that takes three bytes at once; which runs write none, some and all of the answers.
+//! - `interrupted N`: how a run ends whose reader is interrupted behind N bytes, and how many bytes of the answers it writes.
+//! - `edits`, `edits fail`: a list of edits, and bytes that are disassembled, by `live_assembler_is_exact`.
+//! - `errors`: the numbers, statuses and messages of the ends of a run.
+//!
+//! A row `call NAME` makes a call, once more where it finds no memory, and is answered what came of it. `tools/refusals` runs such
+//! a row with each request for memory refused in turn. What a call needs is made with it, so that this may be refused too. Whatever
+//! is refused, the call says that there was no memory, leaves its arguments as its contract says, and is made when it is asked again.
 #![tactic(auto)]
 
-mod answers;
-mod edits;
-mod session;
+mod calls;
+mod editor;
+mod script;
+mod texts;
 
-use script::number_of;
-use session::Session;
+use calls::outcome_of;
+use editor::Session;
+use script::{number_of, parts_of};
 use std::io::Read;
 use std::test::Fail;
+use texts::Text;
 
-// The base of a row that begins a text.
-fn base_of(row: &str) -> Option<u32> {
-    number_of(row.strip_prefix("base ")?)
+// A text and a session of the editor, and which of them the rows are about.
+#[derive(Drop)]
+struct Replay<'a> {
+    text: Text<'a>,
+    session: Session,
+    is_session: bool,
+}
+
+impl<'a> Replay<'a> {
+    // Begins a text.
+    fn begin_text(&mut self, rt: &HostRuntime, row: &str, base: u32) -> Result<(), Fail> {
+        self.is_session = false;
+        self.text.begin(rt, row, base)
+    }
+
+    // Begins a session.
+    fn begin_session(&mut self, rt: &HostRuntime, row: &str, base: u32) -> Result<(), Fail> {
+        self.is_session = true;
+        self.session = Session::new(rt.alloc(), base);
+        println!(rt; "{row}")?;
+        Ok(())
+    }
+
+    // Prints a row about the text or the session, with its answer.
+    fn answer(&mut self, rt: &HostRuntime, row: &'a str) -> Result<(), Fail> {
+        if self.is_session {
+            self.session.answer(rt, row)
+        } else {
+            self.text.answer(rt, row)
+        }
+    }
+
+    // Prints a row with its answer.
+    fn print_answered(&mut self, rt: &HostRuntime, row: &'a str) -> Result<(), Fail> {
+        let (name, rest) = parts_of(row);
+        match (name, number_of(rest)) {
+            ("base", Some(base)) => self.begin_text(rt, row, base),
+            ("session", Some(base)) => self.begin_session(rt, row, base),
+            ("call", _) => Ok(println!(rt; "{row} => {}", outcome_of(rt.alloc(), rest))?),
+            _ => self.answer(rt, row),
+        }
+    }
 }
 
 // Prints the rows with their answers.
-fn replay(rt: &HostRuntime, script: &str) -> Result<(), Fail> {
-    let mut session = Session::new(rt.alloc(), 0)?;
+fn print_rows(rt: &HostRuntime, script: &str) -> Result<(), Fail> {
+    let mut replay = Replay {
+        text: Text::new(rt.alloc(), 0)?,
+        session: Session::new(rt.alloc(), 0),
+        is_session: false,
+    };
     for row in script.lines() {
         if row.is_empty() || row.starts_with("#") {
             println!(rt; "{row}")?;
-        } else if let Some(base) = base_of(row) {
-            session.begin(rt, row, base)?;
         } else {
-            session.answer(rt, row)?;
+            replay.print_answered(rt, row)?;
         }
     }
     Ok(())
@@ -53,5 +116,5 @@ fn replay(rt: &HostRuntime, script: &str) -> Result<(), Fail> {
 fn main(rt: HostRuntime) -> Result<(), Fail> {
     let mut input = Vec::new(rt.alloc());
     rt.reader().read_to_end(&mut input)?;
-    replay(&rt, str::from_utf8(input.as_slice())?)
+    print_rows(&rt, str::from_utf8(input.as_slice())?)
 }

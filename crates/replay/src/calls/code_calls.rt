@@ -3,7 +3,7 @@
 ghost use Rattle.std.specs.Prelude.{Ok, Err};
 ghost use Rattle.rv_expr.specs.declared.faults.ValueFault.TheVariants.{Undefined};
 
-use crate::call::Answer;
+use crate::calls::call::Answer;
 use rv_expr::{Direction, LabelReference, Names, ValueFault};
 use rv_fix::{AssembleError, Coded, FixError, Payload, assemble_at, encode_line, operand_values};
 use rv_stmt::{StmtError, read_line};

@@ -1,6 +1,6 @@
 //! A call of `rv_list`.
 
-use crate::call::Answer;
+use crate::calls::call::Answer;
 use rv_list::section_bytes;
 use rv_store::Store;
 use rv_text::Tally;

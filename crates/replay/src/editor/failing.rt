@@ -1,6 +1,6 @@
 //! Runs of which one call of the reader or the writer fails.
 
-use crate::running::{ALL, Calls, Ended, end_text, run_of};
+use crate::editor::running::{ALL, Calls, Ended, end_text, run_of};
 use std::alloc::{AllocError, Global};
 use std::test::Fail;
 

@@ -1,6 +1,6 @@
 //! Calls of `rv_text`.
 
-use crate::call::Answer;
+use crate::calls::call::Answer;
 use rv_text::{MemSink, Sequence, tokens};
 use std::alloc::Global;
 

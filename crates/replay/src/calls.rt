@@ -1,9 +1,4 @@
-//! Makes calls, each once more where it finds no memory, and says what came of each. Input: their names, one a line.
-//!
-//! `tools/refusals` runs this with each request for memory refused in turn. What a call needs is made with it, so that this may
-//! be refused too. Whatever is refused, the call says that there was no memory, leaves its arguments as its contract says,
-//! and is made when it is asked again.
-#![tactic(auto)]
+//! Calls that may find no memory.
 
 mod call;
 mod code_calls;
@@ -21,9 +16,6 @@ use edited_call::edited;
 use list_call::bytes_of_section;
 use statement_calls::{directive, expression, instruction, name};
 use std::alloc::Global;
-use std::io;
-use std::io::Read;
-use std::test::Fail;
 use text_calls::{items, sink, tokens_of_line};
 
 // Makes a call.
@@ -60,30 +52,12 @@ fn outcome(alloc: Global, call: Call) -> &'static str {
     }
 }
 
-// The call of this name.
-fn call_named(name: &str) -> Option<Call> {
+/// Makes the call of this name, once more where it finds no memory, and says what came of it.
+pub fn outcome_of(alloc: Global, name: &str) -> &'static str {
     for (known, call) in &CALLS {
         if name == *known {
-            return Some(*call);
+            return outcome(alloc, *call);
         }
     }
-    None
-}
-
-// Makes the call of this name, and says what came of it.
-fn report(rt: &HostRuntime, name: &str) -> io::Result<()> {
-    match call_named(name) {
-        Some(call) => println!(rt; "{name}: {}", outcome(rt.alloc(), call)),
-        None => println!(rt; "{name}: no such call"),
-    }
-}
-
-fn main(rt: HostRuntime) -> Result<(), Fail> {
-    let mut input = [0u8; 512];
-    let n = rt.reader().read(&mut input)?;
-    let (input, _) = input.split_at(n);
-    for name in str::from_utf8(input)?.lines() {
-        report(&rt, name)?;
-    }
-    Ok(())
+    "no such call"
 }

@@ -3,7 +3,7 @@
 ghost use Rattle.std.specs.Prelude.{◌≡◌, true};
 ghost use Rattle.rv_layout.specs.Places.{is_base};
 
-use crate::running::{ALL, end_text, sink_of};
+use crate::editor::running::{ALL, end_text, sink_of};
 use rv_commands::run;
 use rv_store::base_ok;
 use rv_text::StdSource;

@@ -1,6 +1,6 @@
 //! The calls, and what one can answer.
 
-use crate::tree_call::TreeCall;
+use crate::calls::tree_call::TreeCall;
 
 /// Which call is made.
 #[derive(Clone, Copy, Debug)]

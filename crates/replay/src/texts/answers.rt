@@ -1,10 +1,10 @@
 //! What the questions of a script are answered.
 
+use crate::script::{hash_of, number_in};
 use code_text::text_of;
 use rv_list::write_faults;
 use rv_store::{Changed, EditError, Store, SymValue, base_ok};
 use rv_text::{MemSink, tokens};
-use script::{hash_of, number_in};
 use std::alloc::{AllocError, Global};
 use std::test::Fail;
 

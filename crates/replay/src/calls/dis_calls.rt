@@ -1,6 +1,6 @@
 //! Calls of `rv_dis`.
 
-use crate::call::Answer;
+use crate::calls::call::Answer;
 use rv_code::decode32;
 use rv_dis::{DisError, DisRow, disassemble, instruction_text};
 use std::alloc::Global;

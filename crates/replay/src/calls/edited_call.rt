@@ -2,8 +2,8 @@
 
 ghost use Rattle.std.specs.Prelude.{◌≡◌};
 
-use crate::call::Answer;
-use crate::dis_calls::{BYTES, ROWS, are_rows};
+use crate::calls::call::Answer;
+use crate::calls::dis_calls::{BYTES, ROWS, are_rows};
 use rv_commands::{LineEdit, live_assembler_is_exact};
 use rv_store::EditError;
 use rv_text::MemSink;

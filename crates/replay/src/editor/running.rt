@@ -3,7 +3,7 @@
 ghost use Rattle.std.specs.Prelude.{◌≡◌, true, IfOk};
 ghost use Rattle.rv_layout.specs.Places.{is_base};
 
-use crate::pieces::Pieces;
+use crate::editor::pieces::Pieces;
 use rv_commands::{RunError, message, run, status};
 use rv_store::base_ok;
 use rv_text::{FailsAt, MemSink, MemSource, TextError};

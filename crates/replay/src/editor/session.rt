@@ -1,10 +1,10 @@
 //! The rows of a session.
 
-use crate::edited::{failing_edits, shown_edits};
-use crate::failing::{failing_reads, failing_writes};
-use crate::interrupted::end_where_interrupted;
-use crate::running::{ALL, Calls, Ended, end_text, reports, run_of};
-use script::{hash_of, number_in, parts_of, push_times, spelled_bytes};
+use crate::editor::edited::{failing_edits, shown_edits};
+use crate::editor::failing::{failing_reads, failing_writes};
+use crate::editor::interrupted::end_where_interrupted;
+use crate::editor::running::{ALL, Calls, Ended, end_text, reports, run_of};
+use crate::script::{hash_of, number_in, parts_of, push_times, spelled_bytes};
 use std::alloc::Global;
 use std::test::Fail;
 

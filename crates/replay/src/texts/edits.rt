@@ -2,9 +2,9 @@
 
 ghost use Rattle.std.specs.Prelude.{◌≡◌};
 
+use crate::script::{number_of, parts_of};
 use rv_store::{Changed, EditError, Store};
 use rv_text::Tally;
-use script::{number_of, parts_of};
 
 /// What an edit does with its line.
 #[derive(Clone, Copy)]

@@ -1,6 +1,6 @@
 //! What is shown after a list of edits, and of bytes.
 
-use crate::running::{ALL, Calls, sink_of};
+use crate::editor::running::{ALL, Calls, sink_of};
 use rv_commands::{LineEdit, live_assembler_is_exact};
 use rv_dis::DisRow;
 use rv_store::EditError;

@@ -2,22 +2,22 @@
 
 ghost use Rattle.std.specs.Prelude.{◌≡◌};
 
-use crate::answers::{
+use crate::script::{number_in, number_of, parts_of, spelled_bytes};
+use crate::texts::answers::{
     address_text, base_text, code_text, fault_hash, line_text, print_answer, refusal_numbers,
     symbol_text, token_count,
 };
-use crate::edits::{Edit, EditKind};
+use crate::texts::edits::{Edit, EditKind};
 use rv_list::{ListError, write_faults, write_image, write_listing, write_symbols};
 use rv_store::{EditError, Store};
 use rv_text::{StdSink, Tally};
-use script::{number_in, number_of, parts_of, spelled_bytes};
 use std::alloc::{AllocError, Global};
 use std::io::{self, Write};
 use std::test::Fail;
 
 /// A text, what its last edit counted, and that edit where it found no memory.
 #[derive(Drop)]
-pub struct Session<'a> {
+pub struct Text<'a> {
     store: Store,
     tally: Tally,
     without_memory: Option<Edit<'a>>,
@@ -86,11 +86,11 @@ fn append(store: &mut Store, line: &str) -> Result<(), EditError> {
     Ok(())
 }
 
-impl<'a> Session<'a> {
+impl<'a> Text<'a> {
     /// A text without lines.
-    pub fn new(alloc: Global, base: u32) -> Result<Session<'a>, EditError> {
+    pub fn new(alloc: Global, base: u32) -> Result<Text<'a>, EditError> {
         let store = Store::new(alloc, base)?;
-        Ok(Session {
+        Ok(Text {
             store,
             tally: Tally::new(),
             without_memory: None,
@@ -99,7 +99,7 @@ impl<'a> Session<'a> {
 
     /// Begins a text without lines, and prints the row, with the refusal of its base if that is none.
     pub fn begin(&mut self, rt: &HostRuntime, row: &str, base: u32) -> Result<(), Fail> {
-        match Session::new(rt.alloc(), base) {
+        match Text::new(rt.alloc(), base) {
             Ok(session) => {
                 *self = session;
                 println!(rt; "{row}")?;

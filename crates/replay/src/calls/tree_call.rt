@@ -1,6 +1,6 @@
 //! Calls of `rv_tree`.
 
-use crate::call::Answer;
+use crate::calls::call::Answer;
 use rv_tree::{Pass, SumTree, TreeError};
 use std::alloc::{AllocError, Global};
 use tree_example::extent::{Block, Extent};

@@ -1,5 +1,4 @@
 //! The rows of scripts: their words and numbers, bytes that are spelled, and the hash of a long answer.
-#![tactic(auto)]
 
 use rv_text::{MAX_LINE_LENGTH, TokenKind, escaped, number, tokens};
 use std::alloc::{AllocError, Global};

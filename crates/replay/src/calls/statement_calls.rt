@@ -1,6 +1,6 @@
 //! Calls of `rv_expr` and `rv_stmt`.
 
-use crate::call::Answer;
+use crate::calls::call::Answer;
 use rv_expr::{BinaryOp, Expr, Name, Node, ReadFault, UnaryOp, read};
 use rv_stmt::{
     Body, Data, DataContent, Instruction, Label, LabelName, Operand, OperandValue, Role, read_line,
