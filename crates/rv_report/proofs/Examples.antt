@@ -1,0 +1,165 @@
+-- Worked messages and rows, computed on the definitions.
+use Rattle.std.specs.Prelude.{◌≡◌, ℕ, ℤ, pos, negsuc, ◌++◌, List, [], ◌∷◌, bytes_eq, codes, Option, Some, None, Result, Ok, Err, refl, if◌then◌else◌}
+use Rattle.std.specs.Fmt.{digits}
+use Rattle.strsim.specs.Edits.{rows, next_row, cost_at}
+use Rattle.rv_text.specs.declared.faults.Fault.{Fault}
+use Rattle.rv_text.specs.declared.faults.FaultNumber.{FaultNumber}
+use Rattle.rv_text.specs.declared.faults.FaultNumber.TheVariants as fault
+use Rattle.rv_text.specs.Rows.{hex}
+use Rattle.rv_expr.specs.declared.faults.ValueFault.TheVariants as value
+use Rattle.rv_expr.specs.Value.{Environment}
+use Rattle.rv_fix.specs.Values.{Entry}
+use Rattle.rv_list.specs.declared.view.DefinitionPlace.{DefinitionPlace}
+use Rattle.rv_list.specs.declared.view.DefinitionPlace.TheVariants.{Nowhere, Label, Equ}
+use Rattle.rv_list.specs.declared.view.SectionPlace.{SectionPlace}
+use Rattle.rv_list.specs.Faults.{fault_name}
+use Rattle.rv_list.specs.Shown.{Shown, ShownLine}
+use Rattle.rv_ops.specs.Csrs.{csr_named, csr_names}
+use Rattle.rv_ops.specs.Registers.{register_named, register_names}
+use Rattle.rv_ops.specs.Table.{operation_named, operation_names, row_of, layout_of}
+use Rattle.rv_stmt.specs.declared.section.Sect.TheVariants as section
+use Rattle.rv_stmt.specs.Directives.{directive_named, directive_names}
+use Rattle.rv_stmt.specs.Forms.{other_forms, slots_of}
+use Rattle.rv_stmt.specs.Registers.{set_named, set_names}
+use Rattle.rv_stmt.specs.Sections.{section_named, section_names}
+use Rattle.rv_stmt.specs.Statement.{statement_of}
+use Rattle.rv_stmt.specs.Values.{modifier_named, modifier_names}
+use Rattle.rv_report.specs.declared.reports.Style.TheVariants.{Plain, Colored}
+use Rattle.rv_report.specs.Bounds.{from_to, gap_text, limits_text}
+use Rattle.rv_report.specs.Characters.{column_of, excerpt}
+use Rattle.rv_report.specs.Counts.{numbers_text, some_numbers}
+use Rattle.rv_report.specs.Lines.{Line}
+use Rattle.rv_report.specs.Messages.{bad_byte, unknown_name, operand_count, bad_register, register_range, bad_operand, undefined_name, later_equ, line_of_equ, faulty_equ_of, no_partner, beyond_reach, out_of_range, not_multiple, odd_distance, odd_address, message_of}
+use Rattle.rv_report.specs.Reports.{count_of_faults, line_row, margin, mark, mark_row, message_row, note_at, painted, rendition, report_of, shown_line}
+use Rattle.rv_report.specs.Suggestions.{did_you_mean, suggestions}
+use Rattle.rv_report.specs.Texts.{about, quoted}
+
+-- Characters
+
+tab_shown : shown_line (9 ∷ codes "adi a0,\ta0  ") ≡ codes "        adi a0, a0"
+unfolding shown_line
+tab_shown = refl
+
+-- a quotation mark of three bytes, a byte that is part of no character, and the control character U+009B
+others_shown : shown_line (0xE2 ∷ 0x80 ∷ 0x9C ∷ 0xE2 ∷ 0x80 ∷ 97 ∷ 0xC2 ∷ 0x9B ∷ 1 ∷ []) ≡ 0xE2 ∷ 0x80 ∷ 0x9C ∷ codes "..a..."
+unfolding shown_line
+others_shown = refl
+
+columns : column_of (9 ∷ 0xE2 ∷ 0x80 ∷ 0x9C ∷ 97 ∷ []) 1 ∷ column_of (9 ∷ 0xE2 ∷ 0x80 ∷ 0x9C ∷ 97 ∷ []) 2 ∷ column_of (9 ∷ 0xE2 ∷ 0x80 ∷ 0x9C ∷ 97 ∷ []) 4 ∷ column_of (codes "ab") 7 ∷ [] ≡ 8 ∷ 9 ∷ 9 ∷ 2 ∷ []
+columns = refl
+
+long_excerpt : excerpt (codes "0123456789012345678901234567890123456789a") ≡ codes "0123456789012345678901234567890123456789..."
+long_excerpt = refl
+
+-- Suggestions
+
+near_lop : did_you_mean (suggestions (codes "lop") (codes "lop1" ∷ codes "stop" ∷ codes "loop" ∷ [])) ≡ codes "; did you mean 'lop1' or 'loop'?"
+unfolding did_you_mean suggestions rows next_row cost_at
+near_lop = refl
+
+near_none : did_you_mean (suggestions (codes "x") (codes "abc" ∷ [])) ≡ []
+unfolding did_you_mean suggestions rows next_row cost_at
+near_none = refl
+
+-- Numbers of operands
+
+counts : numbers_text (codes "addi") ∷ numbers_text (codes "JALR") ∷ numbers_text (codes "fence") ∷ numbers_text (codes "nop") ∷ numbers_text (codes "j") ∷ numbers_text (codes ".byte") ∷ numbers_text (codes ".space") ∷ numbers_text (codes ".text") ∷ [] ≡ codes "3 operands" ∷ codes "1, 2 or 3 operands" ∷ codes "0 or 2 operands" ∷ codes "no operands" ∷ codes "1 operand" ∷ codes "1 or more operands" ∷ codes "1 or 2 operands" ∷ codes "no operands" ∷ []
+unfolding some_numbers digits operation_named operation_names row_of other_forms slots_of directive_named directive_names
+counts = refl
+
+-- Messages of lines
+
+abbrev nothing_shown : Shown
+nothing_shown = record {
+  count = 0;
+  line = λ i. record { text = []; stmt = statement_of []; place = record { section = section.Text; address = 0; size = 0 }; code = record { payload = []; fault = None } };
+  section = λ t. record { base = 0; size = 0 };
+  definition = λ name. if bytes_eq name (codes "n") then Equ 3 else (if bytes_eq name (codes "table") then Label 18 0 else Nowhere);
+  value = λ name. None;
+}
+
+abbrev names : Environment
+names = record {
+  symbol = λ name. if bytes_eq name (codes "n") then Err value.FaultyEqu else (if bytes_eq name (codes "far") then Ok (pos 5000) else Err value.Undefined);
+  local = λ number direction. Err value.Undefined;
+  here = Ok (pos 0);
+  paired_high = λ label. Err value.NoPartner;
+}
+
+abbrev faulty : (number : ℕ) → (text : List ℕ) → (values : List Entry) → Line
+faulty number text values = record {
+  number = number;
+  text = text;
+  stmt = statement_of text;
+  address = 1;
+  values = values;
+  symbols = codes "loop" ∷ codes "start" ∷ [];
+}
+
+abbrev fault_at : FaultNumber → (from to : ℕ) → Fault
+fault_at number from to = record { number = number; span = record { from = from; to = to } }
+
+abbrev message : (text : List ℕ) → (values : List Entry) → Fault → List ℕ
+message text values f = message_of names nothing_shown (faulty 1 text values) f
+
+quote : message (codes ".ascii " ++ 0xE2 ∷ 0x80 ∷ 0x9C ∷ []) [] (fault_at fault.BadByte 7 8) ≡ codes "byte 0xE2 begins nothing of the language"
+unfolding message_of quoted about did_you_mean suggestions some_numbers from_to gap_text limits_text bad_byte unknown_name operand_count bad_register register_range bad_operand undefined_name later_equ line_of_equ faulty_equ_of no_partner beyond_reach out_of_range not_multiple odd_distance odd_address
+quote = refl
+
+four_operands : message (codes "a: 1: addi a0, (a, b), c, d") [] (fault_at fault.OperandCount 6 10) ≡ codes "'addi' takes 3 operands, not 4"
+unfolding message_of quoted about did_you_mean suggestions some_numbers from_to gap_text limits_text bad_byte unknown_name operand_count bad_register register_range bad_operand undefined_name later_equ line_of_equ faulty_equ_of no_partner beyond_reach out_of_range not_multiple odd_distance odd_address digits operation_named operation_names row_of layout_of register_named register_names csr_named csr_names other_forms slots_of set_named set_names modifier_named modifier_names directive_named directive_names section_named section_names
+four_operands = refl
+
+small_register : message (codes "x: c.lui zero, 1") [] (fault_at fault.RegisterRange 9 13) ≡ codes "'c.lui' does not take 'zero' here"
+unfolding message_of quoted about did_you_mean suggestions some_numbers from_to gap_text limits_text bad_byte unknown_name operand_count bad_register register_range bad_operand undefined_name later_equ line_of_equ faulty_equ_of no_partner beyond_reach out_of_range not_multiple odd_distance odd_address digits operation_named operation_names row_of layout_of register_named register_names csr_named csr_names other_forms slots_of set_named set_names modifier_named modifier_names directive_named directive_names section_named section_names
+small_register = refl
+
+missing_register : message (codes "addi a0, , 1") [] (fault_at fault.BadRegister 8 8) ≡ codes "a register is expected here"
+unfolding message_of quoted about did_you_mean suggestions some_numbers from_to gap_text limits_text bad_byte unknown_name operand_count bad_register register_range bad_operand undefined_name later_equ line_of_equ faulty_equ_of no_partner beyond_reach out_of_range not_multiple odd_distance odd_address
+missing_register = refl
+
+undefined_symbol : message (codes "bnez a0, far + lop") [] (fault_at fault.Undefined 9 18) ≡ codes "'lop' is not defined; did you mean 'loop'?"
+unfolding message_of quoted about did_you_mean suggestions some_numbers from_to gap_text limits_text bad_byte unknown_name operand_count bad_register register_range bad_operand undefined_name later_equ line_of_equ faulty_equ_of no_partner beyond_reach out_of_range not_multiple odd_distance odd_address rows next_row cost_at digits operation_named operation_names row_of layout_of register_named register_names csr_named csr_names other_forms slots_of set_named set_names modifier_named modifier_names directive_named directive_names section_named section_names
+undefined_symbol = refl
+
+undefined_local : message (codes "j 1f") [] (fault_at fault.Undefined 2 4) ≡ codes "'1f' is not defined"
+unfolding message_of quoted about did_you_mean suggestions some_numbers from_to gap_text limits_text bad_byte unknown_name operand_count bad_register register_range bad_operand undefined_name later_equ line_of_equ faulty_equ_of no_partner beyond_reach out_of_range not_multiple odd_distance odd_address digits operation_named operation_names row_of layout_of register_named register_names csr_named csr_names other_forms slots_of set_named set_names modifier_named modifier_names directive_named directive_names section_named section_names
+undefined_local = refl
+
+faulty_symbol : message (codes ".word 1 + n") [] (fault_at fault.FaultyEqu 6 11) ≡ codes "the .equ of 'n' has a fault (line 3)"
+unfolding message_of quoted about did_you_mean suggestions some_numbers from_to gap_text limits_text bad_byte unknown_name operand_count bad_register register_range bad_operand undefined_name later_equ line_of_equ faulty_equ_of no_partner beyond_reach out_of_range not_multiple odd_distance odd_address digits operation_named operation_names row_of layout_of register_named register_names csr_named csr_names other_forms slots_of set_named set_names modifier_named modifier_names directive_named directive_names section_named section_names
+faulty_symbol = refl
+
+large_immediate : message (codes "addi a0, a0, 2048") (Ok (pos 2048) ∷ []) (fault_at fault.Range 13 17) ≡ codes "2048 is out of range (-2048 to 2047)"
+unfolding message_of quoted about did_you_mean suggestions some_numbers from_to gap_text limits_text bad_byte unknown_name operand_count bad_register register_range bad_operand undefined_name later_equ line_of_equ faulty_equ_of no_partner beyond_reach out_of_range not_multiple odd_distance odd_address digits operation_named operation_names row_of layout_of register_named register_names csr_named csr_names other_forms slots_of set_named set_names modifier_named modifier_names directive_named directive_names section_named section_names
+large_immediate = refl
+
+no_zero : message (codes "c.addi a0, 0") (Ok (pos 0) ∷ []) (fault_at fault.Range 11 12) ≡ codes "0 is out of range (-32 to 31, not 0)"
+unfolding message_of quoted about did_you_mean suggestions some_numbers from_to gap_text limits_text bad_byte unknown_name operand_count bad_register register_range bad_operand undefined_name later_equ line_of_equ faulty_equ_of no_partner beyond_reach out_of_range not_multiple odd_distance odd_address digits operation_named operation_names row_of layout_of register_named register_names csr_named csr_names other_forms slots_of set_named set_names modifier_named modifier_names directive_named directive_names section_named section_names
+no_zero = refl
+
+far_branch : message (codes "beqz a0, far") (Ok (negsuc 4999) ∷ []) (fault_at fault.Range 9 12) ≡ codes "the target is 5000 bytes behind; the reach is -4096 to 4094"
+unfolding message_of quoted about did_you_mean suggestions some_numbers from_to gap_text limits_text bad_byte unknown_name operand_count bad_register register_range bad_operand undefined_name later_equ line_of_equ faulty_equ_of no_partner beyond_reach out_of_range not_multiple odd_distance odd_address digits operation_named operation_names row_of layout_of register_named register_names csr_named csr_names other_forms slots_of set_named set_names modifier_named modifier_names directive_named directive_names section_named section_names
+far_branch = refl
+
+lone_low_half : message (codes "lw a0, %pcrel_lo(here)(a0)") (Err value.NoPartner ∷ []) (fault_at fault.NoPartner 7 26) ≡ codes "no 'auipc .., %pcrel_hi(..)' stands at 'here'"
+unfolding message_of quoted about did_you_mean suggestions some_numbers from_to gap_text limits_text bad_byte unknown_name operand_count bad_register register_range bad_operand undefined_name later_equ line_of_equ faulty_equ_of no_partner beyond_reach out_of_range not_multiple odd_distance odd_address digits operation_named operation_names row_of layout_of register_named register_names csr_named csr_names other_forms slots_of set_named set_names modifier_named modifier_names directive_named directive_names section_named section_names
+lone_low_half = refl
+
+odd : message (codes "nop") [] (fault_at fault.OddAddress 0 3) ≡ codes "an instruction at the odd address 0x00000001"
+unfolding message_of quoted about did_you_mean suggestions some_numbers from_to gap_text limits_text bad_byte unknown_name operand_count bad_register register_range bad_operand undefined_name later_equ line_of_equ faulty_equ_of no_partner beyond_reach out_of_range not_multiple odd_distance odd_address hex
+odd = refl
+
+-- Reports
+
+second_definition : report_of Plain (codes "b.s") names nothing_shown (faulty 20 (codes "\ttable: nop\r") []) (fault_at fault.Duplicate 1 6) ≡ codes "b.s:20:2: error: 'table' is already defined [Duplicate]\n   20 |         table: nop\n      |         ^~~~~\nb.s:18: note: the first definition is here\n"
+unfolding report_of message_row line_row mark_row painted rendition shown_line margin mark note_at quoted about message_of fault_name digits
+second_definition = refl
+
+in_color : report_of Colored (codes "<stdin>") names nothing_shown (faulty 1 (codes "4") []) (fault_at fault.NoStatement 0 1) ≡ codes "<stdin>:1:1: " ++ (27 ∷ codes "[31merror:" ++ (27 ∷ codes "[0m an instruction or a directive is expected here [NoStatement]\n    1 | 4\n      | " ++ (27 ∷ codes "[32m^" ++ (27 ∷ codes "[0m\n"))))
+unfolding report_of message_row line_row mark_row painted rendition shown_line margin mark note_at quoted about message_of fault_name digits
+in_color = refl
+
+fault_counts : count_of_faults (codes "b.s") 0 ∷ count_of_faults (codes "b.s") 1 ∷ count_of_faults (codes "b.s") 2 ∷ [] ≡ [] ∷ codes "b.s: 1 fault\n" ∷ codes "b.s: 2 faults\n" ∷ []
+unfolding count_of_faults digits
+fault_counts = refl

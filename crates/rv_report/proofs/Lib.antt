@@ -1,0 +1,4 @@
+pub mod Columns
+mod Examples
+pub mod Joining
+pub mod RangeLimits

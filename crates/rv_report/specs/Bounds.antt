@@ -1,0 +1,58 @@
+-- The values that an operand may have. (docs/LANGUAGE.md, Faults of values)
+use Rattle.std.specs.Prelude.{ℕ, ℤ, pos, negsuc, int_le, Bool, ◌&&◌, List, [], ◌∷◌, ◌++◌, Option, Some, None, codes, if◌then◌else◌}
+use Rattle.std.specs.Fmt.{signed_decimal}
+use Rattle.rv_ops.specs.declared.value_limits.Limits.{Limits}
+use Rattle.rv_ops.specs.Table.{limits_of, shape_of}
+use Rattle.rv_stmt.specs.declared.operand.AlignmentUnit.TheVariants.{Bytes, Exponent}
+use Rattle.rv_stmt.specs.declared.operand.DataWidth.TheVariants.{Byte, Half, Word}
+use Rattle.rv_stmt.specs.declared.operand.Role.{Role}
+use Rattle.rv_stmt.specs.declared.operand.Role.TheVariants.{Immediate, SourceImmediate, Target, PairTarget, Constant, Data, Size, FillByte, Alignment, Definition}
+use Rattle.rv_stmt.specs.declared.statement.Body.{Body}
+use Rattle.rv_stmt.specs.declared.statement.Body.TheVariants.{Instr, Pseudo}
+
+-- all values from one to another
+abbrev pub between : ℤ → ℤ → Limits
+between least greatest =
+    record { least = least; greatest = greatest; multiple = 1; gap_first = pos 1; gap_last = pos 0 }
+
+-- those of 32 bits, with a sign or without
+abbrev pub word : Limits
+word = between (negsuc 0x7FFFFFFF) (pos 0xFFFFFFFF)
+
+-- those that the operation of a body takes
+abbrev pub limits_of_body : Body → Limits
+limits_of_body (Instr i) = limits_of (shape_of i.op)
+limits_of_body (Pseudo i) = limits_of (shape_of i.op)
+limits_of_body body = word
+
+-- those that an operand takes in its role
+abbrev pub limits_in : Body → Role → Limits
+limits_in body Immediate = limits_of_body body
+limits_in body Target = limits_of_body body
+limits_in body SourceImmediate = between (pos 0) (pos 31)
+limits_in body (Data Byte) = between (negsuc 0x7F) (pos 0xFF)
+limits_in body (Data Half) = between (negsuc 0x7FFF) (pos 0xFFFF)
+limits_in body (Data Word) = word
+limits_in body Constant = word
+limits_in body Size = between (pos 0) (pos 65536)
+limits_in body FillByte = between (negsuc 0x7F) (pos 0xFF)
+limits_in body (Alignment Exponent) = between (pos 0) (pos 12)
+limits_in body (Alignment Bytes) = between (pos 1) (pos 4096)
+limits_in body PairTarget = word
+limits_in body Definition = word
+
+-- the value is from the least to the greatest
+abbrev pub is_within : Limits → ℤ → Bool
+is_within l value = int_le l.least value && int_le value l.greatest
+
+-- from a value to another
+unfoldable pub from_to : ℤ → ℤ → List ℕ
+from_to first last = signed_decimal first ++ (codes " to " ++ signed_decimal last)
+
+-- the values that are left out, if there are any
+unfoldable pub gap_text : ℤ → ℤ → List ℕ
+gap_text first last =
+    if int_le first last then codes ", not " ++ (if int_le last first then signed_decimal first else from_to first last) else []
+
+unfoldable pub limits_text : Limits → List ℕ
+limits_text l = from_to l.least l.greatest ++ gap_text l.gap_first l.gap_last

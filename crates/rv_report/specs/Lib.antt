@@ -1,0 +1,11 @@
+pub mod Bounds
+pub mod Characters
+pub mod Counts
+pub mod FaultyNames
+pub mod LanguageNames
+pub mod Lines
+pub mod Messages
+pub mod Operands
+pub mod Reports
+pub mod Suggestions
+pub mod Texts

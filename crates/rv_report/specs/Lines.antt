@@ -1,0 +1,40 @@
+-- A line with a fault, and parts of it.
+use Rattle.std.specs.Prelude.{ℕ, ◌-◌, ◌*◌, List, [], take, drop, map, Option, Some, None, slice_get}
+use Rattle.rv_text.specs.declared.lexeme.Span.{Span}
+use Rattle.rv_text.specs.declared.lexeme.Token.{Token}
+use Rattle.rv_text.specs.Lexing.{LexedLine}
+use Rattle.rv_stmt.specs.declared.statement.Stmt.{Stmt}
+use Rattle.rv_fix.specs.Values.{Entry}
+use Rattle.rv_report.specs.declared.faulty_line.FaultyLine.{FaultyLine}
+
+-- a line: its number, its bytes, its statement, its address, the values of its operands, and the symbols of its text
+pub record Line : Type 0 where
+  pub number : ℕ
+  pub text : List ℕ
+  pub stmt : Stmt
+  pub address : ℕ
+  pub values : List Entry
+  pub symbols : List (List ℕ)
+
+-- a line as a caller lends it
+abbrev pub line_of : FaultyLine → Line
+line_of line = record {
+  number = line.number;
+  text = line.text.now;
+  stmt = line.stmt.now;
+  address = line.address;
+  values = line.values.now;
+  symbols = map (λ s. s.now) line.symbols.now;
+}
+
+-- the bytes of a line that a span covers
+abbrev pub part : List ℕ → Span → List ℕ
+part line span = take (span.to - span.from) (drop span.from line)
+
+abbrev pub part_of_token : List ℕ → Option Token → List ℕ
+part_of_token line None = []
+part_of_token line (Some token) = part line token.span
+
+-- the name of a statement: it stands after the labels, each of which is two tokens
+abbrev pub name_after : (labels : ℕ) → LexedLine → List ℕ
+name_after labels line = part_of_token line.line (slice_get line.tokens (2 * labels))

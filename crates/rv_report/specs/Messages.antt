@@ -1,0 +1,191 @@
+-- The messages of faults.
+use Rattle.std.specs.Prelude.{ℕ, ℤ, pos, ◌+◌, ◌/◌, ◌%◌, nat_lt, int_lt, unsigned_abs, List, [], ◌∷◌, ◌++◌, length, map, slice_index, Option, Some, None, codes, decimal, if◌then◌else◌}
+use Rattle.std.specs.Char.{to_ascii_lowercase}
+use Rattle.std.specs.Fmt.{signed_decimal}
+use Rattle.rv_text.specs.declared.faults.Fault.{Fault}
+use Rattle.rv_text.specs.declared.faults.FaultNumber.{FaultNumber}
+use Rattle.rv_text.specs.declared.faults.FaultNumber.TheVariants as faults
+use Rattle.rv_text.specs.declared.lexeme.Span.{Span}
+use Rattle.rv_text.specs.Lexing.{lexed_line}
+use Rattle.rv_text.specs.Rows.{hex}
+use Rattle.rv_expr.specs.declared.tree.LabelReference.{LabelReference}
+use Rattle.rv_expr.specs.declared.tree.LabelReference.TheVariants.{Symbol, Local, Here}
+use Rattle.rv_expr.specs.Value.{Environment}
+use Rattle.rv_ops.specs.declared.value_limits.Limits.{Limits}
+use Rattle.rv_stmt.specs.declared.operand.AlignmentUnit.TheVariants.{Bytes, Exponent}
+use Rattle.rv_stmt.specs.declared.operand.Operand.{Operand}
+use Rattle.rv_stmt.specs.declared.operand.Role.{Role}
+use Rattle.rv_stmt.specs.declared.operand.Role.TheVariants.{Target, PairTarget, Alignment}
+use Rattle.rv_stmt.specs.declared.statement.Body.{Body}
+use Rattle.rv_stmt.specs.Statement.{operands_of}
+use Rattle.rv_list.specs.declared.view.DefinitionPlace.{DefinitionPlace}
+use Rattle.rv_list.specs.declared.view.DefinitionPlace.TheVariants.{Nowhere, Label, Equ}
+use Rattle.rv_list.specs.Shown.{Shown}
+use Rattle.rv_report.specs.Bounds.{limits_in, limits_text}
+use Rattle.rv_report.specs.Counts.{numbers_text, operands_standing}
+use Rattle.rv_report.specs.FaultyNames.{faulty_name_of, low_label_of, name_text}
+use Rattle.rv_report.specs.LanguageNames.{language_names}
+use Rattle.rv_report.specs.Lines.{Line, part, name_after}
+use Rattle.rv_report.specs.Operands.{operand_at, value_at}
+use Rattle.rv_report.specs.Suggestions.{did_you_mean, suggestions}
+use Rattle.rv_report.specs.Texts.{about, quoted}
+
+-- Lexical faults
+
+abbrev pub upper_digit : ℕ → ℕ
+upper_digit n = if nat_lt n 10 then 48 + n else 55 + n
+
+abbrev pub upper_hex : ℕ → List ℕ
+upper_hex byte = upper_digit (byte / 16) ∷ upper_digit (byte % 16) ∷ []
+
+unfoldable pub bad_byte : ℕ → List ℕ
+bad_byte byte = codes "byte 0x" ++ (upper_hex byte ++ codes " begins nothing of the language")
+
+-- Faults of statements
+
+unfoldable pub unknown_name : List ℕ → List ℕ
+unknown_name name =
+    about (codes "no instruction or directive is called ") name (did_you_mean (suggestions (map to_ascii_lowercase name) language_names))
+
+unfoldable pub operand_count : (name : List ℕ) → (standing : ℕ) → List ℕ
+operand_count name standing = about [] name (codes " takes ") ++ (numbers_text name ++ (codes ", not " ++ decimal standing))
+
+unfoldable pub bad_register : List ℕ → List ℕ
+bad_register [] = codes "a register is expected here"
+bad_register (b ∷ bs) = about [] (b ∷ bs) (codes " is not a register")
+
+unfoldable pub register_range : (name text : List ℕ) → List ℕ
+register_range name text = about [] name (codes " does not take ") ++ about [] text (codes " here")
+
+unfoldable pub bad_operand : (name text : List ℕ) → List ℕ
+bad_operand name [] = codes "an operand is expected here"
+bad_operand name (b ∷ bs) =
+    about [] (b ∷ bs) (codes " is not an operand that ") ++ about [] name (codes " takes here")
+
+-- Names without a value
+
+abbrev pub question_about : (symbols : List (List ℕ)) → LabelReference → List ℕ
+question_about symbols (Symbol name) = did_you_mean (suggestions name symbols)
+question_about symbols (Local number direction) = []
+question_about symbols Here = []
+
+unfoldable pub undefined_name : (symbols : List (List ℕ)) → LabelReference → List ℕ
+undefined_name symbols name = about [] (name_text name) (codes " is not defined") ++ question_about symbols name
+
+abbrev pub undefined : (symbols : List (List ℕ)) → (text : List ℕ) → Option LabelReference → List ℕ
+undefined symbols text None = about (codes "a name that ") text (codes " needs is not defined")
+undefined symbols text (Some name) = undefined_name symbols name
+
+-- the name, or the operand where no name of its own has the fault
+abbrev pub name_or : (text : List ℕ) → Option LabelReference → List ℕ
+name_or text None = text
+name_or text (Some name) = name_text name
+
+unfoldable pub later_equ : List ℕ → List ℕ
+later_equ name = about (codes "an .equ cannot use ") name (codes ", an .equ of this or a later line")
+
+unfoldable pub line_of_equ : DefinitionPlace → List ℕ
+line_of_equ (Equ line) = codes " (line " ++ (decimal line ++ codes ")")
+line_of_equ (Label line index) = []
+line_of_equ Nowhere = []
+
+unfoldable pub faulty_equ_of : Shown → (name : List ℕ) → List ℕ
+faulty_equ_of shown name = about (codes "the .equ of ") name (codes " has a fault") ++ line_of_equ (shown.definition name)
+
+abbrev pub faulty_equ : Shown → (text : List ℕ) → Option LabelReference → List ℕ
+faulty_equ shown text None = about (codes "the .equ of a name that ") text (codes " needs has a fault")
+faulty_equ shown text (Some name) = faulty_equ_of shown (name_text name)
+
+unfoldable pub no_partner : List ℕ → List ℕ
+no_partner label = about (codes "no 'auipc .., %pcrel_hi(..)' stands at ") label []
+
+-- Values
+
+-- a value, or the operand that should have one
+abbrev pub amount : (text : List ℕ) → Option ℤ → List ℕ
+amount text None = quoted text
+amount text (Some value) = signed_decimal value
+
+abbrev pub side : ℤ → List ℕ
+side distance = if int_lt distance (pos 0) then codes " bytes behind" else codes " bytes ahead"
+
+unfoldable pub beyond_reach : ℤ → Limits → List ℕ
+beyond_reach distance limits =
+    codes "the target is " ++ (decimal (unsigned_abs distance) ++ (side distance ++ (codes "; the reach is " ++ limits_text limits)))
+
+unfoldable pub out_of_range : List ℕ → Limits → List ℕ
+out_of_range amount limits = amount ++ (codes " is out of range (" ++ (limits_text limits ++ codes ")"))
+
+abbrev pub out_of_reach : (text : List ℕ) → Option ℤ → Limits → List ℕ
+out_of_reach text None limits = out_of_range (quoted text) limits
+out_of_reach text (Some distance) limits = beyond_reach distance limits
+
+-- the value of an alignment is not the number that is written
+abbrev pub range_in_role : Role → (text : List ℕ) → Option ℤ → Limits → List ℕ
+range_in_role Target text value limits = out_of_reach text value limits
+range_in_role PairTarget text value limits = out_of_reach text value limits
+range_in_role (Alignment Bytes) text value limits = about [] text (codes " is not a power of two from 1 to 4096")
+range_in_role (Alignment Exponent) text value limits = out_of_range (quoted text) limits
+range_in_role role text value limits = out_of_range (amount text value) limits
+
+abbrev pub range_of : Body → (text : List ℕ) → Option ℤ → Option Operand → List ℕ
+range_of body text value None = about [] text (codes " is out of range")
+range_of body text value (Some o) = range_in_role o.role text value (limits_in body o.role)
+
+unfoldable pub not_multiple : List ℕ → Limits → List ℕ
+not_multiple amount limits = amount ++ (codes " is not a multiple of " ++ decimal limits.multiple)
+
+unfoldable pub odd_distance : List ℕ → List ℕ
+odd_distance amount = codes "the target is at an odd distance, " ++ amount
+
+abbrev pub multiple_in_role : Role → List ℕ → Limits → List ℕ
+multiple_in_role Target amount limits = odd_distance amount
+multiple_in_role PairTarget amount limits = odd_distance amount
+multiple_in_role role amount limits = not_multiple amount limits
+
+abbrev pub multiple_of : Body → (text : List ℕ) → Option ℤ → Option Operand → List ℕ
+multiple_of body text value None = about [] text (codes " is not a multiple")
+multiple_of body text value (Some o) = multiple_in_role o.role (amount text value) (limits_in body o.role)
+
+-- Faults of places
+
+unfoldable pub odd_address : ℕ → List ℕ
+odd_address address = codes "an instruction at the odd address 0x" ++ hex 8 address
+
+-- The message of each fault
+
+abbrev pub name_of_statement : Line → List ℕ
+name_of_statement line = name_after (length line.stmt.labels) (lexed_line line.text)
+
+abbrev pub operand_of_line : Line → Span → Option Operand
+operand_of_line line span = operand_at span (operands_of line.stmt.body)
+
+abbrev pub value_of_line : Line → Span → Option ℤ
+value_of_line line span = value_at span (operands_of line.stmt.body) line.values
+
+abbrev pub message_by : FaultNumber → Environment → Shown → Line → Span → List ℕ
+message_by faults.BadByte given shown line span = bad_byte (slice_index line.text span.from)
+message_by faults.BadNumber given shown line span = about [] (part line.text span) (codes " is not a number")
+message_by faults.BadString given shown line span = codes "string or character not closed, or a wrong escape"
+message_by faults.NoStatement given shown line span = codes "an instruction or a directive is expected here"
+message_by faults.UnknownName given shown line span = unknown_name (part line.text span)
+message_by faults.OperandCount given shown line span = operand_count (part line.text span) (operands_standing (length line.stmt.labels) (lexed_line line.text))
+message_by faults.BadRegister given shown line span = bad_register (part line.text span)
+message_by faults.RegisterRange given shown line span = register_range (name_of_statement line) (part line.text span)
+message_by faults.BadOperand given shown line span = bad_operand (name_of_statement line) (part line.text span)
+message_by faults.TooDeep given shown line span = codes "more than 64 open parentheses"
+message_by faults.NotConstant given shown line span = about (codes "the size of a line needs a constant; ") (part line.text span) (codes " is none")
+message_by faults.Undefined given shown line span = undefined line.symbols (part line.text span) (faulty_name_of given (operand_of_line line span))
+message_by faults.LaterEqu given shown line span = later_equ (name_or (part line.text span) (faulty_name_of given (operand_of_line line span)))
+message_by faults.FaultyEqu given shown line span = faulty_equ shown (part line.text span) (faulty_name_of given (operand_of_line line span))
+message_by faults.Arithmetic given shown line span = codes "no value: a division by zero, a shift out of 0 to 63, or more than 64 bits"
+message_by faults.Range given shown line span = range_of line.stmt.body (part line.text span) (value_of_line line span) (operand_of_line line span)
+message_by faults.Multiple given shown line span = multiple_of line.stmt.body (part line.text span) (value_of_line line span) (operand_of_line line span)
+message_by faults.NoPartner given shown line span = no_partner (name_or (part line.text span) (low_label_of (operand_of_line line span)))
+message_by faults.Duplicate given shown line span = about [] (part line.text span) (codes " is already defined")
+message_by faults.OddAddress given shown line span = odd_address line.address
+message_by faults.InBss given shown line span = codes ".bss holds no bytes other than 0"
+
+-- what is wrong with a line, for its reader
+unfoldable pub message_of : Environment → Shown → Line → Fault → List ℕ
+message_of given shown line fault = message_by fault.number given shown line fault.span

@@ -1,0 +1,22 @@
+-- Texts of messages and their parts.
+use Rattle.std.specs.Prelude.{ℕ, zero, suc, List, [], ◌∷◌, ◌++◌, length, codes}
+use Rattle.rv_report.specs.Characters.{excerpt}
+
+-- a part of a line in quotation marks
+unfoldable pub quoted : List ℕ → List ℕ
+quoted text = codes "'" ++ (excerpt text ++ codes "'")
+
+-- a message about a part of a line
+unfoldable pub about : (before text after : List ℕ) → List ℕ
+about before text after = before ++ (quoted text ++ after)
+
+-- what stands before so many more of several alternatives
+abbrev pub separator : (comma or : List ℕ) → (left : ℕ) → List ℕ
+separator comma or zero = []
+separator comma or (suc zero) = or
+separator comma or (suc (suc n)) = comma
+
+-- alternatives, with one sign between the last two and another between the others
+abbrev pub alternatives : (comma or : List ℕ) → List (List ℕ) → List ℕ
+alternatives comma or [] = []
+alternatives comma or (t ∷ ts) = excerpt t ++ (separator comma or (length ts) ++ alternatives comma or ts)

@@ -1,0 +1,71 @@
+//! A line with a fault.
+
+ghost use Rattle.std.specs.Prelude.{◌≡◌, ◌≤◌, slice_index, option_map};
+ghost use Rattle.rv_report.specs.Lines.{line_of, name_after, part};
+ghost use Rattle.rv_report.specs.Messages.{operand_of_line, value_of_line};
+
+use crate::operands::{operand_at, value_at};
+use rv_fix::Values;
+use rv_stmt::{Operand, Stmt};
+use rv_text::{Span, Tokens};
+
+/// A line with a fault, as a text has it, and what a message about it may name.
+#[derive(Clone, Copy)]
+pub struct FaultyLine<'a> {
+    /// Its number, from 1 on.
+    pub number: u32,
+    /// Its bytes, at most 1,000.
+    pub text: &'a [u8],
+    pub stmt: &'a Stmt,
+    pub address: u32,
+    /// The values of its operands.
+    pub values: &'a Values,
+    /// The symbols of the text, each once.
+    pub symbols: &'a [&'a [u8]],
+}
+
+/// The bytes of a line that a span covers.
+pub fn part(line: &[u8], span: Span) -> &[u8]
+    ensures { result.now ≡ part line.now span }
+{
+    let (_, rest) = line.split_at(line.len().min(span.from as usize));
+    let size = span.to.saturating_sub(span.from) as usize;
+    let (part, _) = rest.split_at(rest.len().min(size));
+    part
+}
+
+/// The byte of a line at a place, and 0 behind its end.
+pub fn byte_at(line: &[u8], place: u32) -> u8
+    ensures { result ≡ slice_index line.now place }
+{
+    match line.get(place as usize) {
+        Some(byte) => *byte,
+        None => 0,
+    }
+}
+
+/// The name of a line's statement: it stands after the labels, each of which is two tokens.
+pub fn name_after<'a>(labels: usize, line: &'a [u8], tokens: &Tokens<'_>) -> &'a [u8]
+    requires labels { labels ≤ 1000 }
+    requires line { line.now ≡ tokens.now.line }
+    ensures { result.now ≡ name_after labels tokens.now }
+{
+    match tokens.tokens().get(2 * labels) {
+        Some(token) => part(line, token.span),
+        None => &[],
+    }
+}
+
+/// The operand at a span of a line.
+pub fn operand_in<'a>(line: &FaultyLine<'a>, span: Span) -> Option<&'a Operand>
+    ensures { option_map (λ o. o.now) result ≡ operand_of_line (line_of line.now) span }
+{
+    operand_at(span, line.stmt.body.operands())
+}
+
+/// The value of the operand at a span of a line.
+pub fn value_in(line: &FaultyLine<'_>, span: Span) -> Option<i64>
+    ensures { result ≡ value_of_line (line_of line.now) span }
+{
+    value_at(span, line.stmt.body.operands(), line.values.entries())
+}

@@ -1,0 +1,24 @@
+//! Reports of faults for people: the message of each fault, and the rows that show where it is.
+#![tactic(auto)]
+
+mod bounds;
+mod characters;
+mod counts;
+mod faulty_line;
+mod faulty_names;
+mod language_names;
+mod laws;
+mod messages;
+mod name_messages;
+mod operands;
+mod reports;
+mod rows;
+mod statement_messages;
+mod suggestions;
+mod text;
+mod value_messages;
+
+pub use faulty_line::FaultyLine;
+pub use laws::limits_are_those_of_range;
+pub use messages::message;
+pub use reports::{Page, Style, push_fault_count, report};

@@ -1,0 +1,193 @@
+//! The messages of names without a value.
+
+ghost use Rattle.std.specs.Prelude.{◌≡◌, ◌++◌, map, option_map, IfOk, OnOk};
+ghost use Rattle.rv_report.specs.FaultyNames.{faulty_name_of, low_label_of, name_text, name_used};
+ghost use Rattle.rv_report.specs.Lines.{line_of, part};
+ghost use Rattle.rv_report.specs.Messages.{faulty_equ, faulty_equ_of, later_equ, line_of_equ, name_or, no_partner, operand_of_line, question_about, undefined, undefined_name};
+
+use crate::faulty_line::{FaultyLine, operand_in, part};
+use crate::faulty_names::{UsedName, faulty_name_of, low_label_of, push_name};
+use crate::suggestions::push_did_you_mean;
+use crate::text::Text;
+use rv_expr::Names;
+use rv_list::{DefinitionPlace, View};
+use rv_text::Span;
+use std::alloc::{AllocError, Global};
+
+// The first name without a value of the operand at a span.
+fn faulty_name_at<'a, N: Names>(
+    line: &FaultyLine<'a>,
+    names: &N,
+    span: Span,
+) -> Option<UsedName<'a>>
+    ensures { option_map name_used result ≡ faulty_name_of (N.environment names.now line.now.address) (operand_of_line (line_of line.now) span) }
+{
+    faulty_name_of(operand_in(line, span), names, line.address)
+}
+
+// The bytes of a name.
+fn written(alloc: Global, name: UsedName<'_>) -> Result<Text, AllocError>
+    ensures { IfOk result (λ text. text ≡ name_text (name_used name.entry)) }
+{
+    let mut text = Text::new(alloc);
+    push_name(&mut text, name)?;
+    Ok(text)
+}
+
+// Appends the question whether another symbol was meant.
+fn push_question_about(
+    out: &mut Text,
+    alloc: Global,
+    symbols: &[&[u8]],
+    name: UsedName<'_>,
+) -> Result<(), AllocError>
+    ensures { OnOk result (out.new ≡ out.old ++ question_about (map (λ s. s.now) symbols.now) (name_used name.entry)) }
+{
+    match name {
+        UsedName::Symbol(symbol) => push_did_you_mean(out, alloc, symbol, symbols),
+        UsedName::Local(_, _) => Ok(()),
+        UsedName::Here => Ok(()),
+    }
+}
+
+// Appends that a name has no definition.
+#[tactic(auto, unfolding(crate::specs::Messages::undefined_name))]
+fn push_undefined_name(
+    out: &mut Text,
+    alloc: Global,
+    symbols: &[&[u8]],
+    name: UsedName<'_>,
+) -> Result<(), AllocError>
+    ensures { OnOk result (out.new ≡ out.old ++ undefined_name (map (λ s. s.now) symbols.now) (name_used name.entry)) }
+{
+    let text = written(alloc, name)?;
+    out.push_about(b"", text.bytes(), b" is not defined")?;
+    push_question_about(out, alloc, symbols, name)
+}
+
+/// A name without a definition, in the operand at a span of a line.
+pub fn push_undefined<N: Names>(
+    out: &mut Text,
+    alloc: Global,
+    line: &FaultyLine<'_>,
+    names: &N,
+    span: Span,
+) -> Result<(), AllocError>
+    ensures { OnOk result (out.new ≡ out.old ++ undefined (line_of line.now).symbols (part line.now.text.now span) (faulty_name_of (N.environment names.now line.now.address) (operand_of_line (line_of line.now) span))) }
+{
+    match faulty_name_at(line, names, span) {
+        Some(name) => push_undefined_name(out, alloc, line.symbols, name),
+        None => out.push_about(
+            b"a name that ",
+            part(line.text, span),
+            b" needs is not defined",
+        ),
+    }
+}
+
+// The name, or the operand where no name of its own has the fault.
+fn name_or(alloc: Global, text: &[u8], name: Option<UsedName<'_>>) -> Result<Text, AllocError>
+    ensures { IfOk result (λ found. found ≡ name_or text.now (option_map name_used name.entry)) }
+{
+    match name {
+        Some(name) => written(alloc, name),
+        None => {
+            let mut found = Text::new(alloc);
+            found.push(text)?;
+            Ok(found)
+        }
+    }
+}
+
+// Appends that an `.equ` cannot use a name.
+#[tactic(auto, unfolding(crate::specs::Messages::later_equ))]
+fn push_later_equ_of(out: &mut Text, name: &[u8]) -> Result<(), AllocError>
+    ensures { OnOk result (out.new ≡ out.old ++ later_equ name.now) }
+{
+    out.push_about(
+        b"an .equ cannot use ",
+        name,
+        b", an .equ of this or a later line",
+    )
+}
+
+/// An `.equ` of a later line, in the operand at a span of another.
+pub fn push_later_equ<N: Names>(
+    out: &mut Text,
+    alloc: Global,
+    line: &FaultyLine<'_>,
+    names: &N,
+    span: Span,
+) -> Result<(), AllocError>
+    ensures { OnOk result (out.new ≡ out.old ++ later_equ (name_or (part line.now.text.now span) (faulty_name_of (N.environment names.now line.now.address) (operand_of_line (line_of line.now) span)))) }
+{
+    let found = faulty_name_at(line, names, span);
+    let name = name_or(alloc, part(line.text, span), found)?;
+    push_later_equ_of(out, name.bytes())
+}
+
+// The line of an `.equ`.
+#[tactic(auto, unfolding(crate::specs::Messages::line_of_equ))]
+fn push_line_of_equ(out: &mut Text, place: DefinitionPlace) -> Result<(), AllocError>
+    ensures { OnOk result (out.new ≡ out.old ++ line_of_equ place) }
+{
+    match place {
+        DefinitionPlace::Equ(line) => {
+            out.push(b" (line ")?;
+            out.push_number(line)?;
+            out.push(b")")
+        }
+        DefinitionPlace::Label(_, _) => Ok(()),
+        DefinitionPlace::Nowhere => Ok(()),
+    }
+}
+
+// Appends that the `.equ` of a name has a fault.
+#[tactic(auto, unfolding(crate::specs::Messages::faulty_equ_of))]
+fn push_faulty_equ_of<V: View>(out: &mut Text, view: &V, name: &[u8]) -> Result<(), AllocError>
+    ensures { OnOk result (out.new ≡ out.old ++ faulty_equ_of (V.shown view.now) name.now) }
+{
+    out.push_about(b"the .equ of ", name, b" has a fault")?;
+    push_line_of_equ(out, view.definition(name))
+}
+
+/// A name whose `.equ` has a fault, in the operand at a span of a line.
+pub fn push_faulty_equ<N: Names, V: View>(
+    out: &mut Text,
+    alloc: Global,
+    line: &FaultyLine<'_>,
+    names: &N,
+    view: &V,
+    span: Span,
+) -> Result<(), AllocError>
+    ensures { OnOk result (out.new ≡ out.old ++ faulty_equ (V.shown view.now) (part line.now.text.now span) (faulty_name_of (N.environment names.now line.now.address) (operand_of_line (line_of line.now) span))) }
+{
+    let Some(name) = faulty_name_at(line, names, span) else {
+        let text = part(line.text, span);
+        return out.push_about(b"the .equ of a name that ", text, b" needs has a fault");
+    };
+    let name = written(alloc, name)?;
+    push_faulty_equ_of(out, view, name.bytes())
+}
+
+// Appends that no high half stands at a label.
+#[tactic(auto, unfolding(crate::specs::Messages::no_partner))]
+fn push_no_partner_at(out: &mut Text, label: &[u8]) -> Result<(), AllocError>
+    ensures { OnOk result (out.new ≡ out.old ++ no_partner label.now) }
+{
+    out.push_about(b"no 'auipc .., %pcrel_hi(..)' stands at ", label, b"")
+}
+
+/// The label of a low half without a high half, in the operand at a span of a line.
+pub fn push_no_partner(
+    out: &mut Text,
+    alloc: Global,
+    line: &FaultyLine<'_>,
+    span: Span,
+) -> Result<(), AllocError>
+    ensures { OnOk result (out.new ≡ out.old ++ no_partner (name_or (part line.now.text.now span) (low_label_of (operand_of_line (line_of line.now) span)))) }
+{
+    let found = low_label_of(operand_in(line, span));
+    let label = name_or(alloc, part(line.text, span), found)?;
+    push_no_partner_at(out, label.bytes())
+}

@@ -1,0 +1,227 @@
+//! The rows of a report.
+
+ghost use Rattle.std.specs.Prelude.{◌≡◌, ◌+◌, ◌≤◌, ◌++◌, codes, decimal, length, OnOk};
+ghost use Rattle.rv_report.specs.Reports.{count_of_faults, faults_word, line_row, margin, mark, mark_row, message_row, note_at, note_by, painted, rendition, shown_line, text_end};
+
+use crate::characters::{column_of, push_shown};
+use crate::reports::Style;
+use crate::text::Text;
+use itoa::Buffer;
+use rv_list::{DefinitionPlace, fault_name};
+use rv_text::{Fault, FaultNumber, Span};
+use std::alloc::{AllocError, Global};
+
+// How many columns the numbers of lines take.
+const NUMBER_COLUMNS: usize = 5;
+
+// Appends a control sequence that selects how characters are shown.
+#[tactic(auto, unfolding(crate::specs::Reports::rendition))]
+fn push_rendition(out: &mut Text, parameter: &[u8]) -> Result<(), AllocError>
+    ensures { OnOk result (out.new ≡ out.old ++ rendition parameter.now) }
+{
+    out.push_byte(0x1b)?;
+    out.push(b"[")?;
+    out.push(parameter)?;
+    out.push(b"m")
+}
+
+// Appends a text in a color, where colors are shown.
+#[tactic(auto, unfolding(crate::specs::Reports::painted))]
+fn push_painted(out: &mut Text, style: Style, color: &[u8], text: &[u8]) -> Result<(), AllocError>
+    ensures { OnOk result (out.new ≡ out.old ++ painted style color.now text.now) }
+{
+    match style {
+        Style::Plain => out.push(text),
+        Style::Colored => {
+            push_rendition(out, color)?;
+            out.push(text)?;
+            push_rendition(out, b"0")
+        }
+    }
+}
+
+// Appends a place: the file and the line.
+fn push_place(out: &mut Text, file: &[u8], line: u32) -> Result<(), AllocError>
+    ensures { OnOk result (out.new ≡ out.old ++ (file.now ++ (codes ":" ++ decimal line))) }
+{
+    out.push(file)?;
+    out.push(b":")?;
+    out.push_number(line)
+}
+
+// Appends a column, counted from 1.
+fn push_column(out: &mut Text, from: u32) -> Result<(), AllocError>
+    ensures { OnOk result (out.new ≡ out.old ++ decimal (from + 1)) }
+{
+    out.push_number(u64::from(from) + 1)
+}
+
+/// Appends the row of a message.
+#[tactic(auto, unfolding(crate::specs::Reports::message_row))]
+pub fn push_message_row(
+    out: &mut Text,
+    style: Style,
+    file: &[u8],
+    line: u32,
+    fault: Fault,
+    message: &[u8],
+) -> Result<(), AllocError>
+    ensures { OnOk result (out.new ≡ out.old ++ message_row style file.now line fault message.now) }
+{
+    push_place(out, file, line)?;
+    out.push(b":")?;
+    push_column(out, fault.span.from)?;
+    out.push(b": ")?;
+    push_painted(out, style, b"31", b"error:")?;
+    out.push(b" ")?;
+    out.push(message)?;
+    out.push(b" [")?;
+    out.push(fault_name(fault.number).as_bytes())?;
+    out.push(b"]\n")
+}
+
+// The place behind the last byte that is no white space.
+fn text_end(line: &[u8]) -> usize
+    ensures value { result ≡ text_end 0 0 line.now }
+    ensures within { result ≤ length line.now }
+{
+    let mut at = 0;
+    let mut end = 0;
+    let mut bytes = line;
+    'bytes: while let [byte, rest @ ..] = bytes {
+        at += 1;
+        if !byte.is_ascii_whitespace() {
+            end = at;
+        }
+        bytes = rest;
+    }
+    end
+}
+
+// Appends a line as it is shown.
+#[tactic(auto, unfolding(crate::specs::Reports::shown_line))]
+fn push_shown_line(out: &mut Text, line: &[u8]) -> Result<(), AllocError>
+    requires { length line.now ≤ 1000 }
+    ensures { OnOk result (out.new ≡ out.old ++ shown_line line.now) }
+{
+    let (shown, _) = line.split_at(text_end(line));
+    push_shown(out, shown)
+}
+
+// Appends the number of a line at the right end of its columns.
+#[tactic(auto, unfolding(crate::specs::Reports::margin))]
+fn push_margin(out: &mut Text, line: u32) -> Result<(), AllocError>
+    ensures { OnOk result (out.new ≡ out.old ++ margin line) }
+{
+    let mut buffer = Buffer::new();
+    let digits = buffer.format(line).as_bytes();
+    out.push_repeated(b' ', NUMBER_COLUMNS.saturating_sub(digits.len()))?;
+    out.push(digits)
+}
+
+/// Appends the row that shows a line.
+#[tactic(auto, unfolding(crate::specs::Reports::line_row))]
+pub fn push_line_row(out: &mut Text, line: u32, text: &[u8]) -> Result<(), AllocError>
+    requires { length text.now ≤ 1000 }
+    ensures { OnOk result (out.new ≡ out.old ++ line_row line text.now) }
+{
+    push_margin(out, line)?;
+    out.push(b" | ")?;
+    push_shown_line(out, text)?;
+    out.push(b"\n")
+}
+
+// How many columns the number of a line takes.
+#[tactic(auto, unfolding(crate::specs::Reports::margin))]
+fn margin_width(line: u32) -> usize
+    ensures { result ≡ length (margin line) }
+{
+    let mut buffer = Buffer::new();
+    buffer.format(line).as_bytes().len().max(NUMBER_COLUMNS)
+}
+
+// A mark under so many columns.
+#[tactic(auto, unfolding(crate::specs::Reports::mark))]
+fn push_mark(out: &mut Text, columns: usize) -> Result<(), AllocError>
+    ensures { OnOk result (out.new ≡ out.old ++ mark columns) }
+{
+    out.push(b"^")?;
+    out.push_repeated(b'~', columns.saturating_sub(1))
+}
+
+/// Appends the row that marks the bytes at fault.
+#[tactic(auto, unfolding(crate::specs::Reports::mark_row))]
+pub fn push_mark_row(
+    out: &mut Text,
+    alloc: Global,
+    style: Style,
+    line: u32,
+    text: &[u8],
+    span: Span,
+) -> Result<(), AllocError>
+    requires { length text.now ≤ 1000 }
+    ensures { OnOk result (out.new ≡ out.old ++ mark_row style line text.now span) }
+{
+    let from = column_of(text, span.from as usize);
+    let to = column_of(text, span.to as usize);
+    let mut mark = Text::new(alloc);
+    push_mark(&mut mark, to.saturating_sub(from))?;
+    out.push_repeated(b' ', margin_width(line))?;
+    out.push(b" | ")?;
+    out.push_repeated(b' ', from)?;
+    push_painted(out, style, b"32", mark.bytes())?;
+    out.push(b"\n")
+}
+
+// Appends the row that says where the first definition of a name is.
+#[tactic(auto, unfolding(crate::specs::Reports::note_at))]
+fn push_note_at(out: &mut Text, file: &[u8], line: u32) -> Result<(), AllocError>
+    ensures { OnOk result (out.new ≡ out.old ++ note_at file.now line) }
+{
+    push_place(out, file, line)?;
+    out.push(b": note: the first definition is here\n")
+}
+
+/// Appends the row that says where the first definition of a name is, for a fault that is about a later one.
+pub fn push_note(
+    out: &mut Text,
+    file: &[u8],
+    number: FaultNumber,
+    place: DefinitionPlace,
+) -> Result<(), AllocError>
+    ensures { OnOk result (out.new ≡ out.old ++ note_by number file.now place) }
+{
+    if number != FaultNumber::Duplicate {
+        return Ok(());
+    }
+    match place {
+        DefinitionPlace::Nowhere => Ok(()),
+        DefinitionPlace::Label(line, _) => push_note_at(out, file, line),
+        DefinitionPlace::Equ(line) => push_note_at(out, file, line),
+    }
+}
+
+/// Appends the row that ends the reports of a file.
+#[tactic(auto, unfolding(crate::specs::Reports::count_of_faults))]
+pub fn push_count(out: &mut Text, file: &[u8], count: u32) -> Result<(), AllocError>
+    ensures { OnOk result (out.new ≡ out.old ++ count_of_faults file.now count) }
+{
+    if count == 0 {
+        return Ok(());
+    }
+    out.push(file)?;
+    out.push(b": ")?;
+    out.push_number(count)?;
+    out.push(faults_word(count))
+}
+
+// What is counted.
+fn faults_word(count: u32) -> &'static [u8]
+    ensures { result.now ≡ faults_word count }
+{
+    if count == 1 {
+        b" fault\n"
+    } else {
+        b" faults\n"
+    }
+}

@@ -1,0 +1,172 @@
+//! The messages of the faults of values.
+
+ghost use Rattle.std.specs.Prelude.{◌≡◌, ◌++◌, OnOk};
+ghost use Rattle.rv_report.specs.Lines.{line_of, part};
+ghost use Rattle.rv_report.specs.Messages.{operand_of_line, value_of_line, amount, beyond_reach, multiple_in_role, multiple_of, not_multiple, odd_address, odd_distance, out_of_range, out_of_reach, range_in_role, range_of, side};
+
+use crate::bounds::{limits_in, push_limits};
+use crate::faulty_line::{FaultyLine, operand_in, part, value_in};
+use crate::text::Text;
+use rv_ops::Limits;
+use rv_stmt::{AlignmentUnit, Role};
+use rv_text::Span;
+use std::alloc::AllocError;
+
+// Appends a value, or the operand that should have one.
+fn push_amount(out: &mut Text, text: &[u8], value: Option<i64>) -> Result<(), AllocError>
+    ensures { OnOk result (out.new ≡ out.old ++ amount text.now value) }
+{
+    match value {
+        Some(value) => out.push_number(value),
+        None => out.push_quoted(text),
+    }
+}
+
+// On which side of a line a target is.
+fn side(distance: i64) -> &'static [u8]
+    ensures { result.now ≡ side distance }
+{
+    if distance < 0 {
+        b" bytes behind"
+    } else {
+        b" bytes ahead"
+    }
+}
+
+// Appends how far away a target is.
+#[tactic(auto, unfolding(crate::specs::Messages::beyond_reach))]
+fn push_beyond_reach(out: &mut Text, distance: i64, limits: &Limits) -> Result<(), AllocError>
+    ensures { OnOk result (out.new ≡ out.old ++ beyond_reach distance limits.now) }
+{
+    out.push(b"the target is ")?;
+    out.push_number(distance.unsigned_abs())?;
+    out.push(side(distance))?;
+    out.push(b"; the reach is ")?;
+    push_limits(out, limits)
+}
+
+// Appends that a value is out of range.
+#[tactic(auto, unfolding(crate::specs::Messages::out_of_range))]
+fn push_out_of_range(
+    out: &mut Text,
+    text: &[u8],
+    value: Option<i64>,
+    limits: &Limits,
+) -> Result<(), AllocError>
+    ensures { OnOk result (out.new ≡ out.old ++ out_of_range (amount text.now value) limits.now) }
+{
+    push_amount(out, text, value)?;
+    out.push(b" is out of range (")?;
+    push_limits(out, limits)?;
+    out.push(b")")
+}
+
+// Appends that a target is out of reach.
+fn push_out_of_reach(
+    out: &mut Text,
+    text: &[u8],
+    value: Option<i64>,
+    limits: &Limits,
+) -> Result<(), AllocError>
+    ensures { OnOk result (out.new ≡ out.old ++ out_of_reach text.now value limits.now) }
+{
+    match value {
+        Some(distance) => push_beyond_reach(out, distance, limits),
+        None => push_out_of_range(out, text, None, limits),
+    }
+}
+
+// A value out of the range of its role. That of an alignment is not the number that is written.
+fn push_range_in_role(
+    out: &mut Text,
+    role: Role,
+    text: &[u8],
+    value: Option<i64>,
+    limits: &Limits,
+) -> Result<(), AllocError>
+    ensures { OnOk result (out.new ≡ out.old ++ range_in_role role text.now value limits.now) }
+{
+    match role {
+        Role::Target => push_out_of_reach(out, text, value, limits),
+        Role::PairTarget => push_out_of_reach(out, text, value, limits),
+        Role::Alignment(AlignmentUnit::Bytes) => {
+            out.push_about(b"", text, b" is not a power of two from 1 to 4096")
+        }
+        Role::Alignment(AlignmentUnit::Exponent) => push_out_of_range(out, text, None, limits),
+        _ => push_out_of_range(out, text, value, limits),
+    }
+}
+
+/// A value out of range, of the operand at a span of a line.
+pub fn push_range(out: &mut Text, line: &FaultyLine<'_>, span: Span) -> Result<(), AllocError>
+    ensures { OnOk result (out.new ≡ out.old ++ range_of line.now.stmt.now.body (part line.now.text.now span) (value_of_line (line_of line.now) span) (operand_of_line (line_of line.now) span)) }
+{
+    let text = part(line.text, span);
+    let Some(operand) = operand_in(line, span) else {
+        return out.push_about(b"", text, b" is out of range");
+    };
+    let limits = limits_in(&line.stmt.body, operand.role);
+    push_range_in_role(out, operand.role, text, value_in(line, span), &limits)
+}
+
+// Appends that a target is at an odd distance.
+#[tactic(auto, unfolding(crate::specs::Messages::odd_distance))]
+fn push_odd_distance(out: &mut Text, text: &[u8], value: Option<i64>) -> Result<(), AllocError>
+    ensures { OnOk result (out.new ≡ out.old ++ odd_distance (amount text.now value)) }
+{
+    out.push(b"the target is at an odd distance, ")?;
+    push_amount(out, text, value)
+}
+
+// Appends that a value is no multiple.
+#[tactic(auto, unfolding(crate::specs::Messages::not_multiple))]
+fn push_not_multiple(
+    out: &mut Text,
+    text: &[u8],
+    value: Option<i64>,
+    limits: &Limits,
+) -> Result<(), AllocError>
+    ensures { OnOk result (out.new ≡ out.old ++ not_multiple (amount text.now value) limits.now) }
+{
+    push_amount(out, text, value)?;
+    out.push(b" is not a multiple of ")?;
+    out.push_number(limits.multiple)
+}
+
+// A value in range that is no multiple, in a role.
+fn push_multiple_in_role(
+    out: &mut Text,
+    role: Role,
+    text: &[u8],
+    value: Option<i64>,
+    limits: &Limits,
+) -> Result<(), AllocError>
+    ensures { OnOk result (out.new ≡ out.old ++ multiple_in_role role (amount text.now value) limits.now) }
+{
+    match role {
+        Role::Target => push_odd_distance(out, text, value),
+        Role::PairTarget => push_odd_distance(out, text, value),
+        _ => push_not_multiple(out, text, value, limits),
+    }
+}
+
+/// A value in range that is no multiple, of the operand at a span of a line.
+pub fn push_multiple(out: &mut Text, line: &FaultyLine<'_>, span: Span) -> Result<(), AllocError>
+    ensures { OnOk result (out.new ≡ out.old ++ multiple_of line.now.stmt.now.body (part line.now.text.now span) (value_of_line (line_of line.now) span) (operand_of_line (line_of line.now) span)) }
+{
+    let text = part(line.text, span);
+    let Some(operand) = operand_in(line, span) else {
+        return out.push_about(b"", text, b" is not a multiple");
+    };
+    let limits = limits_in(&line.stmt.body, operand.role);
+    push_multiple_in_role(out, operand.role, text, value_in(line, span), &limits)
+}
+
+/// An instruction at an odd address.
+#[tactic(auto, unfolding(crate::specs::Messages::odd_address))]
+pub fn push_odd_address(out: &mut Text, address: u32) -> Result<(), AllocError>
+    ensures { OnOk result (out.new ≡ out.old ++ odd_address address) }
+{
+    out.push(b"an instruction at the odd address 0x")?;
+    out.push_word(address)
+}
