@@ -1,0 +1,14 @@
+pub mod Bytes
+pub mod Cuts
+pub mod Examples
+pub mod Halfway
+pub mod HexLaw
+pub mod HexRows
+pub mod HexUnique
+pub mod LineLaw
+pub mod LoadedCells
+pub mod Partly
+pub mod BinLaw
+pub mod BinSteps
+pub mod Slices
+pub mod Reports

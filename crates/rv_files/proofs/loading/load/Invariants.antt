@@ -1,0 +1,15 @@
+use Rattle.std.proofs.Common.{◌≡◌, ◌+◌, ◌++◌, None, length}
+use Rattle.rv_files.specs.Lines.{lines_of}
+use Rattle.rv_files.specs.Loading.{refusal_from}
+use Rattle.rv_files.proofs.loading.load.Given as goal
+
+-- the lines so far are in the text, and none of the others is past a limit
+abbrev pub invariant-lines : goal.invariant-lines
+invariant-lines l = record {
+  base : l.store.base ≡ l.base;
+  whole : l.store.lines ++ l.lines ≡ lines_of l.file;
+  left : refusal_from (length l.store.lines + 1) l.lines ≡ None;
+}
+
+abbrev pub decreases-lines : goal.decreases-lines
+decreases-lines l = length l.lines

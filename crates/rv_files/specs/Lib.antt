@@ -1,0 +1,9 @@
+pub mod Bin
+pub mod Cells
+pub mod DefinedSymbols
+pub mod Hex
+pub mod HexLoading
+pub mod Lines
+pub mod Loading
+pub mod Segments
+pub mod TextReports

@@ -1,0 +1,23 @@
+//! A tool over files, but for the opening of them: the lines of a file, and the formats that a text is written in.
+#![tactic(auto)]
+
+mod bin;
+mod defined_symbols;
+mod hex;
+mod laws;
+mod limits;
+mod lines;
+mod loading;
+mod reporting;
+mod sections;
+mod segment;
+
+pub use bin::write_bin;
+pub use hex::write_hex;
+pub use laws::{bin_holds_the_segments, hex_is_loaded, hex_rows_are_unique, lines_are_the_file};
+pub use limits::LoadError;
+pub use lines::Lines;
+pub use loading::load;
+pub use reporting::{TextReports, text_reports};
+pub use sections::segments;
+pub use segment::Segment;
