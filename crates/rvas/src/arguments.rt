@@ -1,0 +1,295 @@
+//! The arguments of the program.
+
+use crate::format::{FORMATS, Format};
+use clap::error::ErrorKind;
+use clap::{Arg, ArgAction, ArgMatches, Command};
+use rv_store::base_ok;
+use rv_text::number;
+use std::alloc::{AllocError, Global};
+use std::convert::AsStr;
+
+/// The version of the program.
+pub const VERSION: &str = "0.1.0";
+
+/// Why the arguments ask for nothing.
+#[derive(Debug, Drop)]
+pub enum ArgumentFault {
+    /// Help or the version was asked for: its text.
+    Help(String),
+    /// The arguments are wrong: what is wrong with them.
+    Usage(String),
+    /// The value of `--base` is no base.
+    Base,
+    /// There was no memory.
+    Memory,
+}
+
+impl From<AllocError> for ArgumentFault {
+    fn from(_: AllocError) -> Self {
+        ArgumentFault::Memory
+    }
+}
+
+/// What the program is asked to do.
+#[derive(Clone, Copy, Debug, PartialEq, Eq)]
+pub enum Task {
+    Assemble,
+    Check,
+    List,
+    Disassemble,
+    Explain,
+}
+
+const TASKS: [(&str, Task); 5] = [
+    ("asm", Task::Assemble),
+    ("check", Task::Check),
+    ("list", Task::List),
+    ("dis", Task::Disassemble),
+    ("explain", Task::Explain),
+];
+
+/// When reports have colors.
+#[derive(Clone, Copy, Debug, PartialEq, Eq)]
+pub enum Color {
+    Always,
+    Never,
+    /// Where standard error is a terminal.
+    Auto,
+}
+
+/// The task and its arguments. What a task has no argument for is as if it were left out.
+#[derive(Drop)]
+pub struct Arguments<'a> {
+    pub task: Task,
+    /// The files, or the name that is explained.
+    pub names: Vec<&'a str>,
+    pub out: Option<&'a str>,
+    pub format: Option<Format>,
+    pub base: u32,
+    pub entry: Option<&'a str>,
+    pub force: bool,
+    pub color: Color,
+}
+
+const COLORS: [&str; 3] = ["always", "never", "auto"];
+
+// The file of a command.
+fn file_argument<'a>(alloc: Global) -> Arg<'a> {
+    Arg::new(alloc, "file")
+        .value_name("FILE")
+        .help("The file, or - for standard input")
+        .required(true)
+        .action(ArgAction::Set)
+}
+
+// The address of the first byte.
+fn base_option<'a>(alloc: Global, help: &'a str) -> Arg<'a> {
+    Arg::new(alloc, "base")
+        .long("base")
+        .value_name("V")
+        .help(help)
+        .action(ArgAction::Set)
+}
+
+// The base of a text.
+fn text_base<'a>(alloc: Global) -> Arg<'a> {
+    base_option(
+        alloc,
+        "Where the first section begins [default: 0]: a multiple of 4096, at most 0x80000000",
+    )
+}
+
+// When reports have colors.
+fn color_option<'a>(alloc: Global) -> Arg<'a> {
+    Arg::new(alloc, "color")
+        .long("color")
+        .value_name("WHEN")
+        .help("Whether reports have colors")
+        .value_parser(COLORS.as_slice())
+        .default_value("auto")
+        .action(ArgAction::Set)
+}
+
+// Where the bytes go to, and in which format.
+fn with_output<'a>(alloc: Global, command: Command<'a>) -> Result<Command<'a>, AllocError> {
+    let output = Arg::new(alloc, "output")
+        .short('o')
+        .long("output")
+        .value_name("OUT")
+        .help("Where the bytes are written [default: standard output]")
+        .action(ArgAction::Set);
+    let format = Arg::new(alloc, "format")
+        .short('f')
+        .long("format")
+        .value_name("FORMAT")
+        .help("The format of OUT [default: by its ending, else bin]")
+        .value_parser(FORMATS.as_slice())
+        .action(ArgAction::Set);
+    command.arg(output)?.arg(format)
+}
+
+// What a text is assembled to beside its bytes.
+fn with_choices<'a>(alloc: Global, command: Command<'a>) -> Result<Command<'a>, AllocError> {
+    let entry = Arg::new(alloc, "entry")
+        .long("entry")
+        .value_name("NAME")
+        .help("The label at which the program starts [default: _start, else the base]")
+        .action(ArgAction::Set);
+    let force = Arg::new(alloc, "force")
+        .long("force")
+        .help("Write OUT although FILE has faults")
+        .action(ArgAction::SetTrue);
+    command.arg(entry)?.arg(force)
+}
+
+fn assemble_command<'a>(alloc: Global) -> Result<Command<'a>, AllocError> {
+    let command = Command::new(alloc, "asm").about("Assembles a file");
+    let command = with_choices(alloc, with_output(alloc, command)?)?;
+    command
+        .arg(text_base(alloc))?
+        .arg(color_option(alloc))?
+        .arg(file_argument(alloc))
+}
+
+fn check_command<'a>(alloc: Global) -> Result<Command<'a>, AllocError> {
+    let files = file_argument(alloc).num_args(1..).action(ArgAction::Append);
+    Command::new(alloc, "check")
+        .about("Assembles each file by itself, and writes nothing")
+        .arg(text_base(alloc))?
+        .arg(color_option(alloc))?
+        .arg(files)
+}
+
+fn list_command<'a>(alloc: Global) -> Result<Command<'a>, AllocError> {
+    Command::new(alloc, "list")
+        .about("Writes the listing of a file")
+        .arg(text_base(alloc))?
+        .arg(color_option(alloc))?
+        .arg(file_argument(alloc))
+}
+
+fn disassemble_command<'a>(alloc: Global) -> Result<Command<'a>, AllocError> {
+    Command::new(alloc, "dis")
+        .about("Disassembles a file of raw bytes")
+        .arg(base_option(alloc, "The address of the first byte [default: 0]"))?
+        .arg(file_argument(alloc))
+}
+
+fn explain_command<'a>(alloc: Global) -> Result<Command<'a>, AllocError> {
+    let name = Arg::new(alloc, "name")
+        .value_name("NAME")
+        .help("The name of a fault, or its number")
+        .required(true)
+        .action(ArgAction::Set);
+    Command::new(alloc, "explain")
+        .about("Says what a fault means")
+        .arg(name)
+}
+
+// The program's own command.
+fn command<'a>(alloc: Global) -> Result<Command<'a>, AllocError> {
+    Command::new(alloc, "rvas")
+        .version(VERSION)
+        .about("Assembles RISC-V text in files")
+        .after_help("The commands and formats are described in docs/FILES.md.")
+        .subcommand_required(true)
+        .subcommand(assemble_command(alloc)?)?
+        .subcommand(check_command(alloc)?)?
+        .subcommand(list_command(alloc)?)?
+        .subcommand(disassemble_command(alloc)?)?
+        .subcommand(explain_command(alloc)?)
+}
+
+// What clap says against the arguments.
+fn fault_of(alloc: Global, error: &clap::Error) -> Result<ArgumentFault, AllocError> {
+    match error.kind() {
+        ErrorKind::DisplayHelp | ErrorKind::DisplayVersion => {
+            Ok(ArgumentFault::Help(format!(in alloc; "{error}")?))
+        }
+        ErrorKind::OutOfMemory => Ok(ArgumentFault::Memory),
+        _ => Ok(ArgumentFault::Usage(format!(in alloc; "{error}")?)),
+    }
+}
+
+// The task of this name.
+fn task_named(name: &str) -> Option<Task> {
+    for (known, task) in &TASKS {
+        if name == *known {
+            return Some(*task);
+        }
+    }
+    None
+}
+
+// The base that a text spells as a whole, as the language spells numbers; without a text it is 0. Bytes may be disassembled from any
+// address on.
+fn base_of(task: Task, text: Option<&str>) -> Option<u32> {
+    let Some(text) = text else {
+        return Some(0);
+    };
+    let base = u32::try_from(number(text.as_bytes())?).ok()?;
+    if task == Task::Disassemble || base_ok(base) {
+        Some(base)
+    } else {
+        None
+    }
+}
+
+// When reports have colors, by its name.
+fn color_named(name: Option<&str>) -> Color {
+    match name {
+        Some("always") => Color::Always,
+        Some("never") => Color::Never,
+        _ => Color::Auto,
+    }
+}
+
+// The files of a command, or the name that is explained.
+fn names_of<'a>(alloc: Global, matches: &ArgMatches<'a>) -> Result<Vec<&'a str>, AllocError> {
+    let mut names = Vec::new(alloc);
+    if let Some(files) = matches.get_strs("file") {
+        names.extend_from_slice(files)?;
+    }
+    if let Some(name) = matches.get_str("name") {
+        names.push(name)?;
+    }
+    Ok(names)
+}
+
+// The arguments of a command.
+fn arguments_of<'a>(
+    alloc: Global,
+    name: &str,
+    matches: &ArgMatches<'a>,
+) -> Result<Arguments<'a>, ArgumentFault> {
+    let names = names_of(alloc, matches)?;
+    let task = task_named(name).unwrap_or(Task::Explain);
+    let Some(base) = base_of(task, matches.get_str("base")) else {
+        return Err(ArgumentFault::Base);
+    };
+    Ok(Arguments {
+        task,
+        names,
+        out: matches.get_str("output"),
+        format: matches.get_str("format").and_then(Format::named),
+        base,
+        entry: matches.get_str("entry"),
+        force: matches.get_flag("force"),
+        color: color_named(matches.get_str("color")),
+    })
+}
+
+/// The arguments of the program. The first word is its name.
+pub fn arguments_from<'a, S: AsStr>(
+    alloc: Global,
+    words: &'a [S],
+) -> Result<Arguments<'a>, ArgumentFault> {
+    let matches = match command(alloc)?.try_get_matches_from(words) {
+        Ok(matches) => matches,
+        Err(error) => return Err(fault_of(alloc, &error)?),
+    };
+    match matches.subcommand() {
+        Some((name, matches)) => arguments_of(alloc, name, matches),
+        None => Err(ArgumentFault::Usage(String::new(alloc))),
+    }
+}

@@ -1,0 +1,198 @@
+//! What the program does.
+
+ghost use Rattle.std.specs.Prelude.{◌≡◌, ◌==◌, length, IfOk};
+ghost use Rattle.rv_list.specs.Faults.{fault_rows};
+ghost use Rattle.rv_store.specs.Shown.{shown_of};
+
+use crate::arguments::{Arguments, Color};
+use crate::explain::explain;
+use crate::failure::Failure;
+use crate::format::Format;
+use crate::input::{read, read_text, shown_name};
+use crate::output::Output;
+use rv_dis::{DisRow, disassemble};
+use rv_files::text_reports;
+use rv_list::write_listing;
+use rv_report::{Page, Style};
+use rv_store::Store;
+use rv_text::StdSink;
+use std::fs;
+use std::io::{self, IsTerminal, Write};
+use std::os::unix::fs::MetadataExt;
+
+// How reports are shown.
+fn style_of(rt: &HostRuntime, color: Color) -> Style {
+    let has_colors = match color {
+        Color::Always => true,
+        Color::Never => false,
+        Color::Auto => rt.stderr().is_terminal(),
+    };
+    if has_colors {
+        Style::Colored
+    } else {
+        Style::Plain
+    }
+}
+
+// Writes the reports of a text to standard error. Whether it has none.
+fn report_faults(rt: &HostRuntime, name: &str, style: Style, store: &Store) -> Result<bool, Failure>
+    ensures { IfOk result (λ is_right. is_right ≡ (length (fault_rows (shown_of store.now)) == 0)) }
+{
+    let page = Page {
+        file: shown_name(name).as_bytes(),
+        style,
+    };
+    let reports = text_reports(rt.alloc(), &page, store)?;
+    let _ = rt.stderr().write_all(reports.text.as_slice());
+    Ok(reports.count == 0)
+}
+
+// Says why a task was not done with a file, and gives the status.
+fn status_of(rt: &HostRuntime, done: Result<(), Failure>, file: &str, other: &str) -> u8 {
+    let Err(failure) = done else {
+        return 0;
+    };
+    let _ = match failure {
+        Failure::Faulty => Ok(()),
+        Failure::Base => eprintln!(rt; "rvas: bad base"),
+        Failure::SameFile => eprintln!(rt; "rvas: OUT and FILE are the same"),
+        Failure::NoLabel => eprintln!(rt; "rvas: no label '{other}'"),
+        Failure::NoFault => eprintln!(rt; "rvas: no fault '{file}'"),
+        Failure::Read => eprintln!(rt; "rvas: {}: cannot be read", shown_name(file)),
+        Failure::Write => eprintln!(rt; "rvas: {other}: cannot be written"),
+        Failure::Memory => eprintln!(rt; "rvas: out of memory"),
+    };
+    failure.status()
+}
+
+// The one file of a task, or the name that is explained.
+fn first_name<'a>(arguments: &Arguments<'a>) -> &'a str {
+    arguments.names.first().copied().unwrap_or("-")
+}
+
+// Whether the output has the same file as the input.
+fn is_same_file(rt: &HostRuntime, file: &str, out: &str) -> bool {
+    if file == "-" || out == "-" {
+        return false;
+    }
+    match (fs::metadata(rt, file), fs::metadata(rt, out)) {
+        (Ok(one), Ok(other)) => one.dev() == other.dev() && one.ino() == other.ino(),
+        _ => false,
+    }
+}
+
+// Assembles a file. Nothing is written where it has faults, unless that is asked for.
+fn assemble_file(
+    rt: &HostRuntime,
+    arguments: &Arguments<'_>,
+    file: &str,
+    out: &str,
+) -> Result<(), Failure> {
+    if is_same_file(rt, file, out) {
+        return Err(Failure::SameFile);
+    }
+    let store = read_text(rt, file, arguments.base)?;
+    let is_right = report_faults(rt, file, style_of(rt, arguments.color), &store)?;
+    if !is_right && !arguments.force {
+        return Err(Failure::Faulty);
+    }
+    let format = arguments.format.unwrap_or(Format::of_file(out));
+    let output = Output::of(rt, &store, arguments.base, arguments.entry, format)?;
+    output.write_to(rt, out)?;
+    if is_right {
+        Ok(())
+    } else {
+        Err(Failure::Faulty)
+    }
+}
+
+/// Assembles a file, and gives the status.
+pub fn assemble(rt: &HostRuntime, arguments: &Arguments<'_>) -> u8 {
+    let file = first_name(arguments);
+    let out = arguments.out.unwrap_or("-");
+    let done = assemble_file(rt, arguments, file, out);
+    let other = match done {
+        Err(Failure::NoLabel) => arguments.entry.unwrap_or(""),
+        _ => out,
+    };
+    status_of(rt, done, file, other)
+}
+
+// Reports the faults of a file.
+fn check_file(rt: &HostRuntime, arguments: &Arguments<'_>, file: &str) -> Result<(), Failure> {
+    let store = read_text(rt, file, arguments.base)?;
+    match report_faults(rt, file, style_of(rt, arguments.color), &store)? {
+        true => Ok(()),
+        false => Err(Failure::Faulty),
+    }
+}
+
+/// Reports the faults of each file, and gives the greatest status.
+pub fn check(rt: &HostRuntime, arguments: &Arguments<'_>) -> u8 {
+    let mut status = 0;
+    for file in arguments.names.as_slice() {
+        let done = check_file(rt, arguments, file);
+        status = status_of(rt, done, file, "").max(status);
+    }
+    status
+}
+
+// Writes the listing of a file.
+fn list_file(rt: &HostRuntime, arguments: &Arguments<'_>, file: &str) -> Result<(), Failure> {
+    let store = read_text(rt, file, arguments.base)?;
+    let is_right = report_faults(rt, file, style_of(rt, arguments.color), &store)?;
+    let mut sink = StdSink::new(io::writer(rt));
+    if write_listing(&&store, &mut sink).is_err() {
+        return Err(Failure::Write);
+    }
+    if is_right {
+        Ok(())
+    } else {
+        Err(Failure::Faulty)
+    }
+}
+
+/// Writes the listing of a file, and gives the status.
+pub fn list(rt: &HostRuntime, arguments: &Arguments<'_>) -> u8 {
+    let file = first_name(arguments);
+    status_of(rt, list_file(rt, arguments, file), file, "-")
+}
+
+// Writes a row: its address, its value with two digits for each byte, and its text.
+fn write_row<W: Write>(out: &mut W, row: &DisRow) -> io::Result<()> {
+    let (address, value, text) = (row.address, row.value, row.text.as_str());
+    match row.len {
+        4 => writeln!(out, "{address:08x} {value:08x} {text}"),
+        2 => writeln!(out, "{address:08x} {value:04x} {text}"),
+        _ => writeln!(out, "{address:08x} {value:02x} {text}"),
+    }
+}
+
+// Writes the rows of a file of raw bytes.
+fn write_rows(rt: &HostRuntime, file: &str, base: u32) -> Result<(), Failure> {
+    let bytes = read(rt, file)?;
+    let Ok(rows) = disassemble(rt.alloc(), bytes.as_slice(), base) else {
+        return Err(Failure::Memory);
+    };
+    let Ok(mut out) = io::BufWriter::new(rt.alloc(), io::writer(rt)) else {
+        return Err(Failure::Memory);
+    };
+    for row in rows.as_slice() {
+        if write_row(&mut out, row).is_err() {
+            return Err(Failure::Write);
+        }
+    }
+    out.flush().map_err(|_| Failure::Write)
+}
+
+/// Disassembles a file of raw bytes, and gives the status.
+pub fn disassemble_file(rt: &HostRuntime, arguments: &Arguments<'_>) -> u8 {
+    let file = first_name(arguments);
+    status_of(rt, write_rows(rt, file, arguments.base), file, "-")
+}
+
+/// Says what a fault means, and gives the status.
+pub fn explain_fault(rt: &HostRuntime, arguments: &Arguments<'_>) -> u8 {
+    let name = first_name(arguments);
+    status_of(rt, explain(rt, name), name, "-")
+}
