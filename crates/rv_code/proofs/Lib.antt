@@ -1,5 +1,4 @@
 pub mod Apart
-pub mod CommonShapes
 pub mod Classes
 pub mod Decoded
 pub mod Examples

@@ -11,13 +11,10 @@ ghost use Rattle.rv_code.specs.declared.word.Word.TheVariants.{Half, Full};
 ghost use Rattle.rv_code.specs.Encoding.{Fits, encoding_of, word_of};
 ghost use Rattle.rv_code.specs.Decoding.{IsWordOf, IsWordOfNone, bits_from_slice, fields_at, first_of, gathered, is_code_for, most_from_slice, number_at, reach, value_of};
 
-use crate::common_shapes::common_fields;
 use crate::encoding::cut;
 use crate::groups::{full_rows, half_rows};
 use crate::instruction::{Fields, Ins};
-use rv_ops::{
-    FieldSlice, Op, Reg, RegisterClass, SignExtension, TableRow, classes, shape, sign, slices,
-};
+use rv_ops::{FieldSlice, Op, Reg, RegisterClass, SignExtension, TableRow, classes, sign, slices};
 
 /// What the slices of a word give each field.
 #[derive(Clone, Copy)]
@@ -99,8 +96,7 @@ fn register(class: RegisterClass, number: u32) -> Reg
 }
 
 /// The value for which a number in the word stands.
-#[inline(always)]
-pub fn signed(sign: SignExtension, number: u32) -> i32
+fn signed(sign: SignExtension, number: u32) -> i32
     requires number { number < 2 ^ 30 }
     requires low { negsuc 1073741823 ≤ℤ sign.modulus }
     requires high { sign.modulus ≤ℤ pos 1073741824 }
@@ -114,8 +110,9 @@ pub fn signed(sign: SignExtension, number: u32) -> i32
     }
 }
 
-/// The fields that a word has by the layout of an operation, gathered slice by slice.
-fn gathered_fields(op: Op, word: u32) -> Fields
+/// The fields that a word has by the layout of an operation.
+#[inline(always)]
+fn fields_of(op: Op, word: u32) -> Fields
     ensures { result ≡ fields_at (shape_of op) word }
 {
     let fields = gather(word, slices(op));
@@ -125,17 +122,6 @@ fn gathered_fields(op: Op, word: u32) -> Fields
         rs1: register(registers.rs1, fields.rs1),
         rs2: register(registers.rs2, fields.rs2),
         value: signed(sign(op), fields.value),
-    }
-}
-
-/// The fields that a word has by the layout of an operation. It stays a call, so that no loop over rows computes the fields of every shape.
-#[inline(never)]
-fn fields_of(op: Op, word: u32) -> Fields
-    ensures { result ≡ fields_at (shape_of op) word }
-{
-    match common_fields(shape(op), word) {
-        Some(fields) => fields,
-        None => gathered_fields(op, word),
     }
 }
 

@@ -1,7 +1,6 @@
 //! RISC-V instructions and their encodings.
 #![tactic(auto)]
 
-mod common_shapes;
 mod decoding;
 mod encoding;
 mod fitting;

@@ -8,7 +8,7 @@ use Rattle.rv_ops.specs.Table.{classes_of, sign_of, shape_of, slices_of}
 use Rattle.rv_code.specs.Decoding.{fields_at, first_of, gathered, reach, value_of}
 use Rattle.rv_code.proofs.Reach.{field_reach, rd_reach, rs1_reach, rs2_reach, value_reach}
 use Rattle.rv_code.proofs.Shapes.{fields_same}
-use Rattle.rv_code.proofs.decoding.gathered_fields.Goals as goal
+use Rattle.rv_code.proofs.decoding.fields_of.Goals as goal
 
 pub gather-fields-requires-clause-reach : goal.gather-fields-requires-clause-reach
 gather-fields-requires-clause-reach c =
