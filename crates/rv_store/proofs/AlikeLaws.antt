@@ -46,7 +46,7 @@ place_among-same line index (l ∷ ls) (m ∷ ms) name e =
     let more = place_among-same line (index + 1) ls ms name rest in
     λ i. if defines_symbol (first i) name then ByLabel line index else more i
 
-pub among_local-same : (number : ℕ) (ls ms : List Label) → label_names ms ≡ label_names ls → among_local number ms ≡ among_local number ls
+among_local-same : (number : ℕ) (ls ms : List Label) → label_names ms ≡ label_names ls → among_local number ms ≡ among_local number ls
 among_local-same number [] [] e = refl
 among_local-same number [] (m ∷ ms) e = absurd (cc)
 among_local-same number (l ∷ ls) [] e = absurd (cc)

@@ -44,8 +44,6 @@ pub mod LocalLines
 pub mod LongerPrograms
 pub mod LongerTexts
 pub mod MovedDefinitions
-pub mod MovedLines
-pub mod MovedLocals
 pub mod NameRows
 pub mod NameSets
 pub mod OnlySymbols

@@ -1,9 +1,11 @@
 -- Where names are defined after an edit that changes no definition.
-use Rattle.std.proofs.Common.{◌≡◌, ℕ, suc, ◌+◌, ◌-◌, ◌^◌, ◌<◌, ◌≤◌, min, Bool, true, false, not, List, [], ◌∷◌, ◌++◌, length, map, get_or, set, take, drop, bytes_eq, Option, Some, None, if◌then◌else◌, arith, ap, sym, ◌∙◌, refl}
+use Rattle.std.proofs.Common.{◌≡◌, ℕ, suc, ◌+◌, ◌-◌, ◌^◌, ◌<◌, ◌≤◌, nat_lt, min, Bool, true, false, not, List, [], ◌∷◌, ◌++◌, length, map, get_or, set, take, drop, bytes_eq, Option, Some, None, if◌then◌else◌, arith, ap, sym, ◌∙◌, refl}
 use Rattle.std.specs.Prelude.{insert, remove}
 use Rattle.std.proofs.Math.ListN as listn
 use Rattle.std.proofs.Math.Path.{fun_ext}
 use Rattle.std.proofs.lemmas.Bool.{and_parts, not-true, not-false}
+use Rattle.std.proofs.lemmas.Bool.Decides.{nat_tests}
+use Rattle.std.proofs.lemmas.Grind.{common_steps}
 use Rattle.std.proofs.lemmas.Slice.Eq.{bytes_eq-Decides}
 use Rattle.std.proofs.lemmas.List.{map-append, length-map, length-take-le, take-append-drop, drop_more, take-set, drop-set, length-append}
 use Rattle.rv_stmt.specs.declared.label.Label.{Label}
@@ -16,8 +18,7 @@ use Rattle.rv_list.specs.declared.view.DefinitionPlace.TheVariants.{Nowhere, Lab
 use Rattle.rv_store.specs.declared.limits.TheConstants.{MAX_LINES}
 use Rattle.rv_store.specs.Alike.{same_labels}
 use Rattle.rv_store.specs.Definitions.{defines_symbol, place_among_labels, place_in_body, or_place, place_in_statement, first_place, definition_of}
-use Rattle.rv_store.specs.MovedDefinitions.{may_define, same_equ, same_definitions, edits_definitions, moved_place}
-use Rattle.rv_store.specs.MovedLines.{line_after_edit}
+use Rattle.rv_store.specs.MovedDefinitions.{may_define, same_equ, same_definitions, edits_definitions, line_after_edit, moved_place}
 use Rattle.rv_store.specs.Program.{Program, program_of}
 use Rattle.rv_store.specs.Rows.{number_of, entry_at, in_row, AreDefinitions}
 use Rattle.rv_store.specs.Text.{Edit, Insert, Delete, Replace, refusal_of, lines_after}
@@ -26,7 +27,6 @@ use Rattle.rv_store.proofs.AlikeLaws.{place_among-same}
 use Rattle.rv_store.proofs.AlikeLines.{same_labels-true}
 use Rattle.rv_store.proofs.DefinitionRows.{or_place-assoc, nowhere, nothing-defined}
 use Rattle.rv_store.proofs.EarlierLines.{insert_within, delete_within, replace_within}
-use Rattle.rv_store.proofs.MovedLines.{down, up, stay}
 
 -- Places that move
 
@@ -122,6 +122,16 @@ same-place line s other name same =
     ∙ ap (or_place (place_among_labels line 0 other.labels name)) (same-body line s.body other.body name both.1)
 
 -- Edits
+
+-- a line at the end of `count` lines moves as it should
+down : (place j : ℕ) → place ≤ j → j < 2 ^ 32 - 1 → (if nat_lt j place then j else min (j + 1) (2 ^ 32 - 1)) ≡ j + 1
+down place j least most = grind (arith, nat_tests, common_steps)
+
+up : (place j : ℕ) → place ≤ j → (if nat_lt j place then j else j - 1) ≡ j - 1
+up place j least = grind (arith, nat_tests, common_steps)
+
+stay : (place j k : ℕ) → j < place → (if nat_lt j place then j else k) ≡ j
+stay place j k below = grind (arith, nat_tests, common_steps)
 
 inserted : (lines : List (List ℕ)) (place : ℕ) (line name : List ℕ) → length lines ≤ MAX_LINES → 1 ≤ place → place ≤ length lines + 1 → may_define line ≡ false → definition_of (program_of (insert lines (place - 1) line)) name ≡ moved_place (line_after_edit (Insert place line)) (definition_of (program_of lines) name)
 inserted lines place line name few first last nothing =

@@ -31,8 +31,6 @@ pub mod LinesOfTexts
 pub mod LinesWithout
 pub mod Locals
 pub mod MovedDefinitions
-pub mod MovedLines
-pub mod MovedLocals
 pub mod NameSets
 pub mod PairedHighs
 pub mod Pairs

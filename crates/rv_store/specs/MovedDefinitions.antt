@@ -1,5 +1,5 @@
 -- Where names are defined after an edit that changes no definition: where they were, on the lines as they move.
-use Rattle.std.specs.Prelude.{ℕ, ◌-◌, ◌==◌, Bool, not, ◌&&◌, ◌||◌, List, [], length, get_or, bytes_eq}
+use Rattle.std.specs.Prelude.{ℕ, ◌+◌, ◌-◌, ◌^◌, ◌==◌, nat_lt, min, Bool, not, ◌&&◌, ◌||◌, List, length, get_or, bytes_eq, [], if◌then◌else◌}
 use Rattle.rv_stmt.specs.declared.statement.Body.{Body}
 use Rattle.rv_stmt.specs.declared.statement.Body.TheVariants.{Equ as EquBody}
 use Rattle.rv_stmt.specs.declared.statement.Stmt.{Stmt}
@@ -30,6 +30,12 @@ edits_definitions lines (Insert place line) = may_define line
 edits_definitions lines (Delete place) = may_define (get_or lines (place - 1) [])
 edits_definitions lines (Replace place line) =
     not (same_definitions (statement_of (get_or lines (place - 1) [])) (statement_of line))
+
+-- where a line stands after an edit that does not take it out; numbers of lines have 32 bits
+abbrev pub line_after_edit : Edit → (j : ℕ) → ℕ
+line_after_edit (Insert place line) j = if nat_lt j place then j else min (j + 1) (2 ^ 32 - 1)
+line_after_edit (Delete place) j = if nat_lt j place then j else j - 1
+line_after_edit (Replace place line) j = j
 
 -- a definition on a line that moves
 abbrev pub moved_place : (to : ℕ → ℕ) → DefinitionPlace → DefinitionPlace

@@ -35,8 +35,6 @@ mod line_values;
 mod lines;
 mod locals;
 mod moved_definitions;
-mod moved_lines;
-mod moved_locals;
 mod name_set;
 mod names;
 mod only_symbol;

@@ -4,7 +4,7 @@ ghost use Rattle.std.specs.Prelude.{◌≡◌, ◌≤◌, ◌<◌, ◌^◌, ℕ,
 ghost use Rattle.std.specs.List.{AllWithin};
 ghost use Rattle.std.specs.List.Sorted.{IsNonDecreasing};
 ghost use Rattle.rv_stmt.specs.Statement.{statement_of};
-ghost use Rattle.rv_store.specs.Locals.{AreRising, AreParted, line_among, local_line_in, with_line, with_label, has_local_labels, AreWithLabels};
+ghost use Rattle.rv_store.specs.Locals.{AreParted, line_among, local_line_in, with_line, with_label, has_local_labels, AreWithLabels};
 ghost use Rattle.rv_store.specs.Program.{program_of};
 ghost use Rattle.rv_store.specs.Rows.{AreLocals};
 
@@ -219,21 +219,6 @@ impl Locals {
             add_labels_of(alloc, &mut rows, line, i as u32 + 1)?;
         }
         Ok(Locals { rows })
-    }
-
-    /// Those of these lines, by their numbers, which rise.
-    pub fn of_rows(rows: Vec<Sequence<u32>>) -> Locals
-        requires { AreRising rows.items }
-        ensures { result ≡ rows.items }
-    {
-        Locals { rows }
-    }
-
-    /// Their lines, by their numbers.
-    pub fn rows(&self) -> &[Sequence<u32>]
-        ensures { result.now ≡ self.now }
-    {
-        self.rows.as_slice()
     }
 
     /// How many lines up to this one have the local label of a number.

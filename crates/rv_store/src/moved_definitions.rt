@@ -3,8 +3,7 @@
 
 ghost use Rattle.std.specs.Prelude.{◌≡◌, ◌≤◌, length, map, None, IfOk};
 ghost use Rattle.rv_store.specs.Edits.{edit_of};
-ghost use Rattle.rv_store.specs.MovedDefinitions.{same_equ, same_definitions, edits_definitions, moved_place};
-ghost use Rattle.rv_store.specs.MovedLines.{line_after_edit};
+ghost use Rattle.rv_store.specs.MovedDefinitions.{same_equ, same_definitions, edits_definitions, line_after_edit, moved_place};
 ghost use Rattle.rv_store.specs.Program.{program_of};
 ghost use Rattle.rv_store.specs.Rows.{Grows, AreDefinitions};
 ghost use Rattle.rv_store.specs.Text.{refusal_of, lines_after};
@@ -15,7 +14,6 @@ use crate::edit::LineEdit;
 use crate::limits::MAX_LINES;
 use crate::line::Line;
 use crate::lines::Lines;
-use crate::moved_lines::line_after;
 use crate::names::NameTable;
 use crate::uses::is_equ;
 use rv_list::DefinitionPlace;
@@ -55,6 +53,19 @@ fn edits_definitions(old: &Lines<'_>, lines: &[Line], edit: &LineEdit<'_>) -> bo
         LineEdit::Replace(k, _) => {
             !are_same_definitions(old.line(k).stmt(), lines[k as usize - 1].stmt())
         }
+    }
+}
+
+// Where a line stands after an edit that does not take it out.
+fn line_after(edit: &LineEdit<'_>, line: u32) -> u32
+    ensures { result ≡ line_after_edit (edit_of edit.now) line }
+{
+    match *edit {
+        LineEdit::Insert(k, _) if line < k => line,
+        LineEdit::Insert(_, _) => line.saturating_add(1),
+        LineEdit::Delete(k) if line < k => line,
+        LineEdit::Delete(_) => line.saturating_sub(1),
+        LineEdit::Replace(_, _) => line,
     }
 }
 

@@ -24,7 +24,6 @@ use crate::line::Line;
 use crate::lines::Lines;
 use crate::locals::Locals;
 use crate::moved_definitions::definitions_after;
-use crate::moved_locals::locals_after;
 use crate::names::NameTable;
 use crate::paired_highs::paired_highs;
 use crate::places::Placed;
@@ -39,8 +38,7 @@ use rv_text::Count;
 use std::alloc::{AllocError, Global};
 
 /// What the lines of a text say, in rows: one value for each name, by its number, or one for each line. All rows are made from
-/// the first line on, but those of the definitions and of the local labels move with the lines where an edit changes none of
-/// them.
+/// the first line on, but that of the definitions moves with the lines where an edit changes none of them.
 #[derive(Drop)]
 pub struct Survey {
     /// The lines.
@@ -120,7 +118,7 @@ impl Survey {
         let before = self.before(old, base, names, edit);
         let sized = shapes(alloc, &before, lines, names, &definitions, counter)?;
         let placed = Placed::of(alloc, base, &sized.shapes)?;
-        let locals = locals_after(alloc, &self.locals, old, lines, edit)?;
+        let locals = Locals::of(alloc, lines)?;
         Survey::by_rows(
             alloc,
             &before,

@@ -83,9 +83,6 @@ pub returns-in_err-locals-clause-work : goal.returns-in_err-locals-clause-work
 returns-in_err-locals-clause-work g c =
     counted-few c.args.before.now c.args.lines.now c.requires.before c.requires.longer _ _ c.constants_with.ensures.operands
 
-pub locals_after-requires-clause-edited : goal.locals_after-requires-clause-edited
-locals_after-requires-clause-edited g c = edited c.args.before.now c.args.lines.now c.requires.before c.requires.longer
-
 pub by_rows-requires-clause-edited : goal.by_rows-requires-clause-edited
 by_rows-requires-clause-edited g c = edited c.args.before.now c.args.lines.now c.requires.before c.requires.longer
 

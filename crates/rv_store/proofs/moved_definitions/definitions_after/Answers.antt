@@ -1,8 +1,7 @@
 use Rattle.std.proofs.Common.{◌≡◌, map, sym, ◌∙◌}
 use Rattle.std.proofs.lemmas.Result.{IfOk-weaker}
 use Rattle.rv_store.specs.Edits.{edit_of}
-use Rattle.rv_store.specs.MovedDefinitions.{moved_place}
-use Rattle.rv_store.specs.MovedLines.{line_after_edit}
+use Rattle.rv_store.specs.MovedDefinitions.{line_after_edit, moved_place}
 use Rattle.rv_store.specs.Program.{program_of}
 use Rattle.rv_store.specs.Rows.{AreDefinitions}
 use Rattle.rv_store.proofs.MovedDefinitions.{moved-definitions}

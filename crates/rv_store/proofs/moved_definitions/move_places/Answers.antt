@@ -3,8 +3,7 @@ use Rattle.std.proofs.lemmas.List.{get_or_default}
 use Rattle.std.proofs.lemmas.List.Edits.{map_over_more}
 use Rattle.rv_list.specs.declared.view.DefinitionPlace.TheVariants.{Nowhere}
 use Rattle.rv_store.specs.Edits.{edit_of}
-use Rattle.rv_store.specs.MovedDefinitions.{moved_place}
-use Rattle.rv_store.specs.MovedLines.{line_after_edit}
+use Rattle.rv_store.specs.MovedDefinitions.{line_after_edit, moved_place}
 use Rattle.rv_store.proofs.moved_definitions.move_places.Goals as goal
 
 pub loop-place-preserved : goal.loop-place-preserved

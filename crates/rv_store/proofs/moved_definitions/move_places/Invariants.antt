@@ -1,7 +1,6 @@
 use Rattle.std.proofs.Common.{◌≡◌, ◌++◌, map, take, drop}
 use Rattle.rv_store.specs.Edits.{edit_of}
-use Rattle.rv_store.specs.MovedDefinitions.{moved_place}
-use Rattle.rv_store.specs.MovedLines.{line_after_edit}
+use Rattle.rv_store.specs.MovedDefinitions.{line_after_edit, moved_place}
 use Rattle.rv_store.proofs.moved_definitions.move_places.Given as goal
 
 abbrev pub invariant-loop-place : goal.invariant-loop-place
