@@ -14,14 +14,14 @@ use rv_layout::{Layout, Measured, SECTIONS, bases, layouts_tell_places, section_
 use rv_list::LinePlace;
 use std::alloc::{AllocError, Global};
 
-// How many bytes, modulo 2^32 as in all layouts, have the layout of so many bytes and a line after them: none if the line is an
-// alignment or a switch.
+// How many bytes have the layout of so many bytes and a line after them: none if the line is an alignment or a switch, or
+// if the sum does not fit.
 fn bytes_with(bytes: u32, shape: &Measured) -> Option<u32>
     ensures joined { IfSome result (λ n. join (effect_of (Measured.Bytes bytes)) (effect_of shape.now) ≡ effect_of (Measured.Bytes n)) }
     ensures fits { IfSome result (λ n. n < 2 ^ 32) }
 {
     match shape {
-        Measured::Bytes(count) => Some(bytes.wrapping_add(*count)),
+        Measured::Bytes(count) => bytes.checked_add(*count),
         Measured::Nothing | Measured::Faulty(_) => Some(bytes),
         Measured::Align(_) | Measured::Switch(_) => None,
     }

@@ -68,7 +68,7 @@ impl SymbolRows<'_> {
         ensures { (name : List ℕ) → number_of self.now.text.names.now name ≡ number
             → result ≡ symbol_through self.now.text.base (program_in self.now.text) (length self.now.text.lines.now) name }
     {
-        let last = self.text.places.len() as u32;
+        let last = self.text.lines.len() as u32;
         let value = entry_at(self.equ_values, Err(ValueFault::LaterEqu), number);
         by_definition(self.text.places, last, self.definition_of(number), value)
     }

@@ -4,7 +4,6 @@ use Rattle.rv_store.specs.References.{by_definition}
 use Rattle.rv_store.specs.Rows.{entry_at}
 use Rattle.rv_store.specs.TextRows.{address_in}
 use Rattle.rv_store.proofs.LineNameLaws.{symbol_by-rows}
-use Rattle.rv_store.proofs.TextLines.{length_of_places}
 use Rattle.rv_store.proofs.symbol_rows.SymbolRows.value_of.Goals as goal
 
 pub returns : goal.returns
@@ -14,13 +13,7 @@ returns c =
     let last = length text.lines.now in
     λ name numbered.
     c.by_definition.ensures
-    ∙ ap (λ n. by_definition (address_in text.places.now) n c.definition_of.result c.entry_at-value.result) (length_of_places text.base text.lines.now text.places.now c.requires.rows.text.placed)
+    ∙ ap (λ n. by_definition (address_in text.places.now) n c.definition_of.result c.entry_at-value.result) c.len-last.ensures
     ∙ ap (λ place. by_definition (address_in text.places.now) last place c.entry_at-value.result) (c.definition_of.ensures name numbered)
     ∙ ap (by_definition (address_in text.places.now) last _) (c.entry_at-value.ensures ∙ ap (entry_at rows.equ_values.now (Err LaterEqu)) (sym numbered))
     ∙ symbol_by-rows text rows.equ_values.now last last name c.requires.rows.text c.requires.rows.equ_values (omega arith)
-
-pub overflow_cast-last : goal.overflow_cast-last
-overflow_cast-last c =
-    let text = c.args.self.now.text in
-    let count = length_of_places text.base text.lines.now text.places.now c.requires.rows.text.placed in
-    omega (arith, count, c.requires.few)
