@@ -81,29 +81,33 @@ pub fn any_name<T: NameTest>(body: &Body, names: &T) -> bool
     any_in_operands(body.operands(), names)
 }
 
-// The names of a line with the symbols in an expression added.
-fn with_names_in(expression: &Expr, names: UsedNames) -> UsedNames
-    ensures { result ≡ with_names names (names_in expression.now) }
+// Adds the symbols in an expression to the names of a line. The calls that end it take no stack, since they hand on what it was given:
+// only a left operand takes some.
+fn add_names_in(expression: &Expr, names: &mut UsedNames)
+    ensures { names.new ≡ with_names names.old (names_in expression.now) }
 {
     match &expression.node {
-        Node::Number(_) | Node::Local(_, _) | Node::Here => names,
-        Node::Symbol(name) => names.with(name.bytes()),
-        Node::Unary(_, operand) => with_names_in(operand, names),
-        Node::Binary(_, left, right) => with_names_in(right, with_names_in(left, names)),
+        Node::Number(_) | Node::Local(_, _) | Node::Here => {}
+        Node::Symbol(name) => *names = names.with(name.bytes()),
+        Node::Unary(_, operand) => add_names_in(operand, names),
+        Node::Binary(_, left, right) => {
+            add_names_in(left, names);
+            add_names_in(right, names);
+        }
     }
 }
 
-// The names of a line with the symbols in an operand added.
-fn with_names_in_value(value: &OperandValue, names: UsedNames) -> UsedNames
-    ensures { result ≡ with_names names (names_in (expression_of value.now)) }
+// Adds the symbols in an operand to the names of a line.
+fn add_names_in_value(value: &OperandValue, names: &mut UsedNames)
+    ensures { names.new ≡ with_names names.old (names_in (expression_of value.now)) }
 {
     match value {
         OperandValue::Plain(expression)
         | OperandValue::High(expression)
         | OperandValue::Low(expression)
-        | OperandValue::PcrelHigh(expression) => with_names_in(expression, names),
-        OperandValue::PcrelLow(LabelReference::Symbol(name)) => names.with(name.bytes()),
-        OperandValue::PcrelLow(_) => names,
+        | OperandValue::PcrelHigh(expression) => add_names_in(expression, names),
+        OperandValue::PcrelLow(LabelReference::Symbol(name)) => *names = names.with(name.bytes()),
+        OperandValue::PcrelLow(_) => {}
     }
 }
 
@@ -114,7 +118,7 @@ pub fn brief_names(body: &Body) -> UsedNames
     let mut operands = body.operands();
     let mut names = UsedNames::none();
     while let [operand, rest @ ..] = operands {
-        names = with_names_in_value(&operand.value, names);
+        add_names_in_value(&operand.value, &mut names);
         operands = rest;
     }
     names
