@@ -120,8 +120,8 @@ pub fn has_local_labels(mut labels: &[Label]) -> bool
     false
 }
 
-// How many of some rising lines are this one or earlier ones, by halves.
-fn count_by_halves(lines: &[u32], line: u32) -> usize
+// How many of some rising lines are this one or earlier ones.
+fn count_up_to(lines: &[u32], line: u32) -> usize
     requires { IsNonDecreasing lines.now }
     ensures bound { result ≤ length lines.now }
     ensures parted { AreParted line lines.now result }
@@ -169,7 +169,7 @@ fn are_above(lines: &[u32], line: u32, count: usize) -> bool
 
 // How many of some rising lines are this one or earlier ones. `near` is a guess, by which few lines have to be looked at if it is
 // nearly right.
-fn count_up_to(lines: &[u32], line: u32, near: usize) -> usize
+fn count_near(lines: &[u32], line: u32, near: usize) -> usize
     requires { IsNonDecreasing lines.now }
     ensures bound { result ≤ length lines.now }
     ensures parted { AreParted line lines.now result }
@@ -181,17 +181,17 @@ fn count_up_to(lines: &[u32], line: u32, near: usize) -> usize
     let high = near.saturating_add(REACH).min(lines.len());
     let low = near.saturating_sub(REACH);
     if are_up_to(lines, line, low) && are_above(lines, line, high) {
-        return low + count_by_halves(&lines[low..high], line);
+        return low + count_up_to(&lines[low..high], line);
     }
-    count_by_halves(lines, line)
+    count_up_to(lines, line)
 }
 
-// The line among those of a local label. `near` is as for `count_up_to`.
-fn line_among(lines: &[u32], line: u32, direction: Direction, near: usize) -> Option<u32>
-    requires { IsNonDecreasing lines.now }
+// The line among those of a local label, of which so many are this one or earlier ones.
+fn line_among(lines: &[u32], line: u32, direction: Direction, count: usize) -> Option<u32>
+    requires bound { count ≤ length lines.now }
+    requires parted { AreParted line lines.now count }
     ensures { result ≡ line_among lines.now line direction }
 {
-    let count = count_up_to(lines, line, near);
     let (up_to, above) = lines.split_at(count);
     match direction {
         Direction::Back => up_to.last().copied(),
@@ -221,19 +221,18 @@ impl Locals {
         Ok(Locals { rows })
     }
 
-    /// How many lines up to this one have the local label of a number.
+    /// How many lines up to this one have the local label of a number: looked for first where it would be if they stood evenly.
     pub fn count(&self, line: u32, number: u16) -> usize {
         match self.rows.get(usize::from(number)) {
             Some(lines) => {
                 let lines = lines.as_slice();
-                count_up_to(lines, line, count_if_even(lines, line))
+                count_near(lines, line, count_if_even(lines, line))
             }
             None => 0,
         }
     }
 
-    /// The line of a local label as a line names it: `b` is the last one up to this line, `f` the first one after it. `near` is a
-    /// guess of how many lines up to this one have the label; the answer does not depend on it.
+    /// The same as `line`. `near` is a guess of how many lines up to this one have the label; the answer does not depend on it.
     pub fn line_near(
         &self,
         line: u32,
@@ -244,13 +243,14 @@ impl Locals {
         ensures { result ≡ local_line_in self.now line number direction }
     {
         let lines = self.rows.get(usize::from(number))?.as_slice();
-        line_among(lines, line, direction, near)
+        line_among(lines, line, direction, count_near(lines, line, near))
     }
 
     /// The line of a local label as a line names it: `b` is the last one up to this line, `f` the first one after it.
     pub fn line(&self, line: u32, number: u16, direction: Direction) -> Option<u32>
         ensures { result ≡ local_line_in self.now line number direction }
     {
-        self.line_near(line, number, direction, self.count(line, number))
+        let lines = self.rows.get(usize::from(number))?.as_slice();
+        line_among(lines, line, direction, count_up_to(lines, line))
     }
 }

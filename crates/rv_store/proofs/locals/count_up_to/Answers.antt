@@ -1,8 +1,8 @@
-use Rattle.std.proofs.Common.{arith}
-use Rattle.rv_store.proofs.LocalLines.{parted-between}
+use Rattle.std.proofs.Common.{rules, of_calls, nat_le}
+use Rattle.std.proofs.lemmas.List.Sorted.{IsPartitionPoint-from_clause, IsPartitionedBy-leb}
 use Rattle.rv_store.proofs.locals.count_up_to.Goals as goal
 
-pub returns-then-are_above-2-clause-parted : goal.returns-then-are_above-2-clause-parted
-returns-then-are_above-2-clause-parted c =
-    parted-between c.args.line c.saturating_sub-low.result c.min-high.result c.count_by_halves.result c.args.lines.now (omega (arith, c.saturating_sub-low.ensures, c.min-high.ensures)) (omega (arith, c.min-high.ensures))
-    (c.are_up_to-2.ensures c.if-are_up_to-2.true) (c.are_above-then-are_up_to-2.ensures c.if-are_above-2.true) (omega (arith, c.count_by_halves.ensures.bound)) c.count_by_halves.ensures.parted
+pub returns-clause-parted : goal.returns-clause-parted
+returns-clause-parted c =
+    let parted = IsPartitionedBy-leb (λ l. l) _ c.args.line c.requires in
+    IsPartitionPoint-from_clause (λ l. nat_le l c.args.line) _ _ c.partition_point.ensures.partitioned parted (λ a r q k. search (rules, of_calls))
