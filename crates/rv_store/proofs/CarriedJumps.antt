@@ -33,12 +33,9 @@ use Rattle.rv_store.specs.References.{reference_of}
 use Rattle.rv_store.specs.Text.{Edit}
 use Rattle.rv_store.specs.TextRows.{program_in, address_in_text}
 use Rattle.rv_store.specs.Uses.{names_in, names_used, expression_of, has_local_label, uses_local_label, uses_paired_high, is_equ}
-use Rattle.rv_store.proofs.DueLines.{reencoded-by_distance, jump-open, due-jump}
+use Rattle.rv_store.proofs.DueLines.{none≢some, reencoded-by_distance, jump-open, due-jump}
 use Rattle.rv_store.proofs.LinePairLaws.{body-before}
 use Rattle.rv_store.proofs.Sameness.{same_entry-Decides}
-
-none≢some : {A : Type 0} {x : A} {P : Type 0} → None ≡ Some x → P
-none≢some h = absurd (let no : None ≡ Some _ = h in cc)
 
 -- A jump to no local label goes to a symbol, and uses no other
 

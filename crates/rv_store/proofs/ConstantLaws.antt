@@ -11,7 +11,7 @@ use Rattle.rv_store.proofs.ConstantRows.{constant-kept}
 use Rattle.rv_store.proofs.DefinitionLaws.{IsWithin, definition-within}
 
 -- a name that no line up to the k-th defines by an `.equ` is no constant there
-constant-none : (program : Program) (name : List ℕ) (k : ℕ) → ((i : ℕ) → i < k → is_equ_on (suc i) (definition_of program name) ≡ false) → constant_through program k name ≡ None
+pub constant-none : (program : Program) (name : List ℕ) (k : ℕ) → ((i : ℕ) → i < k → is_equ_on (suc i) (definition_of program name) ≡ false) → constant_through program k name ≡ None
 constant-none program name zero others = refl
 constant-none program name (suc k) others =
     constant-kept program k name (others k (omega arith)) ∙ constant-none program name k (λ i l. others i (omega (arith, l)))

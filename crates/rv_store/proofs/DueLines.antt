@@ -71,10 +71,10 @@ reencoded-by_symbol before after line stood d is_after stands here there =
 
 -- Jumps
 
-none≢some : {A : Type 0} {x : A} {P : Type 0} → None ≡ Some x → P
+pub none≢some : {A : Type 0} {x : A} {P : Type 0} → None ≡ Some x → P
 none≢some h = absurd (let no : None ≡ Some _ = h in cc)
 
-label-is : (e target : Tree.Tree) → label_in e ≡ Some target → e ≡ target
+pub label-is : (e target : Tree.Tree) → label_in e ≡ Some target → e ≡ target
 label-is (Tree.Symbol name) target h = let same : Some (Tree.Symbol name) ≡ Some target = h in cc
 label-is (Tree.Local number direction) target h = let same : Some (Tree.Local number direction) ≡ Some target = h in cc
 label-is e target h = none≢some h

@@ -19,6 +19,7 @@ use Rattle.rv_store.specs.Program.{Program, program_of}
 use Rattle.rv_store.specs.References.{equ_value}
 use Rattle.rv_store.specs.Rows.{number_of, entry_at, in_row, Grows, AreDefinitions, AreConstants, AreEquValues}
 use Rattle.rv_store.proofs.AppendLaws.{no_equ_after, definition-same}
+use Rattle.rv_store.proofs.ConstantLaws.{constant-none}
 use Rattle.rv_store.proofs.ConstantRows.{constant-kept}
 use Rattle.rv_store.proofs.DefinitionLaws.{definition-within}
 use Rattle.rv_store.proofs.DefinitionRows.{defined-first}
@@ -43,8 +44,7 @@ symbols-grown base program k old new t grows are =
 -- A symbol that a text does not define
 
 pub no-constant : (p : Program) (k : ℕ) (name : List ℕ) → definition_of p name ≡ Nowhere → constant_through p k name ≡ None
-no-constant p zero name none = refl
-no-constant p (suc k) name none = constant-kept p k name (ap (is_equ_on (suc k)) none) ∙ no-constant p k name none
+no-constant p k name none = constant-none p name k (λ i l. ap (is_equ_on (suc i)) none)
 
 pub no-equ_value : (base : ℕ) (p : Program) (k : ℕ) (name : List ℕ) → definition_of p name ≡ Nowhere → equ_value base p k name ≡ Err LaterEqu
 no-equ_value base p zero name none = refl

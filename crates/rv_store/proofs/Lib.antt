@@ -9,6 +9,7 @@ pub mod ByteRuns
 pub mod CarriedJumps
 pub mod ChangeLaws
 pub mod Columns
+pub mod ComparedJumps
 pub mod ConstantLaws
 pub mod ConstantRows
 pub mod ConstantValues

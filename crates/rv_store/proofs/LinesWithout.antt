@@ -1,4 +1,4 @@
--- Lines that have nothing of what is asked for, and what a loop that goes past them leaves as it is.
+-- Lines that a loop goes past.
 use Rattle.std.proofs.Common.{◌≡◌, ℕ, suc, ◌+◌, ◌<◌, ◌≤◌, ◌⊎◌, inl, inr, Bool, false, List, length, get_or, arith, ap, ◌∙◌}
 use Rattle.std.proofs.lemmas.Bool.{cases_lt}
 use Rattle.rv_stmt.specs.declared.statement.Body.{Body}

@@ -21,7 +21,7 @@ use Rattle.rv_store.specs.Program.{Program, program_of, body_at, for_lines, line
 use Rattle.rv_store.specs.Renewals.{codes_through}
 use Rattle.rv_store.specs.Rows.{AreConstants, AreShapes}
 use Rattle.rv_store.specs.Text.{Edit, Insert, lines_after}
-use Rattle.rv_store.specs.Work.{equ_operands, constant_operands, high_operands, survey_operands, value_operands, operands_through, work}
+use Rattle.rv_store.specs.Work.{equ_operands, constant_operands, high_operands, survey_operands, compared_operands, value_operands, operands_through, work}
 use Rattle.rv_store.proofs.LinePairLaws.{invalidated-new}
 use Rattle.rv_store.proofs.LongerPrograms.{for_lines-same, more, body-last, definitions-more, constants-same, shape-same, shape-last}
 use Rattle.rv_store.proofs.Programs.{length-for_lines, length-program}
@@ -123,8 +123,8 @@ module _ (before : Before) (lines : List (List ℕ)) (is : IsBefore before) (lon
 pub counted-at_end : (base : ℕ) (first : List (List ℕ)) (edit : Edit) (before : Before) (lines : List (List ℕ)) (old new : Counts) → base_before before ≡ base → lines_before before ≡ first → edit_on before ≡ edit → lines ≡ lines_after first edit → IsAtEnd first edit → AreCountedLonger before lines old new → AreCountedAtEnd base first edit old new
 counted-at_end base first edit before lines old new same_base same_lines same_edit made end counted =
     let most = work-within base (base_before before) first (lines_before before) lines edit same_base same_lines made in
-    let values : new.valued + size_operands (body_at (program_of lines) (length lines)) ≤ old.valued + work survey_operands (base_before before) (lines_before before) edit (length lines) + work value_operands (base_before before) (lines_before before) edit (length lines) =
-    subst (λ e. new.valued + size_operands (body_at (program_of lines) (length lines)) ≤ old.valued + work survey_operands (base_before before) (lines_before before) e (length lines) + work value_operands (base_before before) (lines_before before) e (length lines)) same_edit counted.valued_most in
+    let values : new.valued + size_operands (body_at (program_of lines) (length lines)) ≤ old.valued + work survey_operands (base_before before) (lines_before before) edit (length lines) + work compared_operands (base_before before) (lines_before before) edit (length lines) + work value_operands (base_before before) (lines_before before) edit (length lines) =
+    subst (λ e. new.valued + size_operands (body_at (program_of lines) (length lines)) ≤ old.valued + work survey_operands (base_before before) (lines_before before) e (length lines) + work compared_operands (base_before before) (lines_before before) e (length lines) + work value_operands (base_before before) (lines_before before) e (length lines)) same_edit counted.valued_most in
     let whole : length lines ≡ length first + 1 =
     ap length (made ∙ ap (lines_after first) end.is ∙ lines-longer first end.line (length first + 1) refl) ∙ length-append first (end.line ∷ []) in
     let body : size_operands (body_at (program_of lines) (length lines)) ≡ size_operands (body_at (program_after first edit) (length first + 1)) =

@@ -11,7 +11,7 @@ use Rattle.rv_store.specs.Briefs.{brief_of}
 use Rattle.rv_store.specs.Changes.{differs_in_name, differs_in_place, is_invalidated}
 use Rattle.rv_store.specs.Differing.{HasDiffering}
 use Rattle.rv_store.specs.Edits.{line_before_edit}
-use Rattle.rv_store.specs.NameSets.{Marks, brief_of_names, has_bucket, may_have, IsApart}
+use Rattle.rv_store.specs.NameSets.{Marks, brief_of_names, has_bucket, may_have, IsOutside}
 use Rattle.rv_store.specs.Program.{Program, statement_at, body_at}
 use Rattle.rv_store.specs.TextRows.{program_in}
 use Rattle.rv_store.specs.Uses.{names_used, uses_symbols, uses_address, uses_local_label, uses_paired_high, is_equ}
@@ -29,7 +29,7 @@ no-names (n ∷ ns) none = absurd (true≢false none)
 
 module _ (before : Before) (after : TextRows) (line : ℕ) (is : IsBefore before) (is_after : IsAfter before after) (first : 1 ≤ line) (last : line ≤ length after.lines.now) (set : Marks) (has : HasDiffering (base_before before) (lines_before before) (edit_on before) set) (brief : Brief) (of_line : brief ≡ brief_of (statement_at (program_in after) line)) where
   -- a line that stayed, and uses no symbol that differs, nor its own address where it moved, nor what is not compared
-  pub valid-by_brief : (line_before_edit (edit_on before) line ≡ None → ⊥) → brief.uncompared ≡ false → IsApart brief.names set → ((stood : ℕ) → line_before_edit (edit_on before) line ≡ Some stood → (brief.address && differs_in_place (base_before before) (program_in before.symbols.text) (program_in after) line stood) ≡ false) → is_invalidated (base_before before) (lines_before before) (edit_on before) line ≡ false
+  pub valid-by_brief : (line_before_edit (edit_on before) line ≡ None → ⊥) → brief.uncompared ≡ false → IsOutside brief.names set → ((stood : ℕ) → line_before_edit (edit_on before) line ≡ Some stood → (brief.address && differs_in_place (base_before before) (program_in before.symbols.text) (program_in after) line stood) ≡ false) → is_invalidated (base_before before) (lines_before before) (edit_on before) line ≡ false
   valid-by_brief stays compared apart place = at (line_before_edit (edit_on before) line) refl
     where
       old : Program
@@ -47,7 +47,7 @@ module _ (before : Before) (after : TextRows) (line : ℕ) (is : IsBefore before
       no_equ : is_equ body ≡ false
       no_equ = (or_parts (uses_local_label body || uses_paired_high body) (is_equ body) compared_body).1
 
-      apart_body : IsApart (brief_of_names (names_used body)) set
+      apart_body : IsOutside (brief_of_names (names_used body)) set
       apart_body bucket has = sym (ap (λ b. may_have b.names bucket) of_line) ∙ apart bucket has
 
       at : (stood : Option ℕ) → line_before_edit (edit_on before) line ≡ stood → is_invalidated (base_before before) (lines_before before) (edit_on before) line ≡ false

@@ -23,6 +23,7 @@ use Rattle.rv_store.specs.declared.limits.TheConstants.{MAX_LINES}
 use Rattle.rv_store.specs.declared.survey.Survey.{Survey}
 use Rattle.rv_store.specs.Before.{base_before, lines_before, edit_on}
 use Rattle.rv_store.specs.Changes.{program_after, most_values, most_codes}
+use Rattle.rv_store.specs.Compared.{compared_through}
 use Rattle.rv_store.specs.Constants.{constant_through}
 use Rattle.rv_store.specs.Definitions.{defines_symbol, definition_of}
 use Rattle.rv_store.specs.Layout.{shapes_of, place_at}
@@ -184,9 +185,9 @@ pub record IsUnsettled (base : ℕ) (names : List (List ℕ)) (line : List ℕ) 
 pub record AreCountedLonger (before : Before) (lines : List (List ℕ)) (old new : Counts) : Type 0 where
   pub parsed : new.parsed ≡ old.parsed
   pub valued_least : old.valued ≤ new.valued
-  pub valued_few : new.valued ≤ old.valued + 1003 * length lines
+  pub valued_few : new.valued ≤ old.valued + 1004 * length lines
   pub valued_most : new.valued + size_operands (body_at (program_of lines) (length lines))
-      ≤ old.valued + work survey_operands (base_before before) (lines_before before) (edit_on before) (length lines) + values_through before (length lines)
+      ≤ old.valued + work survey_operands (base_before before) (lines_before before) (edit_on before) (length lines) + compared_through before (length lines) + values_through before (length lines)
   pub encoded_least : old.encoded ≤ new.encoded
   pub encoded_few : new.encoded ≤ old.encoded + length lines
   pub encoded_most : new.encoded ≤ old.encoded + codes_through before (length lines)
@@ -195,7 +196,7 @@ pub record AreCountedLonger (before : Before) (lines : List (List ℕ)) (old new
 pub record AreCountedAtEnd (base : ℕ) (lines : List (List ℕ)) (edit : Edit) (old new : Counts) : Type 0 where
   pub parsed : new.parsed ≡ old.parsed
   pub valued_least : old.valued ≤ new.valued
-  pub valued_few : new.valued ≤ old.valued + 1003 * (length lines + 1)
+  pub valued_few : new.valued ≤ old.valued + 1004 * (length lines + 1)
   pub valued_most : new.valued + size_operands (body_at (program_after lines edit) (length lines + 1)) ≤ old.valued + most_values base lines edit
   pub encoded_least : old.encoded ≤ new.encoded
   pub encoded_few : new.encoded ≤ old.encoded + (length lines + 1)

@@ -1,11 +1,11 @@
 -- Where the sections end after some lines, line by line. (docs/LANGUAGE.md, Layout)
-use Rattle.std.specs.Prelude.{ℕ, ◌+◌, List, map, set, slice_index}
+use Rattle.std.specs.Prelude.{◌≡◌, ℕ, ◌+◌, ◌<◌, List, [], ◌∷◌, ◌++◌, length, map, set, slice_index}
 use Rattle.std.specs.List.{range_with_len}
 use Rattle.rv_stmt.specs.declared.section.Sect.TheVariants.{Text}
 use Rattle.rv_layout.specs.declared.effect.Effect.{Effect}
 use Rattle.rv_layout.specs.declared.measured.Measured.{Measured}
-use Rattle.rv_layout.specs.Effects.{section_reached, offset_reached}
-use Rattle.rv_layout.specs.Places.{section_after, section_through, size_at, section_of, line_size_of, section_end_of, address_of}
+use Rattle.rv_layout.specs.Effects.{layout_of, section_reached, offset_reached}
+use Rattle.rv_layout.specs.Places.{section_after, section_through, size_at, section_of, line_size_of, section_end_of, address_of, AreLimited}
 use Rattle.rv_layout.specs.Sections.{sections, section_number}
 use Rattle.rv_store.specs.declared.ends.Ends.{Ends}
 use Rattle.rv_store.specs.declared.places.Reached.{Reached}
@@ -49,3 +49,10 @@ next_place bases ends m = record {
 -- the place of line `i`
 abbrev pub place_by_shapes : (base : ℕ) → List Measured → (i : ℕ) → LinePlace
 place_by_shapes base ms i = record { section = section_of ms i; address = address_of base ms i; size = line_size_of ms i }
+
+-- a line of this shape stands behind lines of these shapes, which have the one layout, and with it the other one
+pub record IsBehind (m : Measured) (before total : Effect) (ms : List Measured) : Type 0 where
+  pub few : length ms < 16384
+  pub limited : AreLimited (ms ++ m ∷ [])
+  pub first : before ≡ layout_of ms
+  pub all : total ≡ layout_of (ms ++ m ∷ [])

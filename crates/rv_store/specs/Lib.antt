@@ -5,6 +5,7 @@ pub mod Before
 pub mod Briefs
 pub mod Changes
 pub mod Codes
+pub mod Compared
 pub mod Column
 pub mod ConstantPairs
 pub mod Constants

@@ -124,8 +124,8 @@ may_have (Few first second) bucket = is_bucket first bucket || is_bucket second 
 may_have (Many groups) bucket = has_group groups bucket
 
 -- none of them is in a set
-abbrev pub IsApart : UsedNames → Marks → Type 0
-IsApart used set = (bucket : ℕ) → has_bucket set bucket ≡ true → may_have used bucket ≡ false
+abbrev pub IsOutside : UsedNames → Marks → Type 0
+IsOutside used set = (bucket : ℕ) → has_bucket set bucket ≡ true → may_have used bucket ≡ false
 
 -- it is one name, which moved as far as the lines behind the edit, if it gives an address
 abbrev pub IsMoved : UsedNames → Marks → Type 0

@@ -10,6 +10,7 @@ use Rattle.rv_store.specs.declared.line_sum.LineSum.{LineSum}
 use Rattle.rv_store.specs.declared.value_rows.ValueRows.{ValueRows}
 use Rattle.rv_store.specs.Before.{IsBefore, IsAfter, base_before, lines_before, edit_on}
 use Rattle.rv_store.specs.Changes.{is_due, is_reencoded, is_changed}
+use Rattle.rv_store.specs.Compared.{compared_through}
 use Rattle.rv_store.specs.Former.{IsFormer, AreFormer}
 use Rattle.rv_store.specs.Items.{IsItem}
 use Rattle.rv_store.specs.LineSums.{IsLineSum, no_line_sum, both_line_sums, line_sum_of, line_sum_laws}
@@ -35,6 +36,17 @@ pub record AreCounted (before : Before) (k n : ℕ) (old new : Counts) : Type 0 
   pub encoded_least : old.encoded ≤ new.encoded
   pub encoded_most : new.encoded + codes_through before k ≤ old.encoded + codes_through before n
   pub encoded_few : new.encoded + k ≤ old.encoded + n
+
+-- while the first n lines are looked at and those that are due are made anew, no more is counted than these may take, no line is read,
+-- and of each line at most 1,001 values and one code are computed
+pub record AreCountedRenewed (before : Before) (n : ℕ) (old new : Counts) : Type 0 where
+  pub parsed : new.parsed ≡ old.parsed
+  pub valued_least : old.valued ≤ new.valued
+  pub valued_most : new.valued ≤ old.valued + compared_through before n + values_through before n
+  pub valued_few : new.valued ≤ old.valued + 1001 * n
+  pub encoded_least : old.encoded ≤ new.encoded
+  pub encoded_most : new.encoded ≤ old.encoded + codes_through before n
+  pub encoded_few : new.encoded ≤ old.encoded + n
 
 -- of the first n lines those that have another code
 abbrev pub changed_through : Before → (n : ℕ) → List ℕ

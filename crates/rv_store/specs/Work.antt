@@ -1,12 +1,13 @@
 -- How much is computed on the lines that an edit invalidates.
 use Rattle.std.specs.Prelude.{ℕ, zero, suc, ◌+◌, List, length, Option, Some, None}
 use Rattle.std.specs.List.{sum_by}
-use Rattle.rv_expr.specs.Tree.{Tree}
+use Rattle.rv_expr.specs.Tree.{Tree, Local}
 use Rattle.rv_stmt.specs.declared.statement.Body.{Body}
 use Rattle.rv_stmt.specs.declared.statement.Body.TheVariants.{Equ}
 use Rattle.rv_stmt.specs.Statement.{operands_of}
 use Rattle.rv_layout.specs.Shapes.{size_operands}
 use Rattle.rv_store.specs.Changes.{program_after, is_invalidated}
+use Rattle.rv_store.specs.Jumps.{target_of}
 use Rattle.rv_store.specs.Pairs.{pcrel_high_of}
 use Rattle.rv_store.specs.Program.{Program, body_at, lines_that}
 use Rattle.rv_store.specs.Text.{Edit}
@@ -29,6 +30,14 @@ one_if_some (Some e) = 1
 -- the high half that `%pcrel_lo` takes
 abbrev pub high_operands : Body → ℕ
 high_operands body = one_if_some (pcrel_high_of body)
+
+-- the distance by which a jump to a local label is compared, before and after an edit
+abbrev pub one_if_local : Option Tree → ℕ
+one_if_local (Some (Local number direction)) = 1
+one_if_local target = 0
+
+abbrev pub compared_operands : Body → ℕ
+compared_operands body = one_if_local (target_of body)
 
 -- the values from which the code of a line is made; an `.equ` has its value already
 abbrev pub value_operands : Body → ℕ

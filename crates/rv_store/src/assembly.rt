@@ -27,14 +27,13 @@ use rv_text::Count;
 use rv_tree::SumTree;
 use std::alloc::Global;
 
-// It is as for `assembled`, with the lines of the text before, `old`, and of the text after, `lines`.
+// It is as for `assembled`, with the lines of the text before, `old`.
 fn assembled_by_lines<C: Count>(
     alloc: Global,
     base: u32,
     names: &mut NameTable,
     survey: &Survey,
     old: &Lines<'_>,
-    lines: &Lines<'_>,
     edit: &LineEdit<'_>,
     items: SumTree<Item>,
     counter: &mut C,
@@ -43,7 +42,6 @@ fn assembled_by_lines<C: Count>(
     requires survey { IsSurvey base (program_of old.now) names.old survey.now }
     requires old_few { length old.now ≤ MAX_LINES }
     requires allowed { refusal_of old.now (edit_of edit.now) ≡ None }
-    requires lines { lines.now ≡ survey.now.lines.items }
     requires edited { survey.now.lines.items ≡ lines_after old.now (edit_of edit.now) }
     requires few { length survey.now.lines.items ≤ MAX_LINES }
     requires count { length items.items ≡ length survey.now.lines.items }
@@ -67,7 +65,7 @@ fn assembled_by_lines<C: Count>(
         old,
         edit,
         &after,
-        lines,
+        &survey.lines,
         items,
         &mut changed,
         counter,
@@ -114,8 +112,5 @@ pub fn assembled<C: Count>(
     ensures counted { AreCountedAfter base (lines_of former.now.items) (edit_of edit.now) (counts_of C.parsed_count C.valued_count C.encoded_count counter.old) (counts_of C.parsed_count C.valued_count C.encoded_count counter.new) }
 {
     let old = Lines::in_items(former);
-    let lines = Lines::in_column(&survey.lines);
-    assembled_by_lines(
-        alloc, base, names, survey, &old, &lines, edit, items, counter,
-    )
+    assembled_by_lines(alloc, base, names, survey, &old, edit, items, counter)
 }

@@ -29,15 +29,15 @@ pub struct Brief {
     pub sized: bool,
     /// It uses symbols.
     pub symbols: bool,
-    /// The symbols that it uses.
+    /// The symbols that it uses, and maybe others.
     pub names: UsedNames,
     /// It uses its own address.
     pub address: bool,
     /// It uses the address of one label, counted from its own, and nothing else.
     pub jump: bool,
-    /// It uses a local label or `%pcrel_lo`, or is an `.equ`: what such a line uses is not compared.
+    /// It uses a local label or `%pcrel_lo`, or is an `.equ`: such a line counts as invalidated whatever these give.
     pub uncompared: bool,
-    /// It is none of this: it uses no symbol, nor its own address, nor what is not compared.
+    /// It uses no symbol and not its own address, nor is it uncompared: it is invalidated only where it is new.
     pub plain: bool,
 }
 
@@ -66,14 +66,14 @@ impl Brief {
     }
 }
 
-// Whether a line does none of this.
+// Whether a line is none of this.
 fn is_plain(symbols: bool, address: bool, uncompared: bool) -> bool
     ensures { result ≡ not (symbols || address || uncompared) }
 {
     !symbols && !address && !uncompared
 }
 
-// Whether a line uses what is not compared.
+// Whether a line uses a local label or `%pcrel_lo`, or is an `.equ`.
 fn is_uncompared(body: &Body) -> bool
     ensures { result ≡ (uses_local_label body.now || uses_paired_high body.now || is_equ body.now) }
 {

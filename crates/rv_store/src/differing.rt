@@ -34,7 +34,7 @@ fn is_one_constant(before: &Before<'_, '_>, after: &SymbolRows<'_>, number: Opti
     }
 }
 
-// How far the first line behind an edit moved. Where there is none, any number will do.
+// How far a line behind an edit moved: the one after the line at its place. Where there is none, any number will do.
 fn shift_behind(before: &Before<'_, '_>, after: &SymbolRows<'_>) -> i64
     requires before { IsBefore before.now }
     requires rows { AreSymbolRows after.now }
@@ -64,21 +64,21 @@ fn mark_of_label(shift: i64, stood: u32, address: u32) -> Mark
 }
 
 // What is true of the symbol of this number, where a label defines it before the edit and after it: `None` where there is no such
-// label.
+// label. The lines behind the edit moved so far.
 fn mark_of_labels(
     before: &Before<'_, '_>,
     after: &SymbolRows<'_>,
-    differing: &NameSet,
+    shift: i64,
     number: Option<usize>,
 ) -> Option<Mark>
     requires before { IsBefore before.now }
     requires rows { AreSymbolRows after.now }
     requires after { IsAfter before.now after.now.text }
-    ensures { IfSome result (λ mark. (name : List ℕ) → number_of after.now.text.names.now name ≡ number → Tells (base_before before.now) (lines_before before.now) (edit_on before.now) differing.now.shift mark name) }
+    ensures { IfSome result (λ mark. (name : List ℕ) → number_of after.now.text.names.now name ≡ number → Tells (base_before before.now) (lines_before before.now) (edit_on before.now) shift mark name) }
 {
     let stood = before.symbols.label_of(number)?;
     let address = after.label_of(number)?;
-    Some(mark_of_label(differing.shift(), stood, address))
+    Some(mark_of_label(shift, stood, address))
 }
 
 // Whether the symbol of this number may give another value or another constant on a line than it gave before.
@@ -93,20 +93,20 @@ fn may_differ(before: &Before<'_, '_>, after: &SymbolRows<'_>, number: Option<us
         || !is_one_constant(before, after, number)
 }
 
-// What is true of the symbol of this number.
+// What is true of the symbol of this number, where the lines behind the edit moved so far.
 fn mark_of(
     before: &Before<'_, '_>,
     after: &SymbolRows<'_>,
-    differing: &NameSet,
+    shift: i64,
     number: Option<usize>,
 ) -> Mark
     requires before { IsBefore before.now }
     requires rows { AreSymbolRows after.now }
     requires after { IsAfter before.now after.now.text }
     requires numbered { IsNumber after.now.text.names.now number }
-    ensures { (name : List ℕ) → number_of after.now.text.names.now name ≡ number → Tells (base_before before.now) (lines_before before.now) (edit_on before.now) differing.now.shift result name }
+    ensures { (name : List ℕ) → number_of after.now.text.names.now name ≡ number → Tells (base_before before.now) (lines_before before.now) (edit_on before.now) shift result name }
 {
-    if let Some(mark) = mark_of_labels(before, after, differing, number) {
+    if let Some(mark) = mark_of_labels(before, after, shift, number) {
         return mark;
     }
     if may_differ(before, after, number) {
@@ -133,7 +133,7 @@ pub fn differing_names(
     let mut differing = NameSet::empty(alloc, shift)?;
     for number in 0..names.len() {
         let bucket = names.bucket(number);
-        let mark = mark_of(before, after, &differing, Some(number));
+        let mark = mark_of(before, after, shift, Some(number));
         differing.add(bucket, mark);
     }
     Ok(differing)

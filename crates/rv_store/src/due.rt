@@ -1,11 +1,13 @@
 //! Which lines are due after an edit: what is kept of them is made anew.
 
-ghost use Rattle.std.specs.Prelude.{◌≡◌, ◌≤◌, not, true, false, Some, length, IfOk, IsTrue};
+ghost use Rattle.std.specs.Prelude.{◌≡◌, ◌≤◌, ◌<◌, ◌+◌, ◌-◌, ◌^◌, not, true, false, Some, length, IfOk, IsTrue};
 ghost use Rattle.rv_stmt.specs.declared.statement.Body.TheVariants.{Equ as EquBody};
 ghost use Rattle.rv_store.specs.Before.{IsBefore, IsAfter, base_before, lines_before, edit_on};
 ghost use Rattle.rv_store.specs.Briefs.{brief_of};
 ghost use Rattle.rv_store.specs.Changes.{is_reencoded, is_due};
 ghost use Rattle.rv_store.specs.Codes.{values_of_body};
+ghost use Rattle.rv_store.specs.Compared.{IsCompared, AreCompared};
+ghost use Rattle.rv_store.specs.Counted.{counts_of};
 ghost use Rattle.rv_store.specs.Differing.{HasDiffering};
 ghost use Rattle.rv_store.specs.Jumps.{target_of};
 ghost use Rattle.rv_store.specs.Program.{statement_at, body_at, lines_that};
@@ -17,7 +19,7 @@ use crate::before::Before;
 use crate::brief::Brief;
 use crate::differing::differing_names;
 use crate::invalidation::{is_invalidated, may_be_invalidated};
-use crate::jumps::{differs_in_distance, differs_in_local_distance, has_risen};
+use crate::jumps::{differs_in_distance, differs_in_local_distance, rise};
 use crate::line::Line;
 use crate::line_values::symbol_value;
 use crate::name_set::NameSet;
@@ -25,6 +27,7 @@ use crate::symbol_rows::SymbolRows;
 use crate::text_lines::{brief_on, equ_on, target_on};
 use rv_expr::{Expr, Node};
 use rv_stmt::Definition;
+use rv_text::Count;
 use std::alloc::{AllocError, Global};
 
 // Whether the symbol of an `.equ` on `line` has another value than it had on the line `stood`, or only one of the two lines is
@@ -74,14 +77,22 @@ fn is_equ_due(
 }
 
 // Whether a jump is due: it is new, or its target is another distance from it than it was.
-fn is_jump_due(before: &Before<'_, '_>, after: &SymbolRows<'_>, target: &Expr, line: u32) -> bool
+fn is_jump_due<C: Count>(
+    before: &Before<'_, '_>,
+    after: &SymbolRows<'_>,
+    target: &Expr,
+    line: u32,
+    counter: &mut C,
+) -> bool
     requires before { IsBefore before.now }
     requires rows { AreSymbolRows after.now }
     requires after { IsAfter before.now after.now.text }
     requires first { 1 ≤ line }
     requires last { line ≤ length after.now.text.lines.now }
     requires target { target_of (body_at (program_in after.now.text) line) ≡ Some target.now }
-    ensures { result ≡ is_reencoded (base_before before.now) (lines_before before.now) (edit_on before.now) line }
+    requires count { C.valued_count counter.old < 2 ^ 64 - 1 }
+    ensures due { result ≡ is_reencoded (base_before before.now) (lines_before before.now) (edit_on before.now) line }
+    ensures compared { IsCompared before.now line (counts_of C.parsed_count C.valued_count C.encoded_count counter.old) (counts_of C.parsed_count C.valued_count C.encoded_count counter.new) }
 {
     let Some(stood) = before.edit.line_before(line) else {
         return true;
@@ -96,26 +107,35 @@ fn is_jump_due(before: &Before<'_, '_>, after: &SymbolRows<'_>, target: &Expr, l
             *direction,
             stood,
             line,
+            counter,
         ),
         _ => unreachable!(),
     }
 }
 
 // Whether a line of the text after an edit is due. `differing` has each symbol that differs on one of the lines.
-fn is_due(before: &Before<'_, '_>, after: &SymbolRows<'_>, differing: &NameSet, line: u32) -> bool
+fn is_due<C: Count>(
+    before: &Before<'_, '_>,
+    after: &SymbolRows<'_>,
+    differing: &NameSet,
+    line: u32,
+    counter: &mut C,
+) -> bool
     requires before { IsBefore before.now }
     requires rows { AreSymbolRows after.now }
     requires after { IsAfter before.now after.now.text }
     requires differing { HasDiffering (base_before before.now) (lines_before before.now) (edit_on before.now) differing.now }
     requires first { 1 ≤ line }
     requires last { line ≤ length after.now.text.lines.now }
-    ensures { result ≡ is_due (base_before before.now) (lines_before before.now) (edit_on before.now) line }
+    requires count { C.valued_count counter.old < 2 ^ 64 - 1 }
+    ensures due { result ≡ is_due (base_before before.now) (lines_before before.now) (edit_on before.now) line }
+    ensures compared { IsCompared before.now line (counts_of C.parsed_count C.valued_count C.encoded_count counter.old) (counts_of C.parsed_count C.valued_count C.encoded_count counter.new) }
 {
     if let Some(definition) = equ_on(&after.text, line) {
         return is_equ_due(before, after, definition, line);
     }
     match target_on(&after.text, line) {
-        Some(target) => is_jump_due(before, after, target, line),
+        Some(target) => is_jump_due(before, after, target, line, counter),
         None => is_invalidated(before, after, differing, line),
     }
 }
@@ -141,13 +161,7 @@ fn is_carried(
     match before.edit.line_before(line) {
         Some(stood) if brief.jump && !brief.uncompared => {
             brief.names.has_moved(differing)
-                && has_risen(
-                    &before.symbols.text,
-                    &after.text,
-                    stood,
-                    line,
-                    differing.shift(),
-                )
+                && rise(&before.symbols.text, &after.text, stood, line) == differing.shift()
         }
         _ => false,
     }
@@ -155,12 +169,13 @@ fn is_carried(
 
 // It is as for `is_due`, by the brief of the line, which is mostly enough.
 #[inline(always)]
-fn is_due_by_brief(
+fn is_due_by_brief<C: Count>(
     before: &Before<'_, '_>,
     after: &SymbolRows<'_>,
     differing: &NameSet,
     brief: Brief,
     line: u32,
+    counter: &mut C,
 ) -> bool
     requires before { IsBefore before.now }
     requires rows { AreSymbolRows after.now }
@@ -169,76 +184,46 @@ fn is_due_by_brief(
     requires brief { brief ≡ brief_of (statement_at (program_in after.now.text) line) }
     requires first { 1 ≤ line }
     requires last { line ≤ length after.now.text.lines.now }
-    ensures { result ≡ is_due (base_before before.now) (lines_before before.now) (edit_on before.now) line }
+    requires count { C.valued_count counter.old < 2 ^ 64 - 1 }
+    ensures due { result ≡ is_due (base_before before.now) (lines_before before.now) (edit_on before.now) line }
+    ensures compared { IsCompared before.now line (counts_of C.parsed_count C.valued_count C.encoded_count counter.old) (counts_of C.parsed_count C.valued_count C.encoded_count counter.new) }
 {
     if !may_be_invalidated(before, after, differing, brief, line) {
         return false;
     }
-    !is_carried(before, after, differing, line) && is_due(before, after, differing, line)
+    !is_carried(before, after, differing, line) && is_due(before, after, differing, line, counter)
 }
 
-// The lines that are due, rising, where the lines of the text after the edit stand in a column.
-fn due_in_column(
+/// The lines of the text after an edit that are due, rising. The text has these lines.
+///
+/// The counter's number of expressions computed rises by one for each jump to a local label that stood in the text before: the distance of
+/// the label is computed in both texts.
+///
+/// # Errors
+///
+/// Fails only where there is no memory.
+pub fn due_lines<C: Count>(
     alloc: Global,
     before: &Before<'_, '_>,
     after: &SymbolRows<'_>,
-    differing: &NameSet,
     lines: &[Line],
+    counter: &mut C,
 ) -> Result<Vec<u32>, AllocError>
     requires before { IsBefore before.now }
     requires rows { AreSymbolRows after.now }
     requires after { IsAfter before.now after.now.text }
-    requires differing { HasDiffering (base_before before.now) (lines_before before.now) (edit_on before.now) differing.now }
     requires column { lines.now ≡ after.now.text.lines.now }
-    ensures { IfOk result (λ row. row.items ≡ lines_that (is_due (base_before before.now) (lines_before before.now) (edit_on before.now)) (length after.now.text.lines.now)) }
+    requires count { C.valued_count counter.old + length after.now.text.lines.now < 2 ^ 64 }
+    ensures due { IfOk result (λ row. row.items ≡ lines_that (is_due (base_before before.now) (lines_before before.now) (edit_on before.now)) (length after.now.text.lines.now)) }
+    ensures compared { AreCompared before.now (length after.now.text.lines.now) (counts_of C.parsed_count C.valued_count C.encoded_count counter.old) (counts_of C.parsed_count C.valued_count C.encoded_count counter.new) }
 {
+    let differing = differing_names(alloc, before, after)?;
     let mut row = Vec::new(alloc);
     for (i, line) in lines.iter().enumerate() {
         let number = i as u32 + 1;
-        if is_due_by_brief(before, after, differing, line.brief(), number) {
+        if is_due_by_brief(before, after, &differing, line.brief(), number, counter) {
             row.push(number)?;
         }
     }
     Ok(row)
-}
-
-// The lines that are due, rising, wherever the lines stand.
-fn due_anywhere(
-    alloc: Global,
-    before: &Before<'_, '_>,
-    after: &SymbolRows<'_>,
-    differing: &NameSet,
-) -> Result<Vec<u32>, AllocError>
-    requires before { IsBefore before.now }
-    requires rows { AreSymbolRows after.now }
-    requires after { IsAfter before.now after.now.text }
-    requires differing { HasDiffering (base_before before.now) (lines_before before.now) (edit_on before.now) differing.now }
-    ensures { IfOk result (λ row. row.items ≡ lines_that (is_due (base_before before.now) (lines_before before.now) (edit_on before.now)) (length after.now.text.lines.now)) }
-{
-    let mut row = Vec::new(alloc);
-    for i in 0..after.text.lines.len() {
-        let line = i as u32 + 1;
-        if is_due(before, after, differing, line) {
-            row.push(line)?;
-        }
-    }
-    Ok(row)
-}
-
-/// The lines of the text after an edit that are due, rising.
-pub fn due_lines(
-    alloc: Global,
-    before: &Before<'_, '_>,
-    after: &SymbolRows<'_>,
-) -> Result<Vec<u32>, AllocError>
-    requires before { IsBefore before.now }
-    requires rows { AreSymbolRows after.now }
-    requires after { IsAfter before.now after.now.text }
-    ensures { IfOk result (λ row. row.items ≡ lines_that (is_due (base_before before.now) (lines_before before.now) (edit_on before.now)) (length after.now.text.lines.now)) }
-{
-    let differing = differing_names(alloc, before, after)?;
-    match after.text.lines.column() {
-        Some(lines) => due_in_column(alloc, before, after, &differing, lines),
-        None => due_anywhere(alloc, before, after, &differing),
-    }
 }

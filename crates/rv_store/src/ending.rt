@@ -7,7 +7,6 @@ ghost use Rattle.rv_layout.specs.Shapes.{size_operands};
 ghost use Rattle.rv_stmt.specs.Statement.{statement_of};
 ghost use Rattle.rv_store.specs.declared.limits.TheConstants.{MAX_LINES};
 ghost use Rattle.rv_store.specs.Appended.{shape_at_end, IsEnding, AreExtended, BeginAs, AreSameLines, AreSameSymbols, AreSymbols};
-ghost use Rattle.rv_store.specs.Ends.{place_by_shapes};
 ghost use Rattle.rv_store.specs.Items.{IsItemAdded};
 ghost use Rattle.rv_store.specs.Program.{program_of, body_at};
 ghost use Rattle.rv_store.specs.Rows.{AreDefinitions, AreConstants, AreShapes};
@@ -17,18 +16,16 @@ ghost use Rattle.rv_store.specs.Work.{equ_operands, value_operands};
 use crate::changed::Changed;
 use crate::constants::LineConstants;
 use crate::edit_error::EditError;
-use crate::ends::Ends;
 use crate::item::Item;
 use crate::line::Line;
 use crate::lines::Lines;
 use crate::names::NameTable;
 use crate::only_symbol::is_apart;
-use crate::places::{next_place, stay_sections};
+use crate::places::{last_place, stay_sections};
 use crate::replacement::item_of_line;
 use crate::shapes::shape_of_line;
 use crate::survey::Survey;
-use rv_expr::ValueFault;
-use rv_layout::{Layout, Measured, bases, layouts_tell_places};
+use rv_layout::{Layout, Measured, layouts_tell_places};
 use rv_list::LinePlace;
 use rv_text::Count;
 use rv_tree::SumTree;
@@ -69,19 +66,6 @@ pub fn shape_at_end<'a, C: Count>(
     shape_of_line(line, &constants, counter)
 }
 
-// Where the line lies.
-fn place_at_end(base: u32, survey: &Survey, total: &Layout, shape: &Measured) -> LinePlace
-    requires base { is_base base ≡ true }
-    requires few { length survey.now.shapes.items < MAX_LINES }
-    requires limited { AreLimited (survey.now.shapes.items ++ shape.now ∷ []) }
-    requires before { survey.now.total ≡ layout_of survey.now.shapes.items }
-    requires total { total.now ≡ layout_of (survey.now.shapes.items ++ shape.now ∷ []) }
-    ensures { result ≡ place_by_shapes base (survey.now.shapes.items ++ shape.now ∷ []) (suc (length survey.now.shapes.items)) }
-{
-    layouts_tell_places();
-    next_place(&bases(total, base), &Ends::reached(&survey.total), shape)
-}
-
 /// What a line of this shape adds at the end of a text, if no other line has to do with it: none defines or uses what it defines,
 /// and no section moves by it.
 pub fn apart_ending(
@@ -109,7 +93,7 @@ pub fn apart_ending(
     if !is_apart(&survey.lines, names, &survey.definitions, line) {
         return None;
     }
-    let place = place_at_end(base, survey, &total, &shape);
+    let place = last_place(base, &survey.total, &total, &shape);
     Some(Ending {
         shape,
         total,

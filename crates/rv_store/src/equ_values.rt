@@ -10,7 +10,9 @@ ghost use Rattle.rv_store.specs.Work.{equ_operands, operands_through};
 
 use crate::constants::defined_value;
 use crate::definitions::defining_equ_on;
+use crate::line::Line;
 use crate::line_names::references_before;
+use crate::lines::{Sought, lines_up_to};
 use crate::text_rows::TextRows;
 use rv_expr::ValueFault;
 use rv_fix::Entry;
@@ -68,15 +70,17 @@ pub fn settle_equ<C: Count>(text: &TextRows<'_>, i: usize, row: &mut Vec<Entry>,
     row[number] = value_on(text, row, line, definition, counter);
 }
 
-/// The values of the `.equ`s, by the numbers of their names. The counter's number of expressions computed rises by at most
+/// The values of the `.equ`s of these lines, by the numbers of their names. The counter's number of expressions computed rises by at most
 /// the operands of the `.equ`s. Fails only where there is no memory, before anything is computed. Lines without an `.equ` are
 /// gone past.
 pub fn equ_values<C: Count>(
     alloc: Global,
     text: &TextRows<'_>,
+    lines: &[Line],
     counter: &mut C,
 ) -> Result<Vec<Entry>, AllocError>
     requires rows { AreTextRows text.now }
+    requires column { lines.now ≡ text.now.lines.now }
     requires few { length text.now.lines.now ≤ MAX_LINES }
     requires count { C.valued_count counter.old ≤ 2 ^ 63 + 2 ^ 32 }
     ensures values { IfOk result (λ row. AreEquValuesIn text.now (length text.now.lines.now) row.items) }
@@ -87,10 +91,10 @@ pub fn equ_values<C: Count>(
     ensures encoded { C.encoded_count counter.new ≡ C.encoded_count counter.old }
 {
     let mut row = vec![in alloc; Err(ValueFault::LaterEqu); text.names.len()]?;
-    let mut i = text.lines.up_to_equ(0);
-    while i < text.lines.len() {
+    let mut i = lines_up_to(lines, 0, Sought::Equ);
+    while i < lines.len() {
         settle_equ(text, i, &mut row, counter);
-        i = text.lines.up_to_equ(i + 1);
+        i = lines_up_to(lines, i + 1, Sought::Equ);
     }
     Ok(row)
 }

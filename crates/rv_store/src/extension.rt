@@ -59,8 +59,8 @@ fn shapes_with(
     Ok(row)
 }
 
-// What is kept of a text whose last line is new and has this shape: the rows that are made from the first line on are those of
-// the text before, whose layout is `total`, with one entry more. It does not get the lines.
+// What is kept of a text whose last line is new and has this shape: the definitions are given, and constants, shapes and, unless a
+// section moves, places are those of the text before, whose layout is `total`, with what the line adds. It does not get the lines.
 fn survey_with<C: Count>(
     alloc: Global,
     before: &Before<'_, '_>,
@@ -151,10 +151,10 @@ fn renewed_with<C: Count>(
 {
     let survey = survey_with(alloc, before, total, lines, definitions, shape, counter)?;
     let text = &before.symbols.text;
-    let lines = Lines::in_column(lines);
-    let rows = survey.rows(&lines, text.base, text.names);
+    let column = Lines::in_column(lines);
+    let rows = survey.rows(&column, text.base, text.names);
     let mut changed = Vec::new(alloc);
-    let items = renewed_all(alloc, before, &rows, items, &mut changed, counter)?;
+    let items = renewed_all(alloc, before, &rows, lines, items, &mut changed, counter)?;
     Ok((survey, items, Changed::of(changed)))
 }
 

@@ -15,7 +15,9 @@ ghost use Rattle.rv_store.specs.Work.{high_operands, work};
 
 use crate::before::Before;
 use crate::invalidation::is_invalidated;
+use crate::line::Line;
 use crate::line_names::{high_in, references_at};
+use crate::lines::{Sought, lines_up_to};
 use crate::name_set::NameSet;
 use crate::room::row_of;
 use crate::symbol_rows::SymbolRows;
@@ -147,8 +149,8 @@ fn high_after<C: Count>(
     high_on(&after.text, after.equ_values, line, counter)
 }
 
-/// The high half on each line of the text after an edit. Lines without `%pcrel_hi` are gone past; where there are no others, the row is
-/// empty.
+/// The high half on each line of the text after an edit, which has these lines. Lines without `%pcrel_hi` are gone past; where there
+/// are no others, the row is empty.
 ///
 /// The counter's number of expressions computed rises by at most the high halves on the lines that the edit invalidates,
 /// whatever the outcome.
@@ -160,11 +162,13 @@ pub fn highs<C: Count>(
     alloc: Global,
     before: &Before<'_, '_>,
     after: &SymbolRows<'_>,
+    lines: &[Line],
     counter: &mut C,
 ) -> Result<Vec<Entry>, AllocError>
     requires before { IsBefore before.now }
     requires rows { AreSymbolRows after.now }
     requires after { IsAfter before.now after.now.text }
+    requires column { lines.now ≡ after.now.text.lines.now }
     requires valued { C.valued_count counter.old + length after.now.text.lines.now < 2 ^ 64 }
     ensures highs { IfOk result (λ row. AreHighs after.now.text.base (program_in after.now.text) row.items) }
     ensures least { C.valued_count counter.old ≤ C.valued_count counter.new }
@@ -173,15 +177,14 @@ pub fn highs<C: Count>(
     ensures parsed { C.parsed_count counter.new ≡ C.parsed_count counter.old }
     ensures encoded { C.encoded_count counter.new ≡ C.encoded_count counter.old }
 {
-    let lines = after.text.lines;
-    let mut i = lines.up_to_pcrel_high(0);
+    let mut i = lines_up_to(lines, 0, Sought::PcrelHigh);
     if i >= lines.len() {
         return Ok(Vec::new(alloc));
     }
     let mut row = row_of(alloc, Err(ValueFault::NoPartner), lines.len())?;
     while i < lines.len() {
         row[i] = high_after(before, after, i as u32 + 1, counter);
-        i = lines.up_to_pcrel_high(i + 1);
+        i = lines_up_to(lines, i + 1, Sought::PcrelHigh);
     }
     Ok(row)
 }

@@ -9,13 +9,14 @@ ghost use Rattle.rv_store.specs.Edits.{line_before_edit};
 ghost use Rattle.rv_store.specs.LinePairs.{IsLinePair, IsOpenPair, HasDifferingOn, differs_in_name_on, program_before_pair, program_after_pair};
 ghost use Rattle.rv_store.specs.Program.{statement_at, body_at};
 ghost use Rattle.rv_store.specs.SymbolRows.{AreSymbolRows};
-ghost use Rattle.rv_store.specs.TextRows.{program_in};
+ghost use Rattle.rv_store.specs.TextRows.{AreTextRows, program_in};
 
 use crate::before::Before;
 use crate::brief::Brief;
 use crate::name_set::NameSet;
 use crate::symbol_rows::SymbolRows;
 use crate::text_lines::{brief_on, place_on, statement_on};
+use crate::text_rows::TextRows;
 use crate::uses::{NameTest, any_name};
 use rv_fix::is_same_entry;
 
@@ -43,15 +44,29 @@ impl NameTest for LinePair<'_> {
     }
 }
 
+// Whether a line has another address than the line `stood` had, or is in another section.
+fn differs_in_place(before: &TextRows<'_>, after: &TextRows<'_>, stood: u32, line: u32) -> bool
+    requires before { AreTextRows before.now }
+    requires after { AreTextRows after.now }
+    requires base { after.now.base ≡ before.now.base }
+    requires first_stood { 1 ≤ stood }
+    requires last_stood { stood ≤ length before.now.lines.now }
+    requires first { 1 ≤ line }
+    requires last { line ≤ length after.now.lines.now }
+    ensures { result ≡ differs_in_place before.now.base (program_in before.now) (program_in after.now) line stood }
+{
+    let after = place_on(after, line);
+    let before = place_on(before, stood);
+    after.address != before.address || after.section != before.section
+}
+
 impl LinePair<'_> {
     // Whether the line has another address than it had, or is in another section.
     fn differs_in_place(&self) -> bool
         requires { IsLinePair self.now }
         ensures { result ≡ differs_in_place self.now.before.now.text.base (program_before_pair self.now) (program_after_pair self.now) self.now.line self.now.stood }
     {
-        let after = place_on(&self.after.text, self.line);
-        let before = place_on(&self.before.text, self.stood);
-        after.address != before.address || after.section != before.section
+        differs_in_place(&self.before.text, &self.after.text, self.stood, self.line)
     }
 
     // Whether what the line uses gives something else than it gave, or it uses what is not compared. `differing` has each
@@ -72,7 +87,7 @@ impl LinePair<'_> {
 
 // Whether a line is new, has another address than it had, or is in another section.
 #[inline]
-fn has_moved(before: &Before<'_, '_>, after: &SymbolRows<'_>, line: u32) -> bool
+fn is_new_or_moved(before: &Before<'_, '_>, after: &SymbolRows<'_>, line: u32) -> bool
     requires before { IsBefore before.now }
     requires rows { AreSymbolRows after.now }
     requires after { IsAfter before.now after.now.text }
@@ -84,9 +99,7 @@ fn has_moved(before: &Before<'_, '_>, after: &SymbolRows<'_>, line: u32) -> bool
     let Some(stood) = before.edit.line_before(line) else {
         return true;
     };
-    let after = place_on(&after.text, line);
-    let before = place_on(&before.symbols.text, stood);
-    after.address != before.address || after.section != before.section
+    differs_in_place(&before.symbols.text, &after.text, stood, line)
 }
 
 /// Whether an edit may invalidate a line of the text after it, which has this brief: a test without a look at its statement,
@@ -108,14 +121,14 @@ pub fn may_be_invalidated(
     requires last { line ≤ length after.now.text.lines.now }
     ensures { result ≡ false → is_invalidated (base_before before.now) (lines_before before.now) (edit_on before.now) line ≡ false }
 {
-    let is_new = line == before.edit.place();
-    if brief.plain && !is_new {
+    let may_be_new = line == before.edit.place();
+    if brief.plain && !may_be_new {
         return false;
     }
-    if is_new || brief.uncompared || brief.names.meets(differing) {
+    if may_be_new || brief.uncompared || brief.names.meets(differing) {
         return true;
     }
-    brief.address && has_moved(before, after, line)
+    brief.address && is_new_or_moved(before, after, line)
 }
 
 /// Whether an edit invalidates a line of the text after it. `differing` has each symbol that differs on one of the lines.

@@ -1,6 +1,6 @@
 //! Jumps and the like: lines that use the address of one label, counted from their own, and nothing else.
 
-ghost use Rattle.std.specs.Prelude.{◌≡◌, ◌≤◌, ◌+ℤ◌, pos, ℕ, List, false, not, length, IsTrue};
+ghost use Rattle.std.specs.Prelude.{◌≡◌, ◌≤◌, ◌<◌, ◌+◌, ◌-◌, ◌^◌, ◌+ℤ◌, pos, ℕ, List, false, not, length};
 ghost use Rattle.std.specs.Option.{option_map};
 ghost use Rattle.rv_store.specs.declared.limits.TheConstants.{MAX_LINES};
 ghost use Rattle.rv_store.specs.Jumps.{target_among, target_of, distance};
@@ -19,28 +19,7 @@ use crate::text_rows::{TextRows, address_in};
 use rv_expr::{Direction, Expr, Node, ValueFault};
 use rv_fix::{Entry, displacement, is_same_entry};
 use rv_stmt::{Body, Operand, OperandValue, Role};
-
-/// Whether the address of `line` is so much greater than that of the line `stood` was.
-#[inline]
-pub fn has_risen(
-    before: &TextRows<'_>,
-    after: &TextRows<'_>,
-    stood: u32,
-    line: u32,
-    shift: i64,
-) -> bool
-    requires before { AreTextRows before.now }
-    requires after { AreTextRows after.now }
-    requires first_stood { 1 ≤ stood }
-    requires last_stood { stood ≤ length before.now.lines.now }
-    requires first { 1 ≤ line }
-    requires last { line ≤ length after.now.lines.now }
-    ensures { IsTrue result → pos (address_in_text after.now line) ≡ pos (address_in_text before.now stood) +ℤ shift }
-{
-    let here = place_on(after, line).address;
-    let there = place_on(before, stood).address;
-    i64::from(here) - i64::from(there) == shift
-}
+use rv_text::Count;
 
 /// By how much the address of `line` is greater than that of the line `stood` was.
 #[inline]
@@ -51,6 +30,7 @@ pub fn rise(before: &TextRows<'_>, after: &TextRows<'_>, stood: u32, line: u32) 
     requires last_stood { stood ≤ length before.now.lines.now }
     requires first { 1 ≤ line }
     requires last { line ≤ length after.now.lines.now }
+    ensures { pos (address_in_text after.now line) ≡ pos (address_in_text before.now stood) +ℤ result }
 {
     let here = place_on(after, line).address;
     let there = place_on(before, stood).address;
@@ -169,14 +149,16 @@ fn local_distance(
     Ok(i64::from(displacement(here, address)))
 }
 
-/// Whether a local label is another distance from `line` than it was from the line `stood`.
-pub fn differs_in_local_distance(
+/// Whether a local label is another distance from `line` than it was from the line `stood`. The counter's number of expressions computed
+/// rises by one.
+pub fn differs_in_local_distance<C: Count>(
     before: &TextRows<'_>,
     after: &TextRows<'_>,
     number: u16,
     direction: Direction,
     stood: u32,
     line: u32,
+    counter: &mut C,
 ) -> bool
     requires before { AreTextRows before.now }
     requires after { AreTextRows after.now }
@@ -184,10 +166,15 @@ pub fn differs_in_local_distance(
     requires last_stood { stood ≤ length before.now.lines.now }
     requires first { 1 ≤ line }
     requires last { line ≤ length after.now.lines.now }
-    ensures { result ≡ not (same_entry
+    requires count { C.valued_count counter.old < 2 ^ 64 - 1 }
+    ensures differs { result ≡ not (same_entry
         (distance (address_at after.now.base (program_in after.now) line) (address_of_line after.now.base (program_in after.now) (local_line (program_in after.now) line number direction)))
         (distance (address_at before.now.base (program_in before.now) stood) (address_of_line before.now.base (program_in before.now) (local_line (program_in before.now) stood number direction)))) }
+    ensures valued { C.valued_count counter.new ≡ C.valued_count counter.old + 1 }
+    ensures parsed { C.parsed_count counter.new ≡ C.parsed_count counter.old }
+    ensures encoded { C.encoded_count counter.new ≡ C.encoded_count counter.old }
 {
+    counter.valued();
     let near = after.locals.count(line, number);
     !is_same_entry(
         local_distance(after, number, direction, line, near),

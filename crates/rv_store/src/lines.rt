@@ -1,11 +1,9 @@
 //! The lines of a text, in a column or in the items of a tree.
 
-ghost use Rattle.std.specs.Prelude.{◌≡◌, ◌≤◌, ◌-◌, length, map, get_or, IfSome};
-ghost use Rattle.std.specs.Option.{is_some};
-ghost use Rattle.rv_store.specs.LinesWithout.{AreWithout};
-ghost use Rattle.rv_store.specs.Pairs.{pcrel_high_of};
+ghost use Rattle.std.specs.Prelude.{◌≡◌, ◌≤◌, ◌-◌, length, map, get_or};
+ghost use Rattle.rv_stmt.specs.Statement.{statement_of};
+ghost use Rattle.rv_store.specs.LinesWithout.{is_sought, AreWithout};
 ghost use Rattle.rv_store.specs.Program.{program_of};
-ghost use Rattle.rv_store.specs.Uses.{is_equ};
 
 use crate::item::Item;
 use crate::line::Line;
@@ -36,30 +34,35 @@ impl<'a> Model for Lines<'a> {
     ghost view = { λ l. lines_in l.standing };
 }
 
-// How many lines there are before the next `.equ` behind the first `i`.
-fn equ_from(lines: &[Line], i: usize) -> usize
-    requires within { i ≤ length lines.now }
-    ensures up { i ≤ result }
-    ensures within { result ≤ length lines.now }
-    ensures passed { AreWithout is_equ (program_of lines.now) i result }
-{
-    for k in i..lines.len() {
-        if lines[k].brief().equ {
-            return k;
-        }
-    }
-    lines.len()
+/// What a loop over the lines looks for.
+#[derive(Clone, Copy)]
+pub enum Sought {
+    /// An `.equ`.
+    Equ,
+    /// An `auipc` with `%pcrel_hi`.
+    PcrelHigh,
 }
 
-// How many lines there are before the next `auipc` with `%pcrel_hi` behind the first `i`.
-fn pcrel_high_from(lines: &[Line], i: usize) -> usize
+// Whether a line is what is looked for, without a look at its statement.
+fn is_sought(line: &Line, sought: Sought) -> bool
+    ensures { result ≡ is_sought sought (statement_of line.now).body }
+{
+    let brief = line.brief();
+    match sought {
+        Sought::Equ => brief.equ,
+        Sought::PcrelHigh => brief.pcrel_high,
+    }
+}
+
+/// How many lines there are before the next one behind the first `i` that is what is looked for.
+pub fn lines_up_to(lines: &[Line], i: usize, sought: Sought) -> usize
     requires within { i ≤ length lines.now }
     ensures up { i ≤ result }
     ensures within { result ≤ length lines.now }
-    ensures passed { AreWithout (λ b. is_some (pcrel_high_of b)) (program_of lines.now) i result }
+    ensures passed { AreWithout (is_sought sought) (program_of lines.now) i result }
 {
     for k in i..lines.len() {
-        if lines[k].brief().pcrel_high {
+        if is_sought(&lines[k], sought) {
             return k;
         }
     }
@@ -95,16 +98,6 @@ impl<'a> Lines<'a> {
         }
     }
 
-    /// All of them, where they stand in a column.
-    pub fn column(&self) -> Option<&'a [Line]>
-        ensures { IfSome result (λ lines. lines.now ≡ self.now) }
-    {
-        match self.standing {
-            Standing::Column(lines) => Some(lines),
-            Standing::Items(_) => None,
-        }
-    }
-
     /// The line of this number, from 1 on.
     pub fn line(&self, number: u32) -> &'a Line
         requires first { 1 ≤ number }
@@ -117,34 +110,6 @@ impl<'a> Lines<'a> {
                 Some(item) => &item.line,
                 None => unreachable!(),
             },
-        }
-    }
-
-    /// How many lines there are before the next `.equ` behind the first `i`. Only the lines of a column are looked at: in a tree
-    /// the next line counts as one.
-    pub(crate) fn up_to_equ(&self, i: usize) -> usize
-        requires within { i ≤ length self.now }
-        ensures up { i ≤ result }
-        ensures within { result ≤ length self.now }
-        ensures passed { AreWithout is_equ (program_of self.now) i result }
-    {
-        match self.standing {
-            Standing::Column(lines) => equ_from(lines, i),
-            Standing::Items(_) => i,
-        }
-    }
-
-    /// How many lines there are before the next `auipc` with `%pcrel_hi` behind the first `i`. Only the lines of a column are
-    /// looked at: in a tree the next line counts as one.
-    pub(crate) fn up_to_pcrel_high(&self, i: usize) -> usize
-        requires within { i ≤ length self.now }
-        ensures up { i ≤ result }
-        ensures within { result ≤ length self.now }
-        ensures passed { AreWithout (λ b. is_some (pcrel_high_of b)) (program_of self.now) i result }
-    {
-        match self.standing {
-            Standing::Column(lines) => pcrel_high_from(lines, i),
-            Standing::Items(_) => i,
         }
     }
 }

@@ -1,4 +1,4 @@
-//! Sets of names, which may also have names that were not added.
+//! Sets of names by their buckets, which may also have names that do not differ.
 
 ghost use Rattle.std.specs.Prelude.{◌≡◌, ◌<◌, ℕ, IfOk, IsTrue, true, false};
 ghost use Rattle.rv_store.specs.declared.name_set.Mark.TheVariants.{Unknown, Changed};
@@ -80,8 +80,8 @@ impl Mark {
     }
 }
 
-/// A set of names: it has all names of a bucket of which one was added. Contracts see a mark for each bucket, or none where the set
-/// has every name, and how far lines moved.
+/// What an edit did to the symbols, by the buckets of their names: the set has all names of a bucket of which one may differ. Contracts
+/// see a mark for each bucket, or none where the set has every name, and how far the lines behind the edit moved.
 #[derive(Drop)]
 pub struct NameSet {
     // How far the lines behind the edit moved.

@@ -66,7 +66,7 @@ impl NameTest for OneName<'_> {
     }
 }
 
-// Whether a line uses a symbol of this bucket. Lines that use none of the bucket are gone past without a look at their statements.
+// Whether a line uses this symbol, which is of this bucket. Lines that use none of the bucket are gone past without a look at their statements.
 fn uses(line: &Line, bucket: u16, symbol: &OneName<'_>) -> bool
     requires { bucket ≡ bucket_of symbol.now.name.now }
     ensures { result ≡ list_any (bytes_eq symbol.now.name.now) (names_used (statement_of line.now).body) }

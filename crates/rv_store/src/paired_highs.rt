@@ -7,7 +7,9 @@ ghost use Rattle.rv_store.specs.Pairs.{high_at};
 ghost use Rattle.rv_store.specs.Rows.{AreHighs};
 ghost use Rattle.rv_store.specs.TextRows.{AreTextRows, ArePairedHighsIn, program_in};
 
+use crate::line::Line;
 use crate::line_names::high_in;
+use crate::lines::{Sought, lines_up_to};
 use crate::room::row_of;
 use crate::text_lines::place_on;
 use crate::text_rows::TextRows;
@@ -54,9 +56,11 @@ fn give_high(text: &TextRows<'_>, i: usize, high: Entry, row: &mut [Entry])
 pub fn paired_highs(
     alloc: Global,
     text: &TextRows<'_>,
+    lines: &[Line],
     highs: &[Entry],
 ) -> Result<Vec<Entry>, AllocError>
     requires rows { AreTextRows text.now }
+    requires column { lines.now ≡ text.now.lines.now }
     requires highs { AreHighs text.now.base (program_in text.now) highs.now }
     requires few { length text.now.lines.now ≤ MAX_LINES }
     ensures { IfOk result (λ row. ArePairedHighsIn text.now row.items) }
@@ -64,13 +68,12 @@ pub fn paired_highs(
     if highs.is_empty() {
         return Ok(Vec::new(alloc));
     }
-    let lines = text.lines;
     let mut row = row_of(alloc, Err(ValueFault::NoPartner), lines.len())?;
-    let mut i = lines.up_to_pcrel_high(0);
+    let mut i = lines_up_to(lines, 0, Sought::PcrelHigh);
     while i < lines.len() {
         let high = high_in(highs, i as u32 + 1);
         give_high(text, i, high, &mut row);
-        i = lines.up_to_pcrel_high(i + 1);
+        i = lines_up_to(lines, i + 1, Sought::PcrelHigh);
     }
     Ok(row)
 }

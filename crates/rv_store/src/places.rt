@@ -1,11 +1,11 @@
 //! Where the lines of a text lie.
 
-ghost use Rattle.std.specs.Prelude.{◌≡◌, ◌≤◌, ◌<◌, ◌+◌, ◌^◌, ℕ, All, List, [], ◌∷◌, ◌++◌, length, slice_index, true, IfOk, IfSome, IsTrue};
+ghost use Rattle.std.specs.Prelude.{◌≡◌, ◌≤◌, ◌<◌, ◌+◌, ◌^◌, ℕ, suc, All, List, [], ◌∷◌, ◌++◌, length, slice_index, true, IfOk, IfSome, IsTrue};
 ghost use Rattle.rv_layout.specs.Effects.{join, effect_of, layout_of, offset_reached, base_by_layout};
 ghost use Rattle.rv_layout.specs.declared.measured.Measured.{Measured};
 ghost use Rattle.rv_layout.specs.Places.{section_of, address_of, line_size_of, size_at, sum_below, is_base, IsLimited, AreLimited};
 ghost use Rattle.rv_layout.specs.Sections.{sections, section_number};
-ghost use Rattle.rv_store.specs.Ends.{ends_after, ends_at, next_offset, next_place, place_by_shapes};
+ghost use Rattle.rv_store.specs.Ends.{ends_after, ends_at, next_offset, next_place, place_by_shapes, IsBehind};
 ghost use Rattle.rv_store.specs.Program.{for_lines};
 
 use crate::ends::Ends;
@@ -47,7 +47,7 @@ fn total_layout(shapes: &[Measured]) -> Layout
 }
 
 // The place of the next line.
-pub(crate) fn next_place(bases: &[u32; SECTIONS], ends: &Ends, shape: &Measured) -> LinePlace
+fn next_place(bases: &[u32; SECTIONS], ends: &Ends, shape: &Measured) -> LinePlace
     requires { slice_index bases.now (section_number ends.now.section) + next_offset ends.now < 2 ^ 32 }
     ensures { result ≡ next_place bases.now ends.now shape.now }
 {
@@ -164,6 +164,16 @@ pub fn stay_sections(base: u32, before: &Layout, total: &Layout) -> bool
     bases(total, base) == bases(before, base)
 }
 
+/// Where the last line lies, which is of this shape, by the layout of the lines before it and that of all.
+pub fn last_place(base: u32, before: &Layout, total: &Layout, shape: &Measured) -> LinePlace
+    requires base { is_base base ≡ true }
+    requires behind { (ms : List Measured) × IsBehind shape.now before.now total.now ms }
+    ensures { (ms : List Measured) → IsBehind shape.now before.now total.now ms → result ≡ place_by_shapes base (ms ++ shape.now ∷ []) (suc (length ms)) }
+{
+    layouts_tell_places();
+    next_place(&bases(total, base), &Ends::reached(before), shape)
+}
+
 /// The layout of the lines of a text, and where each of them lies.
 #[derive(Drop)]
 pub struct Placed {
@@ -208,7 +218,7 @@ impl Placed {
             let places = places(alloc, base, shapes, &total)?;
             return Ok(Placed { total, places });
         }
-        let place = next_place(&bases(&total, base), &Ends::reached(before), shape);
+        let place = last_place(base, before, &total, shape);
         let mut places = row_for(alloc, shapes.len())?;
         places.extend_from_slice(first)?;
         places.push(place)?;

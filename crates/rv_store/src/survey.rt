@@ -37,8 +37,9 @@ use rv_list::{DefinitionPlace, LinePlace, SectionPlace};
 use rv_text::Count;
 use std::alloc::{AllocError, Global};
 
-/// What the lines of a text say, in rows: one value for each name, by its number, or one for each line. All rows are made from
-/// the first line on, but that of the definitions moves with the lines where an edit changes none of them.
+/// What the lines of a text say, in rows: one value for each name, by its number, or one for each line. An edit that goes over the
+/// lines makes them anew from the first line on. But definitions move with the lines where it changes none of them, a line keeps its shape
+/// where no constant changes it, and where the edit puts a line at the end, constants and, unless a section moves, places are copied.
 #[derive(Drop)]
 pub struct Survey {
     /// The lines.
@@ -57,9 +58,9 @@ pub struct Survey {
     pub locals: Locals,
     /// The value that the `.equ` of each name has.
     pub equ_values: Vec<Entry>,
-    /// The high half on each line.
+    /// The high half on each line. The row may end before the lines do, if those behind its end have none.
     pub highs: Vec<Entry>,
-    /// What `%pcrel_lo` takes from a label on each line.
+    /// What `%pcrel_lo` takes from a label on each line. Behind the end of the row that is no high half.
     pub paired_highs: Vec<Entry>,
 }
 
@@ -131,7 +132,7 @@ impl Survey {
         )
     }
 
-    /// That of the lines of a text after an edit, by the rows that are made from the first line on. It does not get the lines.
+    /// That of the lines of a text after an edit, by the rows that the others are made from. It does not get the lines.
     ///
     /// The counter's number of expressions computed rises by at most two for each line: the `.equ`s, and the high halves that
     /// the edit invalidates.
@@ -165,24 +166,23 @@ impl Survey {
         ensures parsed { C.parsed_count counter.new ≡ C.parsed_count counter.old }
         ensures encoded { C.encoded_count counter.new ≡ C.encoded_count counter.old }
     {
-        let base = before.symbols.text.base;
-        let lines = Lines::in_column(lines);
+        let column = Lines::in_column(lines);
         let text = TextRows {
-            base,
-            lines: &lines,
+            base: before.symbols.text.base,
+            lines: &column,
             names: before.symbols.text.names,
             definitions: &definitions,
             places: &placed.places,
             locals: &locals,
         };
-        let equ_values = equ_values(alloc, &text, counter)?;
+        let equ_values = equ_values(alloc, &text, lines, counter)?;
         let after = SymbolRows {
             text,
             constants: &sized.constants,
             equ_values: &equ_values,
         };
-        let highs = highs(alloc, before, &after, counter)?;
-        let paired_highs = paired_highs(alloc, &text, &highs)?;
+        let highs = highs(alloc, before, &after, lines, counter)?;
+        let paired_highs = paired_highs(alloc, &text, lines, &highs)?;
         Ok(Survey {
             lines: Vec::new(alloc),
             definitions,

@@ -1,7 +1,7 @@
 //! The names that a line uses, in brief.
 
 ghost use Rattle.std.specs.Prelude.{◌≡◌, ◌<◌, ◌==◌, false, IsTrue};
-ghost use Rattle.rv_store.specs.NameSets.{no_names, with_name, is_bucket, has_bucket, IsApart, IsMoved, may_have};
+ghost use Rattle.rv_store.specs.NameSets.{no_names, with_name, is_bucket, has_bucket, IsOutside, IsMoved, may_have};
 
 use crate::groups::Groups;
 use crate::name_set::{NameSet, bucket_of};
@@ -26,7 +26,7 @@ fn is_bucket(other: Option<u16>, bucket: u16) -> bool
 // Whether a set has the names of a bucket, if it is one.
 #[inline]
 fn has_names(set: &NameSet, bucket: Option<u16>) -> bool
-    ensures { result ≡ false → IsApart (UsedNames.Few bucket None) set.now }
+    ensures { result ≡ false → IsOutside (UsedNames.Few bucket None) set.now }
 {
     match bucket {
         Some(bucket) => set.has(bucket),
@@ -60,7 +60,7 @@ impl UsedNames {
     /// Whether one of them may be in a set.
     #[inline]
     pub fn meets(self, set: &NameSet) -> bool
-        ensures { result ≡ false → IsApart self set.now }
+        ensures { result ≡ false → IsOutside self set.now }
     {
         match self {
             UsedNames::Few(first, second) => has_names(set, first) || has_names(set, second),

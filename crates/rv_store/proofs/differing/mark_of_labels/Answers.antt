@@ -10,11 +10,10 @@ returns c =
     λ name numbered.
     let before = c.args.before.now in
     let after = c.args.after.now in
-    let shift = c.args.differing.now.shift in
     let numbered' = ap (λ names. number_of names name) (sym c.requires.after.names) ∙ numbered in
-    let fits : FitsSigned w64 c.shift.result = search rules in
-    let same : to_z w64 (of_z w64 c.shift.result) ≡ c.shift.result = omega (arith, ints) in
-    tells-label before after c.requires.before c.requires.rows c.requires.after name shift c.in_ok-stood.stood c.in_ok-address.address
+    let fits : FitsSigned w64 c.args.shift = search rules in
+    let same : to_z w64 (of_z w64 c.args.shift) ≡ c.args.shift = omega (arith, ints) in
+    tells-label before after c.requires.before c.requires.rows c.requires.after name c.args.shift c.in_ok-stood.stood c.in_ok-address.address
     (c.in_ok-address.ensures.value name numbered) (c.in_ok-stood.ensures.value name numbered')
     (c.in_ok-address.ensures.label name numbered) (c.in_ok-stood.ensures.label name numbered') c.mark_of_label.result
-    (subst (λ s. TellsAddress s c.mark_of_label.result c.in_ok-stood.stood c.in_ok-address.address) (same ∙ c.shift.ensures) c.mark_of_label.ensures)
+    (subst (λ s. TellsAddress s c.mark_of_label.result c.in_ok-stood.stood c.in_ok-address.address) same c.mark_of_label.ensures)

@@ -1,5 +1,4 @@
-use Rattle.std.proofs.Common.{◌≡◌, Bool, true, false, not, true≢false, Some, FitsSigned, to_z, of_z, w64, pos, ◌+ℤ◌, rules, arith, sym, subst, ◌∙◌, refl}
-use Rattle.std.proofs.lemmas.Int.{ints}
+use Rattle.std.proofs.Common.{◌≡◌, Bool, true, false, not, true≢false, Some, pos, ◌+ℤ◌, rules, ap, sym, ◌∙◌, refl}
 use Rattle.rv_store.specs.Before.{edit_on}
 use Rattle.rv_store.specs.Edits.{line_before_edit}
 use Rattle.rv_store.specs.TextRows.{address_in_text}
@@ -11,8 +10,8 @@ not-true : (b : Bool) → not b ≡ true → b ≡ false
 not-true false h = refl
 not-true true h = absurd (true≢false (sym h))
 
-pub has_risen-requires-clause-last_stood : goal.has_risen-requires-clause-last_stood
-has_risen-requires-clause-last_stood c =
+pub rise-requires-clause-last_stood : goal.rise-requires-clause-last_stood
+rise-requires-clause-last_stood c =
     let before = c.args.before.now in
     let stands : line_before_edit (edit_on before) c.args.line ≡ Some c.in-Some.stood = sym c.line_before.ensures ∙ c.in-Some.is in
     (stood-before before c.args.after.now.text c.args.line c.in-Some.stood c.requires.before c.requires.after c.requires.first c.requires.last stands).last
@@ -22,9 +21,7 @@ returns-then-has_moved c = λ risen.
     let before = c.args.before.now in
     let after = c.args.after.now.text in
     let stands : line_before_edit (edit_on before) c.args.line ≡ Some c.in-Some.stood = sym c.line_before.ensures ∙ c.in-Some.is in
-    let fits : FitsSigned w64 c.shift.result = search rules in
-    let same : to_z w64 (of_z w64 c.shift.result) ≡ c.shift.result = omega (arith, ints) in
     carried-not_due before after c.args.line c.in-Some.stood c.requires.before c.requires.after c.requires.first c.requires.last stands
     c.args.differing.now c.requires.differing c.brief_on-brief.result c.brief_on-brief.ensures c.if-brief.true (not-true c.brief_on-brief.result.uncompared c.if-not-brief.true)
-    (subst (λ s. pos (address_in_text after c.args.line) ≡ pos (address_in_text before.symbols.text c.in-Some.stood) +ℤ s) (same ∙ c.shift.ensures) (c.has_risen.ensures risen))
+    (c.rise.ensures ∙ ap (λ s. pos (address_in_text before.symbols.text c.in-Some.stood) +ℤ s) (search rules ∙ c.shift.ensures))
     (c.has_moved.ensures c.if-has_moved.true)

@@ -1,6 +1,9 @@
 use Rattle.std.proofs.Common.{◌≡◌, ◌+◌, length, replicate, Err, rules, arith, ap, refl, subst, ◌∙◌}
 use Rattle.std.proofs.lemmas.List.{length-replicate}
 use Rattle.rv_expr.specs.declared.faults.ValueFault.TheVariants.{LaterEqu}
+use Rattle.rv_store.specs.declared.lines.Sought.TheVariants.{Equ}
+use Rattle.rv_store.specs.LinesWithout.{is_sought, AreWithout}
+use Rattle.rv_store.specs.Program.{program_of}
 use Rattle.rv_store.specs.TextRows.{program_in, AreEquValuesIn}
 use Rattle.rv_store.specs.Work.{equ_operands}
 use Rattle.rv_store.proofs.EquLaws.{equ_values-none, equ_values-past}
@@ -12,10 +15,12 @@ loop-i-init g c =
     let text = c.args.text.now in
     let names = text.names.now in
     let none : c.in_ok-row.row.items ≡ replicate (length names) (Err LaterEqu) = search rules in
-    let past = c.up_to_equ-i.ensures in
+    let past = c.lines_up_to-i.ensures in
+    let i = c.lines_up_to-i.result in
+    let passed = subst (λ lines. AreWithout (is_sought Equ) (program_of lines) 0 i) c.requires.column past.passed in
     record {
       within = past.within;
-      values = rw none (equ_values-past text.base (program_in text) 0 c.up_to_equ-i.result names (replicate (length names) (Err LaterEqu)) past.up past.passed (equ_values-none text.base (program_in text) names));
+      values = rw none (equ_values-past text.base (program_in text) 0 i names (replicate (length names) (Err LaterEqu)) past.up passed (equ_values-none text.base (program_in text) names));
       as_many = ap length none ∙ length-replicate (length names) (Err LaterEqu);
       valued = omega arith;
       valued_within = omega arith;
@@ -30,13 +35,14 @@ loop-i-preserved g c =
     let program = program_in text in
     let before = c.loop-i.invariant in
     let settled = c.settle_equ.ensures in
-    let past = c.up_to_equ-i-in-loop-i.ensures in
+    let past = c.lines_up_to-i-in-loop-i.ensures in
     let i = c.loop-i.i in
-    let next = c.up_to_equ-i-in-loop-i.result in
+    let next = c.lines_up_to-i-in-loop-i.result in
+    let passed = subst (λ lines. AreWithout (is_sought Equ) (program_of lines) (i + 1) next) c.requires.column past.passed in
     let more = operands-more equ_operands program (i + 1) next past.up in
     record {
       within = past.within;
-      values = equ_values-past text.base program (i + 1) next text.names.now c.settle_equ.new.row.items past.up past.passed settled.after;
+      values = equ_values-past text.base program (i + 1) next text.names.now c.settle_equ.new.row.items past.up passed settled.after;
       as_many = settled.as_many;
       valued = omega (arith, before.valued, settled.valued);
       valued_within = omega (arith, before.valued_within, settled.valued_within, past.up);
@@ -48,7 +54,7 @@ loop-i-preserved g c =
 pub returns-clause-values : goal.returns-clause-values
 returns-clause-values g c =
     let text = c.args.text.now in
-    let end : c.loop-i.i ≡ length text.lines.now = omega (arith, c.loop-i-test.false, c.len-in-loop-i.ensures, c.loop-i.invariant.within) in
+    let end : c.loop-i.i ≡ length text.lines.now = omega (arith, c.loop-i-test.false, c.loop-i.invariant.within, ap length c.requires.column) in
     subst (λ k. AreEquValuesIn text k c.loop-i.row.items) end c.loop-i.invariant.values
 
 pub returns-clause-parsed : goal.returns-clause-parsed

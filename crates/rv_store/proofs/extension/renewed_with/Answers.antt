@@ -4,7 +4,7 @@ use Rattle.rv_store.proofs.extension.renewed_with.Goals as goal
 
 pub renewed_all-requires-clause-after : goal.renewed_all-requires-clause-after
 renewed_all-requires-clause-after g c =
-    let lines = c.rows-rows.ensures.lines ∙ c.in_column-lines.ensures in
+    let lines = c.rows-rows.ensures.lines ∙ c.in_column-column.ensures in
     record {
       base = c.rows-rows.ensures.base;
       names = c.rows-rows.ensures.names;

@@ -2,7 +2,10 @@ use Rattle.std.proofs.Common.{◌≡◌, ◌<◌, suc, ◌+◌, ◌-◌, [], len
 use Rattle.std.proofs.lemmas.List.{length-set, length-replicate}
 use Rattle.rv_expr.specs.declared.faults.ValueFault.TheVariants.{NoPartner}
 use Rattle.rv_store.specs.Before.{base_before, lines_before, edit_on}
+use Rattle.rv_store.specs.declared.lines.Sought.TheVariants.{PcrelHigh}
+use Rattle.rv_store.specs.LinesWithout.{is_sought, AreWithout}
 use Rattle.rv_store.specs.Pairs.{high_at}
+use Rattle.rv_store.specs.Program.{program_of}
 use Rattle.rv_store.specs.Rows.{AreHighs}
 use Rattle.rv_store.specs.TextRows.{program_in}
 use Rattle.rv_store.specs.Work.{high_operands, work}
@@ -15,14 +18,16 @@ pub loop-i-init : goal.loop-i-init
 loop-i-init g c =
     let text = c.args.after.now.text in
     let program = program_in text in
-    let count = c.len-2.result in
+    let count = length c.args.lines.now in
     let none : c.in_ok-row.row.items ≡ replicate count (Err NoPartner) = c.in_ok-row.ensures in
-    let past = c.up_to_pcrel_high-i.ensures in
+    let past = c.lines_up_to-i.ensures in
+    let i = c.lines_up_to-i.result in
+    let passed = subst (λ lines. AreWithout (is_sought PcrelHigh) (program_of lines) 0 i) c.requires.column past.passed in
     record {
       within = past.within;
-      row = subst (AreHighsThrough text.base program c.up_to_pcrel_high-i.result) (sym none)
-          (highs-past text.base program 0 c.up_to_pcrel_high-i.result (replicate count (Err NoPartner)) past.up past.passed (highs-none text.base program count));
-      many = ap length none ∙ length-replicate count (Err NoPartner) ∙ c.len-2.ensures;
+      row = subst (AreHighsThrough text.base program i) (sym none)
+          (highs-past text.base program 0 i (replicate count (Err NoPartner)) past.up passed (highs-none text.base program count));
+      many = ap length none ∙ length-replicate count (Err NoPartner);
       least = omega arith;
       most = omega arith;
       work = omega arith;
@@ -35,19 +40,20 @@ loop-i-preserved g c =
     let text = c.args.after.now.text in
     let program = program_in text in
     let before = c.loop-i.invariant in
-    let past = c.up_to_pcrel_high-i-in-loop-i.ensures in
+    let past = c.lines_up_to-i-in-loop-i.ensures in
     let line = c.high_after.ensures in
     let i = c.loop-i.i in
-    let next = c.up_to_pcrel_high-i-in-loop-i.result in
+    let next = c.lines_up_to-i-in-loop-i.result in
+    let passed = subst (λ lines. AreWithout (is_sought PcrelHigh) (program_of lines) (i + 1) next) c.requires.column past.passed in
     let row = c.loop-i.row.items in
     let high = c.high_after.result in
-    let within : i < length row = omega (arith, c.loop-i-test.true, c.len-in-loop-i.ensures, before.many) in
+    let within : i < length row = omega (arith, c.loop-i-test.true, before.many) in
     let value = line.value ∙ ap (λ n. high_at text.base program n) (let e : i + 1 ≡ suc i = omega arith in e) in
     let more = work-up high_operands (base_before c.args.before.now) (lines_before c.args.before.now) (edit_on c.args.before.now) (i + 1) next past.up in
     let same = ap (work high_operands (base_before c.args.before.now) (lines_before c.args.before.now) (edit_on c.args.before.now)) (let e : i + 1 - 1 ≡ i = omega arith in e) in
     record {
       within = past.within;
-      row = highs-past text.base program (i + 1) next (set row i high) past.up past.passed (highs-set text.base program i row high within value before.row);
+      row = highs-past text.base program (i + 1) next (set row i high) past.up passed (highs-set text.base program i row high within value before.row);
       many = length-set row i high ∙ before.many;
       least = omega (arith, before.least, line.least);
       most = omega (arith, before.most, line.one, past.up);
@@ -60,22 +66,23 @@ pub returns-clause-highs : goal.returns-clause-highs
 returns-clause-highs g c =
     let text = c.args.after.now.text in
     let program = program_in text in
-    let count = length-program text.lines.now in
-    let end : c.loop-i.i ≡ length program = omega (arith, c.loop-i-test.false, c.len-in-loop-i.ensures, c.loop-i.invariant.within, count) in
+    let count : length program ≡ length c.args.lines.now = length-program text.lines.now ∙ sym (ap length c.requires.column) in
+    let end : c.loop-i.i ≡ length program = omega (arith, c.loop-i-test.false, c.loop-i.invariant.within, count) in
     highs-all text.base program c.loop-i.row.items (omega (arith, c.loop-i.invariant.many, count))
     (subst (λ n. AreHighsThrough text.base program n c.loop-i.row.items) end c.loop-i.invariant.row)
 
 -- no line has a high half
-pub returns-then-i-len-clause-highs : goal.returns-then-i-len-clause-highs
-returns-then-i-len-clause-highs g c =
+pub returns-then-i-lines-clause-highs : goal.returns-then-i-lines-clause-highs
+returns-then-i-lines-clause-highs g c =
     let text = c.args.after.now.text in
     let program = program_in text in
-    let past = c.up_to_pcrel_high-i.ensures in
-    let i = c.up_to_pcrel_high-i.result in
-    let end : i ≡ length program = omega (arith, c.if-i-len.true, c.len.ensures, past.within, length-program text.lines.now) in
+    let past = c.lines_up_to-i.ensures in
+    let i = c.lines_up_to-i.result in
+    let passed = subst (λ lines. AreWithout (is_sought PcrelHigh) (program_of lines) 0 i) c.requires.column past.passed in
+    let end : i ≡ length program = omega (arith, c.if-i-lines.true, past.within, length-program text.lines.now, ap length c.requires.column) in
     subst (AreHighs text.base program) (sym c.new.ensures.items)
     (highs-all text.base program [] (omega arith)
-    (subst (λ n. AreHighsThrough text.base program n []) end (highs-past text.base program 0 i [] past.up past.passed (highs-none text.base program 0))))
+    (subst (λ n. AreHighsThrough text.base program n []) end (highs-past text.base program 0 i [] past.up passed (highs-none text.base program 0))))
 
 pub returns-clause-parsed : goal.returns-clause-parsed
 returns-clause-parsed g c = c.loop-i.invariant.parsed

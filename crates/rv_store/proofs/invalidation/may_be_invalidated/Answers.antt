@@ -5,25 +5,25 @@ use Rattle.rv_store.specs.TextRows.{program_in}
 use Rattle.rv_store.proofs.ValidLines.{valid-by_brief, valid-by_plain}
 use Rattle.rv_store.proofs.invalidation.may_be_invalidated.Goals as goal
 
-pub returns-then-not-is_new : goal.returns-then-not-is_new
-returns-then-not-is_new c = λ t.
+pub returns-then-not-may_be_new : goal.returns-then-not-may_be_new
+returns-then-not-may_be_new c = λ t.
     let before = c.args.before.now in
     let after = c.args.after.now.text in
     valid-by_plain before after c.args.line c.requires.before c.requires.after c.requires.first c.requires.last c.args.differing.now c.requires.differing c.args.brief c.requires.brief
-    (λ new. c.if-not-is_new.true (c.place.ensures.only c.args.line new)) c.if-brief.true
+    (λ new. c.if-not-may_be_new.true (c.place.ensures.only c.args.line new)) c.if-brief.true
 
 pub returns-then-brief-3 : goal.returns-then-brief-3
 returns-then-brief-3 c = λ unmoved.
     let before = c.args.before.now in
     let after = c.args.after.now.text in
     valid-by_brief before after c.args.line c.requires.before c.requires.after c.requires.first c.requires.last c.args.differing.now c.requires.differing c.args.brief c.requires.brief
-    (λ new. c.if-is_new.false (c.place.ensures.only c.args.line new)) c.if-brief-2.false (c.meets.ensures c.if-meets.false)
-    (λ stood stands. ap (λ used. used && differs_in_place (base_before before) (program_in before.symbols.text) (program_in after) c.args.line stood) c.if-brief-3.true ∙ c.has_moved.ensures unmoved stood stands)
+    (λ new. c.if-may_be_new.false (c.place.ensures.only c.args.line new)) c.if-brief-2.false (c.meets.ensures c.if-meets.false)
+    (λ stood stands. ap (λ used. used && differs_in_place (base_before before) (program_in before.symbols.text) (program_in after) c.args.line stood) c.if-brief-3.true ∙ c.is_new_or_moved.ensures unmoved stood stands)
 
 pub returns-else-brief-3 : goal.returns-else-brief-3
 returns-else-brief-3 c = λ placeless.
     let before = c.args.before.now in
     let after = c.args.after.now.text in
     valid-by_brief before after c.args.line c.requires.before c.requires.after c.requires.first c.requires.last c.args.differing.now c.requires.differing c.args.brief c.requires.brief
-    (λ new. c.if-is_new.false (c.place.ensures.only c.args.line new)) c.if-brief-2.false (c.meets.ensures c.if-meets.false)
+    (λ new. c.if-may_be_new.false (c.place.ensures.only c.args.line new)) c.if-brief-2.false (c.meets.ensures c.if-meets.false)
     (λ stood stands. ap (λ used. used && differs_in_place (base_before before) (program_in before.symbols.text) (program_in after) c.args.line stood) placeless)

@@ -4,8 +4,8 @@ use Rattle.rv_store.specs.Sameness.{same_entry}
 use Rattle.rv_store.proofs.Sameness.{same_entry-Decides}
 use Rattle.rv_store.proofs.jumps.differs_in_local_distance.Goals as goal
 
-pub returns : goal.returns
-returns c =
+pub returns-clause-differs : goal.returns-clause-differs
+returns-clause-differs g c =
     let here = c.local_distance.result in
     let there = c.local_distance-2.result in
     ap not

@@ -3,7 +3,10 @@ use Rattle.std.proofs.lemmas.Bool.{eqb-true}
 use Rattle.std.proofs.lemmas.List.{append-nil, take_all, drop_all}
 use Rattle.rv_expr.specs.declared.faults.ValueFault.TheVariants.{NoPartner}
 use Rattle.rv_fix.specs.Values.{Entry}
+use Rattle.rv_store.specs.declared.lines.Sought.TheVariants.{PcrelHigh}
+use Rattle.rv_store.specs.LinesWithout.{is_sought, AreWithout}
 use Rattle.rv_store.specs.PairedHighs.{ArePairedThrough}
+use Rattle.rv_store.specs.Program.{program_of}
 use Rattle.rv_store.specs.Rows.{AreHighs, ArePairedHighs}
 use Rattle.rv_store.specs.TextRows.{program_in}
 use Rattle.rv_store.proofs.HighLaws.{high_of_line}
@@ -34,35 +37,38 @@ pub loop-i-init : goal.loop-i-init
 loop-i-init c =
     let text = c.args.text.now in
     let program = program_in text in
-    let count = c.len.result in
-    let past = c.up_to_pcrel_high-i.ensures in
+    let count = length c.args.lines.now in
+    let past = c.lines_up_to-i.ensures in
+    let i = c.lines_up_to-i.result in
+    let passed = subst (λ lines. AreWithout (is_sought PcrelHigh) (program_of lines) 0 i) c.requires.column past.passed in
     record {
       within = past.within;
-      row = subst (ArePairedThrough text.base program c.up_to_pcrel_high-i.result) (sym c.in_ok-row.ensures)
-          (paired-past text.base program 0 c.up_to_pcrel_high-i.result (replicate count (Err NoPartner)) past.up past.passed
-          (paired-none text.base program count (c.len.ensures ∙ sym (length-program text.lines.now))));
+      row = subst (ArePairedThrough text.base program i) (sym c.in_ok-row.ensures)
+          (paired-past text.base program 0 i (replicate count (Err NoPartner)) past.up passed
+          (paired-none text.base program count (ap length c.requires.column ∙ sym (length-program text.lines.now))));
     }
 
 pub loop-i-preserved : goal.loop-i-preserved
 loop-i-preserved c =
     let text = c.args.text.now in
     let program = program_in text in
-    let past = c.up_to_pcrel_high-i-in-loop-i.ensures in
-    let next = c.up_to_pcrel_high-i-in-loop-i.result in
+    let past = c.lines_up_to-i-in-loop-i.ensures in
+    let next = c.lines_up_to-i-in-loop-i.result in
+    let passed = subst (λ lines. AreWithout (is_sought PcrelHigh) (program_of lines) (c.loop-i.i + 1) next) c.requires.column past.passed in
     let before = c.loop-i.invariant.row in
     let after = c.give_high.ensures.after in
     let row = c.give_high.new.row in
     record {
       within = past.within;
       row = subst (ArePairedThrough text.base program next) (sym (written c.loop-i.row.len row c.loop-i.row.items (after.many ∙ sym before.many) (omega (arith, c.loop-i.row.ok.0))))
-          (paired-past text.base program (c.loop-i.i + 1) next row past.up past.passed after);
+          (paired-past text.base program (c.loop-i.i + 1) next row past.up passed after);
     }
 
 pub returns : goal.returns
 returns c =
     let text = c.args.text.now in
     let program = program_in text in
-    let end : c.loop-i.i ≡ length program = omega (arith, c.loop-i-test.false, c.len-in-loop-i.ensures, c.loop-i.invariant.within, length-program text.lines.now) in
+    let end : c.loop-i.i ≡ length program = omega (arith, c.loop-i-test.false, c.loop-i.invariant.within, length-program text.lines.now, ap length c.requires.column) in
     paired-all text.base program c.loop-i.row.items (subst (λ n. ArePairedThrough text.base program n c.loop-i.row.items) end c.loop-i.invariant.row)
 
 pub give_high-requires-clause-high : goal.give_high-requires-clause-high
@@ -71,4 +77,4 @@ give_high-requires-clause-high c =
     let highs = c.args.highs.now in
     let i = c.loop-i.i in
     c.high_in-high.ensures
-    ∙ high_of_line text.base text.lines.now highs (i + 1) c.requires.highs (omega arith) (omega (arith, c.loop-i-test.true, c.len-in-loop-i.ensures))
+    ∙ high_of_line text.base text.lines.now highs (i + 1) c.requires.highs (omega arith) (omega (arith, c.loop-i-test.true, ap length c.requires.column))

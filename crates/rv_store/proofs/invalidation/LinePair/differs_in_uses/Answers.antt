@@ -3,7 +3,7 @@ use Rattle.std.specs.List.{list_any}
 use Rattle.std.proofs.lemmas.Bool.{or_parts, or_left, or_right, true≢false}
 use Rattle.rv_store.specs.Changes.{differs_in_place}
 use Rattle.rv_store.specs.LinePairs.{differs_in_name_on, program_before_pair, program_after_pair}
-use Rattle.rv_store.specs.NameSets.{brief_of_names, has_bucket, may_have, IsApart}
+use Rattle.rv_store.specs.NameSets.{brief_of_names, has_bucket, may_have, IsOutside}
 use Rattle.rv_store.specs.Program.{body_at}
 use Rattle.rv_store.specs.Uses.{names_used, uses_address, uses_local_label, uses_paired_high, is_equ}
 use Rattle.rv_store.proofs.LinePairLaws.{same-by_brief, uses-by_names}
@@ -21,7 +21,7 @@ returns-else-meets c =
     let is = c.brief_on-brief.ensures in
     let uncompared : (uses_local_label body || uses_paired_high body || is_equ body) ≡ false = sym (ap (λ b. b.uncompared) is) ∙ c.if-brief.false in
     let no_equ : is_equ body ≡ false = (or_parts (uses_local_label body || uses_paired_high body) (is_equ body) uncompared).1 in
-    let apart : IsApart (brief_of_names (names_used body)) c.args.differing.now = λ bucket has. sym (ap (λ b. may_have b.names bucket) is) ∙ c.meets.ensures c.if-meets.false bucket has in
+    let apart : IsOutside (brief_of_names (names_used body)) c.args.differing.now = λ bucket has. sym (ap (λ b. may_have b.names bucket) is) ∙ c.meets.ensures c.if-meets.false bucket has in
     let names : list_any (differs_in_name_on pair) (names_used body) ≡ false =
     none-passes (has_bucket c.args.differing.now) (differs_in_name_on pair) (c.requires.differing no_equ) (names_used body) apart in
     let address : brief.address ≡ uses_address body = ap (λ b. b.address) is in

@@ -7,27 +7,27 @@ use Rattle.rv_store.proofs.survey.Survey.by_rows.Goals as goal
 
 pub equ_values-requires-clause-rows : goal.equ_values-requires-clause-rows
 equ_values-requires-clause-rows g c = record {
-  defined = rw (c.in_column-lines.ensures, c.deref.ensures.value) c.requires.definitions;
-  placed = rw (c.in_column-lines.ensures, c.deref-2.ensures.value) (placed (base_before c.args.before.now) (program_of c.args.lines.now) c.args.sized.shapes.items _ c.requires.shapes c.requires.places);
-  located = rw (c.in_column-lines.ensures, length-program) c.requires.locals;
+  defined = rw (c.in_column-column.ensures, c.deref.ensures.value) c.requires.definitions;
+  placed = rw (c.in_column-column.ensures, c.deref-2.ensures.value) (placed (base_before c.args.before.now) (program_of c.args.lines.now) c.args.sized.shapes.items _ c.requires.shapes c.requires.places);
+  located = rw (c.in_column-column.ensures, length-program) c.requires.locals;
 }
 
 pub highs-requires-clause-rows : goal.highs-requires-clause-rows
 highs-requires-clause-rows g c = record {
   text = record {
-    defined = rw (c.in_column-lines.ensures, c.deref.ensures.value) c.requires.definitions;
-    placed = rw (c.in_column-lines.ensures, c.deref-2.ensures.value) (placed (base_before c.args.before.now) (program_of c.args.lines.now) c.args.sized.shapes.items _ c.requires.shapes c.requires.places);
-    located = rw (c.in_column-lines.ensures, length-program) c.requires.locals;
+    defined = rw (c.in_column-column.ensures, c.deref.ensures.value) c.requires.definitions;
+    placed = rw (c.in_column-column.ensures, c.deref-2.ensures.value) (placed (base_before c.args.before.now) (program_of c.args.lines.now) c.args.sized.shapes.items _ c.requires.shapes c.requires.places);
+    located = rw (c.in_column-column.ensures, length-program) c.requires.locals;
   };
-  constants = rw (c.in_column-lines.ensures, c.deref-3.ensures.value) c.requires.constants;
+  constants = rw (c.in_column-column.ensures, c.deref-3.ensures.value) c.requires.constants;
   equ_values = rw c.deref-4.ensures.value c.in_ok-equ_values.ensures.values;
 }
 
 pub paired_highs-requires-clause-rows : goal.paired_highs-requires-clause-rows
 paired_highs-requires-clause-rows g c = record {
-  defined = rw (c.in_column-lines.ensures, c.deref.ensures.value) c.requires.definitions;
-  placed = rw (c.in_column-lines.ensures, c.deref-2.ensures.value) (placed (base_before c.args.before.now) (program_of c.args.lines.now) c.args.sized.shapes.items _ c.requires.shapes c.requires.places);
-  located = rw (c.in_column-lines.ensures, length-program) c.requires.locals;
+  defined = rw (c.in_column-column.ensures, c.deref.ensures.value) c.requires.definitions;
+  placed = rw (c.in_column-column.ensures, c.deref-2.ensures.value) (placed (base_before c.args.before.now) (program_of c.args.lines.now) c.args.sized.shapes.items _ c.requires.shapes c.requires.places);
+  located = rw (c.in_column-column.ensures, length-program) c.requires.locals;
 }
 
 pub returns-clause-survey : goal.returns-clause-survey
@@ -39,9 +39,9 @@ returns-clause-survey g c = record {
   total = c.requires.total;
   places = placed (base_before c.args.before.now) (program_of c.args.lines.now) c.args.sized.shapes.items _ c.requires.shapes c.requires.places;
   locals = rw length-program c.requires.locals;
-  equ_values = rw length-program (rw c.in_column-lines.ensures at c.in_ok-equ_values.ensures.values);
-  highs = rw c.in_column-lines.ensures at c.in_ok-highs.ensures.highs;
-  paired_highs = rw c.in_column-lines.ensures at c.in_ok-paired_highs.ensures;
+  equ_values = rw length-program (rw c.in_column-column.ensures at c.in_ok-equ_values.ensures.values);
+  highs = rw c.in_column-column.ensures at c.in_ok-highs.ensures.highs;
+  paired_highs = rw c.in_column-column.ensures at c.in_ok-paired_highs.ensures;
 }
 
 pub returns-in_err-equ_values-clause-parsed : goal.returns-in_err-equ_values-clause-parsed

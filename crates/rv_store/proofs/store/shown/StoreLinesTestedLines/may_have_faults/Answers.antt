@@ -10,10 +10,13 @@ use Rattle.rv_store.proofs.QuietLines.{quiet-line}
 use Rattle.rv_store.proofs.store.shown.StoreLinesTestedLines.may_have_faults.Goals as goal
 
 pub place-requires : goal.place-requires
-place-requires c = record {
-  first = rw (← c.self.view_is) at c.requires;
-  last = rw (← c.self.view_is) at c.last_item-item.ensures.within;
-}
+place-requires c =
+    let some = rw (← c.self.view_is) at c.requires in
+    let within = rw (← c.self.view_is) at c.last_item-item.ensures.within in
+    record {
+      first = omega (arith, some, within);
+      last = omega (arith, some, within);
+    }
 
 pub returns-else-is_loud : goal.returns-else-is_loud
 returns-else-is_loud c = λ well_placed.

@@ -1,12 +1,15 @@
 use Rattle.std.proofs.Common.{◌≡◌, ◌≤◌, length}
 use Rattle.rv_store.specs.Before.{base_before, lines_before, edit_on}
 use Rattle.rv_store.specs.Changes.{is_due}
+use Rattle.rv_store.specs.Compared.{AreCompared}
+use Rattle.rv_store.specs.Counted.{counts_of}
 use Rattle.rv_store.specs.Program.{lines_that}
-use Rattle.rv_store.proofs.due.due_anywhere.Given as goal
+use Rattle.rv_store.proofs.due.due_lines.Given as goal
 
 -- the row holds those of the lines so far
 abbrev pub invariant-loop-i : goal.invariant-loop-i
-invariant-loop-i l = record {
+invariant-loop-i g l = record {
   within : l.i ≤ length l.after.text.lines.now;
   row : l.row.items ≡ lines_that (is_due (base_before l.before) (lines_before l.before) (edit_on l.before)) l.i;
+  compared : AreCompared l.before l.i (counts_of g.C.Count.parsed_count g.C.Count.valued_count g.C.Count.encoded_count l.initial.counter) (counts_of g.C.Count.parsed_count g.C.Count.valued_count g.C.Count.encoded_count l.counter);
 }
