@@ -53,7 +53,8 @@ fn answer_change<W: Sink>(
     answer_edit(block, sink, len, &edited)
 }
 
-// Writes a page after the answers before it.
+// Writes a page after the answers before it. It stays a call, so that an edit has not the blocks of all pages on the stack.
+#[inline(never)]
 fn answer_page<W: Sink>(
     block: &mut OutputBlock,
     sink: &mut W,
