@@ -318,7 +318,7 @@ fn push_fault_rows<V: View, L: TestedLines, W: Sink>(
     Ok(())
 }
 
-// Adds the whole text. All lines of the view are gone through twice, so they are handed over twice.
+// Adds the whole text. The lines of the view are gone through twice, the second time up to the last fault, so they are handed over twice.
 #[tactic(auto, unfolding(crate::specs::Faults::fault_text))]
 fn push_faults<V: View, L: TestedLines, W: Sink>(
     block: &mut OutputBlock,
