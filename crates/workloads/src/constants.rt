@@ -1,5 +1,6 @@
 //! The constants, paddings and lengths of a text of mixed lines are edited.
 
+use crate::deck::Deck;
 use crate::mixed::{BLOCK, HEAD, Mixed};
 use crate::random::Random;
 use crate::script::Script;
@@ -44,9 +45,9 @@ fn enter(alloc: Global, text: Mixed, script: &mut Script) -> Result<(), AllocErr
     Ok(())
 }
 
-// The constant that each block uses has another value for a while.
-fn change_step(alloc: Global, random: &mut Random, script: &mut Script) -> Result<(), AllocError> {
-    let line = format!(in alloc; ".equ step, {}", random.below(1024))?;
+// The constant that each block uses has another value for a while, in each round another one.
+fn change_step(alloc: Global, round: u32, script: &mut Script) -> Result<(), AllocError> {
+    let line = format!(in alloc; ".equ step, {}", round.saturating_add(8))?;
     script.replace(2, line.as_str())?;
     script.ask("syms")?;
     script.replace(2, ".equ step, 4")
@@ -56,10 +57,10 @@ fn change_step(alloc: Global, random: &mut Random, script: &mut Script) -> Resul
 fn change_row(
     alloc: Global,
     text: Mixed,
+    block: u32,
     random: &mut Random,
     script: &mut Script,
 ) -> Result<(), AllocError> {
-    let block = random.below(text.blocks());
     let Some((row, template)) = EDITS.get(random.place(EDITS.len())).copied() else {
         return Ok(());
     };
@@ -69,16 +70,18 @@ fn change_row(
     script.replace(number, text.line(alloc, block, row)?.as_str())
 }
 
-/// A text of about so many lines is entered, and its constants are edited.
+/// A text of about so many lines is entered, and its constants are edited, those of another block each time.
 pub fn script(alloc: Global, count: u32, seed: u32) -> Result<Script, AllocError> {
     let mut script = Script::new(alloc);
     let mut random = Random::at(seed, u32::MAX);
     let text = Mixed::of(seed, count);
     enter(alloc, text, &mut script)?;
-    for _ in 0..count / LINES {
-        match random.below(8) {
-            0 => change_step(alloc, &mut random, &mut script)?,
-            _ => change_row(alloc, text, &mut random, &mut script)?,
+    let mut blocks = Deck::below(alloc, text.blocks())?;
+    for round in 0..count / LINES {
+        if random.below(8) == 0 {
+            change_step(alloc, round, &mut script)?;
+        } else if let Some(block) = blocks.draw(&mut random) {
+            change_row(alloc, text, block, &mut random, &mut script)?;
         }
     }
     script.ask("list")?;

@@ -12,6 +12,7 @@
 
 mod compiled;
 mod constants;
+mod deck;
 mod digest;
 mod disassembly;
 mod locals;

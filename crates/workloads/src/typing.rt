@@ -1,6 +1,7 @@
 //! Lines of a text are typed key by key.
 
 use crate::compiled::{Compiled, FUNCTION};
+use crate::deck::Deck;
 use crate::open::enter;
 use crate::random::Random;
 use crate::script::Script;
@@ -26,10 +27,10 @@ const TYPED: [&str; 8] = [
 fn type_line(
     alloc: Global,
     text: Compiled,
+    function: u32,
     random: &mut Random,
     script: &mut Script,
 ) -> Result<(), AllocError> {
-    let function = random.below(text.functions());
     let number = text.number(function, random.below(FUNCTION.len() as u32));
     let block = Block::of(random.number(), function, text.functions());
     let line = block.line(alloc, random.word(&TYPED), random)?;
@@ -43,10 +44,10 @@ fn type_line(
 fn retype_end(
     alloc: Global,
     text: Compiled,
+    function: u32,
     random: &mut Random,
     script: &mut Script,
 ) -> Result<(), AllocError> {
-    let function = random.below(text.functions());
     let row = random.below(FUNCTION.len() as u32);
     let line = text.line(alloc, function, row)?;
     let kept = line.as_str().len().saturating_sub(3);
@@ -57,10 +58,9 @@ fn retype_end(
 fn rename(
     alloc: Global,
     text: Compiled,
-    random: &mut Random,
+    function: u32,
     script: &mut Script,
 ) -> Result<(), AllocError> {
-    let function = random.below(text.functions());
     let number = text.number(function, 0);
     let line = text.line(alloc, function, 0)?;
     let renamed = format!(in alloc; "renamed_{}", line.as_str())?;
@@ -69,28 +69,32 @@ fn rename(
     script.replace(number, line.as_str())
 }
 
-// Lines are typed, or a label is renamed, or the end of a line is typed anew.
+// A line of a function is typed, or the function is renamed, or the end of a line is typed anew.
 fn change(
     alloc: Global,
     text: Compiled,
+    function: u32,
     random: &mut Random,
     script: &mut Script,
 ) -> Result<(), AllocError> {
     match random.below(8) {
-        0 => rename(alloc, text, random, script),
-        1 | 2 => retype_end(alloc, text, random, script),
-        _ => type_line(alloc, text, random, script),
+        0 => rename(alloc, text, function, script),
+        1 | 2 => retype_end(alloc, text, function, random, script),
+        _ => type_line(alloc, text, function, random, script),
     }
 }
 
-/// A text of about so many lines is entered, and lines of it are typed.
+/// A text of about so many lines is entered, and lines of it are typed, those of another function each time.
 pub fn script(alloc: Global, count: u32, seed: u32) -> Result<Script, AllocError> {
     let mut script = Script::new(alloc);
     let mut random = Random::at(seed, u32::MAX);
     let text = Compiled::of(seed, count);
     enter(alloc, text, &mut script)?;
+    let mut functions = Deck::below(alloc, text.functions())?;
     for _ in 0..count / LINES {
-        change(alloc, text, &mut random, &mut script)?;
+        if let Some(function) = functions.draw(&mut random) {
+            change(alloc, text, function, &mut random, &mut script)?;
+        }
     }
     script.ask("image")?;
     Ok(script)
