@@ -80,11 +80,18 @@ pub fn spelled_bytes(alloc: Global, text: &str) -> Result<Vec<u8>, Fail> {
     Ok(bytes)
 }
 
-/// FNV-1a, of 64 bits.
-pub fn hash_of(bytes: &[u8]) -> u64 {
-    let mut hash: u64 = 0xcbf2_9ce4_8422_2325;
+/// The hash of no bytes: FNV-1a, of 64 bits.
+pub const NO_HASH: u64 = 0xcbf2_9ce4_8422_2325;
+
+/// The hash of bytes that come after others, which have this hash.
+pub fn hash_after(mut hash: u64, bytes: &[u8]) -> u64 {
     for byte in bytes {
         hash = (hash ^ u64::from(*byte)).wrapping_mul(0x0000_0100_0000_01b3);
     }
     hash
+}
+
+/// FNV-1a, of 64 bits.
+pub fn hash_of(bytes: &[u8]) -> u64 {
+    hash_after(NO_HASH, bytes)
 }

@@ -1,6 +1,7 @@
 //! Texts, their edits, and what is asked of them.
 
 mod answers;
+mod both_faults;
 mod edits;
 mod text;
 

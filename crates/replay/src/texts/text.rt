@@ -7,6 +7,7 @@ use crate::texts::answers::{
     address_text, base_text, code_text, fault_hash, line_text, print_answer, refusal_numbers,
     symbol_text, token_count,
 };
+use crate::texts::both_faults::compare_faults;
 use crate::texts::edits::{Edit, EditKind};
 use rv_list::{ListError, write_faults, write_image, write_listing, write_symbols};
 use rv_store::{EditError, Store};
@@ -109,7 +110,7 @@ impl<'a> Text<'a> {
         Ok(())
     }
 
-    // Makes an edit with this line, and prints what it answers. Whether it found no memory.
+    // Makes an edit with this line, and prints what it answers. The faults are then written in both ways. Whether it found no memory.
     fn make(
         &mut self,
         rt: &HostRuntime,
@@ -122,6 +123,7 @@ impl<'a> Text<'a> {
         self.tally = tally;
         print!(rt; "{row} => ")?;
         print_answer(rt, &answer)?;
+        compare_faults(&self.store)?;
         Ok(matches!(answer, Err(EditError::Memory)))
     }
 
@@ -148,6 +150,7 @@ impl<'a> Text<'a> {
         for _ in 0..number_in(count)? {
             append(&mut self.store, line)?;
         }
+        compare_faults(&self.store)?;
         println!(rt; "{row} => lines {}", self.store.len())?;
         Ok(())
     }
@@ -158,6 +161,7 @@ impl<'a> Text<'a> {
             let line = chain_line(rt.alloc(), place)?;
             append(&mut self.store, line.as_str())?;
         }
+        compare_faults(&self.store)?;
         println!(rt; "{row} => lines {}", self.store.len())?;
         Ok(())
     }
@@ -187,12 +191,17 @@ impl<'a> Text<'a> {
         if self.counts_at_most(most) {
             return Ok(format!(in alloc; "within")?);
         }
-        Ok(format!(in alloc;
+        Ok(self.counted_text(alloc)?)
+    }
+
+    // What the last edit counted.
+    fn counted_text(&self, alloc: Global) -> Result<String, AllocError> {
+        format!(in alloc;
             "read {}, values {}, encoded {}",
             self.tally.parsed_calls(),
             self.tally.valued_calls(),
             self.tally.encoded_calls()
-        )?)
+        )
     }
 
     // The answer of a question about a line.
@@ -211,6 +220,7 @@ impl<'a> Text<'a> {
         let (name, rest) = parts_of(question);
         match name {
             "counts" => self.counts_text(alloc, rest),
+            "counted" => Ok(self.counted_text(alloc)?),
             "symbol" => Ok(symbol_text(alloc, &self.store, rest)?),
             "length" => Ok(format!(in alloc; "{}", self.store.len())?),
             "hash" => fault_hash(alloc, &self.store),
