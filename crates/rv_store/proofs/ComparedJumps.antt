@@ -1,10 +1,10 @@
 -- What is counted where jumps to local labels are compared.
-use Rattle.std.proofs.Common.{◌≡◌, ℕ, suc, ◌+◌, ◌-◌, ◌≤◌, true, false, ◌&&◌, ◌||◌, List, [], ◌∷◌, Some, arith, ap, sym, ◌∙◌, refl}
+use Rattle.std.proofs.Common.{◌≡◌, ℕ, ◌+◌, ◌-◌, ◌≤◌, true, false, ◌&&◌, ◌||◌, List, [], ◌∷◌, Some, arith, ap, sym, ◌∙◌, refl}
 use Rattle.std.specs.List.{list_any}
 use Rattle.std.proofs.lemmas.Bool.{or_left, or_right}
 use Rattle.rv_text.specs.Counting.{Counts}
 use Rattle.rv_expr.specs.declared.tree.Direction.{Direction}
-use Rattle.rv_expr.specs.Tree.{Tree, Symbol, Local}
+use Rattle.rv_expr.specs.Tree.{Local}
 use Rattle.rv_stmt.specs.declared.operand.Operand.{Operand}
 use Rattle.rv_stmt.specs.declared.operand.OperandValue.{OperandValue}
 use Rattle.rv_stmt.specs.declared.operand.OperandValue.TheVariants.{Plain}
@@ -18,7 +18,7 @@ use Rattle.rv_store.specs.Before.{IsAfter, base_before, lines_before, edit_on}
 use Rattle.rv_store.specs.Changes.{program_after, is_new_or, differs_in_name, differs_in_place, differs_in_uses, is_invalidated}
 use Rattle.rv_store.specs.Compared.{compared_through, IsCompared, AreCompared}
 use Rattle.rv_store.specs.Edits.{line_before_edit}
-use Rattle.rv_store.specs.Jumps.{label_in, target_in, target_among, target_of}
+use Rattle.rv_store.specs.Jumps.{target_in, target_among, target_of}
 use Rattle.rv_store.specs.Program.{program_of, body_at}
 use Rattle.rv_store.specs.TextRows.{program_in}
 use Rattle.rv_store.specs.Uses.{has_local_label, expression_of, names_used, uses_address, uses_local_label, uses_paired_high, is_equ}

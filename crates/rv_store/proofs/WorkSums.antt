@@ -54,7 +54,7 @@ sized_or_high Auipc (o ∷ os) = at (is_size o.role)
     at false = let few = sized os in let one = one_high o.value in omega (arith, few, one)
 sized_or_high op os = let few = sized os in omega (arith, few)
 
-one_label : (target : Option Tree) → one_if_local target ≤ 1
+pub one_label : (target : Option Tree) → one_if_local target ≤ 1
 one_label None = omega arith
 one_label (Some (Local number direction)) = omega arith
 one_label (Some e) = omega arith
@@ -76,6 +76,18 @@ sized_or_local : (op : Op) (os : List Operand) → count_of_operand (size_operan
 sized_or_local op [] = let few = sized_or_high op [] in omega (arith, few)
 sized_or_local op (o ∷ []) = one_operand op o o.value o.role refl refl
 sized_or_local op (o ∷ p ∷ os) = let few = sized_or_high op (o ∷ p ∷ os) in omega (arith, few)
+
+among_few : (os : List Operand) → length os ≤ 1000 → length os + one_if_local (target_among os) ≤ 1000
+among_few [] few = omega arith
+among_few (o ∷ []) few = let one = one_label (target_in o.value o.role) in omega (arith, one)
+among_few (o ∷ p ∷ os) few = omega (arith, few)
+
+-- a line that is compared has one operand, so it takes few values and its comparison
+pub compared-few : (b : Body) → length (operands_of b) ≤ 1000 → value_operands b + compared_operands b ≤ 1000
+compared-few (body.Instr i) few = among_few i.operands few
+compared-few (body.Pseudo i) few = among_few i.operands few
+compared-few (body.Equ d) few = omega arith
+compared-few b few = omega (arith, few)
 
 -- a line computes each operand at most twice
 twice : (b : Body) → survey_operands b + compared_operands b + value_operands b ≤ 2 * length (operands_of b)

@@ -185,7 +185,7 @@ pub record IsUnsettled (base : ℕ) (names : List (List ℕ)) (line : List ℕ) 
 pub record AreCountedLonger (before : Before) (lines : List (List ℕ)) (old new : Counts) : Type 0 where
   pub parsed : new.parsed ≡ old.parsed
   pub valued_least : old.valued ≤ new.valued
-  pub valued_few : new.valued ≤ old.valued + 1004 * length lines
+  pub valued_few : new.valued ≤ old.valued + 1003 * length lines
   pub valued_most : new.valued + size_operands (body_at (program_of lines) (length lines))
       ≤ old.valued + work survey_operands (base_before before) (lines_before before) (edit_on before) (length lines) + compared_through before (length lines) + values_through before (length lines)
   pub encoded_least : old.encoded ≤ new.encoded
@@ -196,7 +196,7 @@ pub record AreCountedLonger (before : Before) (lines : List (List ℕ)) (old new
 pub record AreCountedAtEnd (base : ℕ) (lines : List (List ℕ)) (edit : Edit) (old new : Counts) : Type 0 where
   pub parsed : new.parsed ≡ old.parsed
   pub valued_least : old.valued ≤ new.valued
-  pub valued_few : new.valued ≤ old.valued + 1004 * (length lines + 1)
+  pub valued_few : new.valued ≤ old.valued + 1003 * (length lines + 1)
   pub valued_most : new.valued + size_operands (body_at (program_after lines edit) (length lines + 1)) ≤ old.valued + most_values base lines edit
   pub encoded_least : old.encoded ≤ new.encoded
   pub encoded_few : new.encoded ≤ old.encoded + (length lines + 1)

@@ -8,7 +8,7 @@ use Rattle.rv_store.specs.Text.{Edit, lines_after}
 pub record AreCountedAfter (base : ℕ) (lines : List (List ℕ)) (edit : Edit) (old new : Counts) : Type 0 where
   pub parsed : new.parsed ≡ old.parsed
   pub valued_least : old.valued ≤ new.valued
-  pub valued_few : new.valued ≤ old.valued + 1005 * length (lines_after lines edit)
+  pub valued_few : new.valued ≤ old.valued + 1004 * length (lines_after lines edit)
   pub valued_most : new.valued ≤ old.valued + most_values base lines edit
   pub encoded_least : old.encoded ≤ new.encoded
   pub encoded_few : new.encoded ≤ old.encoded + length (lines_after lines edit)

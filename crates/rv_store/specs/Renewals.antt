@@ -27,23 +27,24 @@ abbrev pub codes_through : Before → (n : ℕ) → ℕ
 codes_through before n = length (lines_that (is_reencoded (base_before before) (lines_before before) (edit_on before)) n)
 
 -- while the lines after line k up to line n are gone through, no more is counted than these may take, no line is read, and of
--- each line at most 1,000 values and one code are computed
+-- each line at most 1,000 values, its comparison counted too, and one code are computed
 pub record AreCounted (before : Before) (k n : ℕ) (old new : Counts) : Type 0 where
   pub parsed : new.parsed ≡ old.parsed
   pub valued_least : old.valued ≤ new.valued
   pub valued_most : new.valued + values_through before k ≤ old.valued + values_through before n
   pub valued_few : new.valued + 1000 * k ≤ old.valued + 1000 * n
+  pub valued_both : new.valued + 1000 * k + compared_through before n ≤ old.valued + 1000 * n + compared_through before k
   pub encoded_least : old.encoded ≤ new.encoded
   pub encoded_most : new.encoded + codes_through before k ≤ old.encoded + codes_through before n
   pub encoded_few : new.encoded + k ≤ old.encoded + n
 
 -- while the first n lines are looked at and those that are due are made anew, no more is counted than these may take, no line is read,
--- and of each line at most 1,001 values and one code are computed
+-- and of each line at most 1,000 values, its comparison counted too, and one code are computed
 pub record AreCountedRenewed (before : Before) (n : ℕ) (old new : Counts) : Type 0 where
   pub parsed : new.parsed ≡ old.parsed
   pub valued_least : old.valued ≤ new.valued
   pub valued_most : new.valued ≤ old.valued + compared_through before n + values_through before n
-  pub valued_few : new.valued ≤ old.valued + 1001 * n
+  pub valued_few : new.valued ≤ old.valued + 1000 * n
   pub encoded_least : old.encoded ≤ new.encoded
   pub encoded_most : new.encoded ≤ old.encoded + codes_through before n
   pub encoded_few : new.encoded ≤ old.encoded + n

@@ -98,7 +98,7 @@ pub fn renewed_items<'a, C: Count>(
     ensures changed { IfOk result (λ _. changed.new.items ≡ changed_lines base old_lines.now (edit_of edit.now)) }
     ensures parsed { C.parsed_count counter.new ≡ C.parsed_count counter.old }
     ensures valued_least { C.valued_count counter.old ≤ C.valued_count counter.new }
-    ensures valued_few { C.valued_count counter.new ≤ C.valued_count counter.old + 1001 * length lines.now }
+    ensures valued_few { C.valued_count counter.new ≤ C.valued_count counter.old + 1000 * length lines.now }
     ensures values { C.valued_count counter.new ≤ C.valued_count counter.old + work compared_operands base old_lines.now (edit_of edit.now) (length lines.now)
         + work value_operands base old_lines.now (edit_of edit.now) (length lines.now) }
     ensures encoded_least { C.encoded_count counter.old ≤ C.encoded_count counter.new }

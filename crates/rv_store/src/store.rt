@@ -300,7 +300,7 @@ impl Store {
         ensures changed { IfOk result (λ c. c.lines ≡ changed_lines self.old.base self.old.lines (Insert k line)) }
         ensures memory { IfErr result (λ e. e ≡ EditError.Memory) }
         ensures parsed { C.parsed_count counter.new ≡ C.parsed_count counter.old }
-        ensures valued { (C.valued_count counter.old ≤ C.valued_count counter.new) × (C.valued_count counter.new ≤ C.valued_count counter.old + 1004 * (length self.old.lines + 1)) }
+        ensures valued { (C.valued_count counter.old ≤ C.valued_count counter.new) × (C.valued_count counter.new ≤ C.valued_count counter.old + 1003 * (length self.old.lines + 1)) }
         ensures encoded { (C.encoded_count counter.old ≤ C.encoded_count counter.new) × (C.encoded_count counter.new ≤ C.encoded_count counter.old + length self.old.lines + 1) }
         ensures values { C.valued_count counter.new + size_operands (statement_of line).body ≤ C.valued_count counter.old + most_values self.old.base self.old.lines (Insert k line) }
         ensures codes { C.encoded_count counter.new ≤ C.encoded_count counter.old + most_codes self.old.base self.old.lines (Insert k line) }
@@ -346,7 +346,7 @@ impl Store {
         ensures changed { IfOk result (λ c. c.lines ≡ changed_lines self.old.base self.old.lines (Insert k line.now)) }
         ensures memory { IfErr result (λ e. e ≡ EditError.Memory) }
         ensures parsed { C.parsed_count counter.new ≡ C.parsed_count counter.old }
-        ensures valued { (C.valued_count counter.old ≤ C.valued_count counter.new) × (C.valued_count counter.new ≤ C.valued_count counter.old + 1005 * (length self.old.lines + 1)) }
+        ensures valued { (C.valued_count counter.old ≤ C.valued_count counter.new) × (C.valued_count counter.new ≤ C.valued_count counter.old + 1004 * (length self.old.lines + 1)) }
         ensures encoded { (C.encoded_count counter.old ≤ C.encoded_count counter.new) × (C.encoded_count counter.new ≤ C.encoded_count counter.old + length self.old.lines + 1) }
         ensures values { C.valued_count counter.new ≤ C.valued_count counter.old + most_values self.old.base self.old.lines (Insert k line.now) }
         ensures codes { C.encoded_count counter.new ≤ C.encoded_count counter.old + most_codes self.old.base self.old.lines (Insert k line.now) }
