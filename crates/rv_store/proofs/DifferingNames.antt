@@ -90,6 +90,10 @@ undefined : (text : TextRows) (name : List ℕ) → definition_of (program_in te
 undefined text name none =
     ap (λ place. by_definition (address_at text.base (program_in text)) (length text.lines.now) place (equ_value text.base (program_in text) (length text.lines.now) name)) none
 
+-- what a mark tells of two addresses it tells of them by other names
+pub told-of : (shift shift' : ℤ) (mark : Mark) (stood address stood' address' : ℕ) → TellsAddress shift mark stood address → shift ≡ shift' → stood ≡ stood' → address ≡ address' → TellsAddress shift' mark stood' address'
+told-of shift shift' mark stood address stood' address' told same same_stood same_address = rw (sym same, sym same_stood, sym same_address) told
+
 -- The symbols of a text before an edit and after it
 
 module _ (before : Before) (after : SymbolRows) (is : IsBefore before) (rows : AreSymbolRows after) (is_after : IsAfter before after.text) where

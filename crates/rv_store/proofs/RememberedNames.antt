@@ -10,10 +10,9 @@ use Rattle.rv_list.specs.declared.view.DefinitionPlace.{DefinitionPlace}
 use Rattle.rv_list.specs.declared.view.DefinitionPlace.TheVariants.{Nowhere, Label as ByLabel, Equ}
 use Rattle.rv_store.specs.declared.forgetting.Remembered.{Remembered}
 use Rattle.rv_store.specs.declared.survey.Survey.{Survey}
-use Rattle.rv_store.specs.Definitions.{definition_of, is_equ_on}
+use Rattle.rv_store.specs.Definitions.{definition_of}
 use Rattle.rv_store.specs.Forgetting.{is_defined, AreRemembered}
 use Rattle.rv_store.specs.Program.{Program}
-use Rattle.rv_store.specs.References.{equ_value}
 use Rattle.rv_store.specs.Rows.{number_of, entry_at, in_row, AreDefinitions, AreConstants, AreEquValues}
 use Rattle.rv_store.proofs.LastSymbols.{no-constant, no-equ_value}
 use Rattle.rv_store.proofs.NameRows.{position-cons, number-below, name-at}

@@ -75,17 +75,16 @@ fn uses(line: &Line, bucket: u16, symbol: &OneName<'_>) -> bool
 }
 
 // Whether one of the lines uses a symbol. The last lines are looked at first, since a symbol is mostly used near its definition.
-fn any_uses(mut lines: &[Line], name: &[u8]) -> bool
+fn any_uses(lines: &[Line], name: &[u8]) -> bool
     requires { length lines.now ≤ MAX_LINES }
-    ensures { result ≡ list_any (λ l. list_any (bytes_eq name.now) (names_used (statement_of l).body)) lines.entry.now }
+    ensures { result ≡ list_any (λ l. list_any (bytes_eq name.now) (names_used (statement_of l).body)) lines.now }
 {
     let bucket = bucket_of(name);
     let symbol = OneName { name };
-    while let [rest @ .., line] = lines {
-        if uses(line, bucket, &symbol) {
+    for k in (0..lines.len()).rev() {
+        if uses(&lines[k], bucket, &symbol) {
             return true;
         }
-        lines = rest;
     }
     false
 }

@@ -1,8 +1,7 @@
-use Rattle.std.proofs.Common.{◌≡◌, FitsSigned, to_z, of_z, w64, rules, arith, ap, sym, subst, ◌∙◌}
+use Rattle.std.proofs.Common.{◌≡◌, FitsSigned, to_z, of_z, w64, rules, arith, ap, sym, ◌∙◌}
 use Rattle.std.proofs.lemmas.Int.{ints}
-use Rattle.rv_store.specs.Differing.{TellsAddress}
 use Rattle.rv_store.specs.Rows.{number_of}
-use Rattle.rv_store.proofs.DifferingNames.{tells-label}
+use Rattle.rv_store.proofs.DifferingNames.{told-of, tells-label}
 use Rattle.rv_store.proofs.differing.mark_of_labels.Goals as goal
 
 pub returns : goal.returns
@@ -16,4 +15,4 @@ returns c =
     tells-label before after c.requires.before c.requires.rows c.requires.after name c.args.shift c.in_ok-stood.stood c.in_ok-address.address
     (c.in_ok-address.ensures.value name numbered) (c.in_ok-stood.ensures.value name numbered')
     (c.in_ok-address.ensures.label name numbered) (c.in_ok-stood.ensures.label name numbered') c.mark_of_label.result
-    (subst (λ s. TellsAddress s c.mark_of_label.result c.in_ok-stood.stood c.in_ok-address.address) same c.mark_of_label.ensures)
+    (told-of _ _ _ _ _ _ _ c.mark_of_label.ensures same (omega arith) (omega arith))
