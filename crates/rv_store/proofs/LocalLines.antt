@@ -302,3 +302,12 @@ AreLocals-next program i old new are with_them = λ k. with_them k ∙ ap (with_
     by : (k : ℕ) (b : Bool) → (if b then with_line (suc i) (lines_that (has_local program k) i) else lines_that (has_local program k) i) ≡ lines_that (has_local program k) i ++ (if b then suc i ∷ [] else [])
     by k true = with_line-next (has_local program k) i
     by k false = sym (append-nil (lines_that (has_local program k) i))
+
+-- behind a line without local labels the rows are the same
+pub locals-past : (lines : List (List ℕ)) (i : ℕ) (line : List ℕ) (rows : List (List ℕ)) → i < length lines → line ≡ get_or lines i line → has_local_labels (statement_of line).labels ≡ false → AreLocals (program_of lines) i rows → AreLocals (program_of lines) (i + 1) rows
+locals-past lines i line rows within is none are =
+    let program = program_of lines in
+    let next : suc i ≡ i + 1 = omega arith in
+    let statement : statement_of line ≡ statement_at program (suc i) = sym (statement-of-line lines i line within is) ∙ ap (statement_at program) (sym next) in
+    subst (λ k. AreLocals program k rows) next
+    (AreLocals-next program i rows rows are (subst (λ s. AreWithLabels (suc i) s.labels rows rows) statement (no-local_labels (suc i) (statement_of line).labels rows none)))

@@ -1,6 +1,6 @@
 //! The lines of local labels.
 
-ghost use Rattle.std.specs.Prelude.{◌≡◌, ◌≤◌, ◌<◌, ◌^◌, ℕ, [], nat_le, true, false, length, get_or, IfOk, IsTrue};
+ghost use Rattle.std.specs.Prelude.{◌≡◌, ◌≤◌, ◌<◌, ◌^◌, ℕ, [], nat_le, true, false, List, length, get_or, IfOk, IsTrue};
 ghost use Rattle.std.specs.List.{AllWithin};
 ghost use Rattle.std.specs.List.Sorted.{IsNonDecreasing};
 ghost use Rattle.rv_stmt.specs.Statement.{statement_of};
@@ -92,19 +92,20 @@ fn add_labels(
     Ok(())
 }
 
-// The labels of a line. One without local labels is gone past without a look at its statement.
-fn add_labels_of(
-    alloc: Global,
-    rows: &mut Vec<Sequence<u32>>,
-    line: &Line,
-    number: u32,
-) -> Result<(), AllocError>
-    ensures { IfOk result (λ _. AreWithLabels number (statement_of line.now).labels rows.old.items rows.new.items) }
+// The first of some lines, from this place on, that has local labels, or their end. Those without are gone past without a look at their
+// statements.
+fn first_labelled(lines: &[Line], i: usize) -> usize
+    requires within { i ≤ length lines.now }
+    ensures up { i ≤ result }
+    ensures within { result ≤ length lines.now }
+    ensures passed { (rows : List (List ℕ)) → AreLocals (program_of lines.now) i rows → AreLocals (program_of lines.now) result rows }
 {
-    if !line.brief().local_labels {
-        return Ok(());
+    for k in i..lines.len() {
+        if lines[k].brief().local_labels {
+            return k;
+        }
     }
-    add_labels(alloc, rows, line.stmt().labels.as_slice(), number)
+    lines.len()
 }
 
 /// Whether one of some labels is a local one.
@@ -215,8 +216,11 @@ impl Locals {
         ensures { IfOk result (λ l. AreLocals (program_of lines.now) (length lines.now) l) }
     {
         let mut rows = Vec::new(alloc);
-        for (i, line) in lines.iter().enumerate() {
-            add_labels_of(alloc, &mut rows, line, i as u32 + 1)?;
+        let mut i = first_labelled(lines, 0);
+        while i < lines.len() {
+            let labels = lines[i].stmt().labels.as_slice();
+            add_labels(alloc, &mut rows, labels, i as u32 + 1)?;
+            i = first_labelled(lines, i + 1);
         }
         Ok(Locals { rows })
     }
