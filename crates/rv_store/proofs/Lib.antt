@@ -47,6 +47,7 @@ pub mod LongerTexts
 pub mod MovedDefinitions
 pub mod NameRows
 pub mod NameSets
+pub mod NoLocals
 pub mod OnlySymbols
 pub mod PairedHighs
 pub mod PassedItems

@@ -31,7 +31,7 @@ use crate::edit_error::EditError;
 use crate::item::Item;
 use crate::line::Line;
 use crate::lines::Lines;
-use crate::locals::Locals;
+use crate::locals_after::locals_after;
 use crate::names::NameTable;
 use crate::places::Placed;
 use crate::renewal::renewed_all;
@@ -102,7 +102,7 @@ fn survey_with<C: Count>(
     let shapes = shapes_with(alloc, before.shapes, shape)?;
     let text = &symbols.text;
     let placed = Placed::with_last(alloc, text.base, &shapes, &shape, total, text.places)?;
-    let locals = Locals::of(alloc, lines)?;
+    let locals = locals_after(alloc, before, lines)?;
     let sized = ShapeRows { shapes, constants };
     Survey::by_rows(
         alloc,

@@ -34,6 +34,7 @@ mod line_sum;
 mod line_values;
 mod lines;
 mod locals;
+mod locals_after;
 mod moved_definitions;
 mod name_set;
 mod names;

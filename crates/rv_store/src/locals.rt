@@ -210,6 +210,13 @@ impl Locals {
         }
     }
 
+    /// Whether there are none.
+    pub fn is_empty(&self) -> bool
+        ensures { result ≡ true → self.now ≡ [] }
+    {
+        self.rows.is_empty()
+    }
+
     /// The local labels of a text.
     pub fn of(alloc: Global, lines: &[Line]) -> Result<Locals, AllocError>
         requires few { length lines.now ≤ MAX_LINES }

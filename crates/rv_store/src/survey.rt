@@ -23,6 +23,7 @@ use crate::limits::MAX_LINES;
 use crate::line::Line;
 use crate::lines::Lines;
 use crate::locals::Locals;
+use crate::locals_after::locals_after;
 use crate::moved_definitions::definitions_after;
 use crate::names::NameTable;
 use crate::paired_highs::paired_highs;
@@ -119,7 +120,7 @@ impl Survey {
         let before = self.before(old, base, names, edit);
         let sized = shapes(alloc, &before, lines, names, &definitions, counter)?;
         let placed = Placed::of(alloc, base, &sized.shapes)?;
-        let locals = Locals::of(alloc, lines)?;
+        let locals = locals_after(alloc, &before, lines)?;
         Survey::by_rows(
             alloc,
             &before,
