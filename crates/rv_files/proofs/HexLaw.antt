@@ -7,11 +7,11 @@ use Rattle.std.proofs.lemmas.List.{append-nil, length-take}
 use Rattle.std.proofs.lemmas.List.Elements.{All-head, All-tail}
 use Rattle.std.proofs.lemmas.List.Sums.{sum_by-append, sum_by-cons}
 use Rattle.rv_files.specs.Cells.{cells_from, cells_of}
-use Rattle.rv_files.specs.Hex.{Record, bytes_of_record, checksum, record_text, upper_of, upper_records, upper_after, data_record, data_records, start_record, end_record, stretches, stretches_of, row_count, hex_records, hex_text}
+use Rattle.rv_files.specs.Hex.{Record, Stretch, bytes_of_record, checksum, record_text, upper_of, upper_records, upper_after, data_record, data_records, start_record, end_record, stretches, stretches_of, row_count, hex_records, hex_text}
 use Rattle.rv_files.specs.HexLoading.{IsRow, AreRows, number_of, loaded, start_of, is_ended, Loads}
 use Rattle.rv_files.specs.Segments.{Segment, AreBytes, HoldBytes}
 use Rattle.rv_files.proofs.Bytes.{bytes_none, bytes_cons, bytes_append, bytes_take, bytes_drop}
-use Rattle.rv_files.proofs.LoadedCells.{cells_same, cells_cut}
+use Rattle.rv_files.proofs.LoadedCells.{cells_of_stretches, cells_same, cells_cut}
 
 -- Rows
 
@@ -62,11 +62,11 @@ sound_upper before after within = at (nat_eq before after)
     )
 
 -- at most sixteen bytes each
-abbrev AreShort : List Segment → Type 0
+abbrev AreShort : List Stretch → Type 0
 AreShort [] = Unit {0}
 AreShort (s ∷ later) = (length s.bytes ≤ 16) × AreBytes s.bytes × AreShort later
 
-short_append : (xs ys : List Segment) → AreShort xs → AreShort ys → AreShort (xs ++ ys)
+short_append : (xs ys : List Stretch) → AreShort xs → AreShort ys → AreShort (xs ++ ys)
 short_append [] ys a b = b
 short_append (x ∷ xs) ys a b = (a.0, a.1, short_append xs ys a.2 b)
 
@@ -82,7 +82,7 @@ short_cut (s ∷ later) h =
     (short_stretches (row_count (length s.bytes)) s.address s.bytes (All-head (λ x. AreBytes x.bytes) s later h))
     (short_cut later (All-tail (λ x. AreBytes x.bytes) s later h))
 
-sound_data : (upper : ℕ) (ss : List Segment) → AreShort ss → AreSound (data_records upper ss)
+sound_data : (upper : ℕ) (ss : List Stretch) → AreShort ss → AreSound (data_records upper ss)
 sound_data upper [] short = tt
 sound_data upper (s ∷ later) short =
     sound_append (upper_records upper (upper_of s.address)) (data_record s ∷ data_records (upper_of s.address) later)
@@ -114,7 +114,7 @@ loaded_upper before after rest within = at (nat_eq before after) refl
         let number : number_of (after / 256 ∷ after % 256 ∷ []) ≡ after = omega (arith, within) in
         ap (λ n. loaded n rest) number
 
-loaded_data : (upper : ℕ) (ss : List Segment) (tail : List Record) → loaded upper (data_records upper ss ++ tail) ≡ cells_of ss ++ loaded (upper_after upper ss) tail
+loaded_data : (upper : ℕ) (ss : List Stretch) (tail : List Record) → loaded upper (data_records upper ss ++ tail) ≡ cells_of_stretches ss ++ loaded (upper_after upper ss) tail
 loaded_data upper [] tail = refl
 loaded_data upper (s ∷ later) tail =
     let after = upper_of s.address in
@@ -124,12 +124,12 @@ loaded_data upper (s ∷ later) tail =
     ∙ loaded_upper upper after (data_record s ∷ (records ++ tail)) (omega arith)
     ∙ ap (λ l. l ++ loaded after (records ++ tail)) (cells_same (2 ^ 16 * after + s.address % 2 ^ 16) s.address s.bytes place)
     ∙ ap (λ l. cells_from s.address s.bytes ++ l) (loaded_data after later tail)
-    ∙ sym (append_assoc (cells_from s.address s.bytes) (cells_of later) (loaded (upper_after after later) tail))
+    ∙ sym (append_assoc (cells_from s.address s.bytes) (cells_of_stretches later) (loaded (upper_after after later) tail))
 
 loaded_hex : (segments : List Segment) (entry : ℕ) → loaded 0 (hex_records segments entry) ≡ cells_of segments
 loaded_hex segments entry =
     loaded_data 0 (flat_map stretches_of segments) (start_record entry ∷ end_record ∷ [])
-    ∙ append-nil (cells_of (flat_map stretches_of segments))
+    ∙ append-nil (cells_of_stretches (flat_map stretches_of segments))
     ∙ cells_cut segments
 
 -- The start
@@ -141,7 +141,7 @@ start_upper before after rest = at (nat_eq before after)
     at true = refl
     at false = refl
 
-start_data : (upper : ℕ) (ss : List Segment) (tail : List Record) → start_of (data_records upper ss ++ tail) ≡ start_of tail
+start_data : (upper : ℕ) (ss : List Stretch) (tail : List Record) → start_of (data_records upper ss ++ tail) ≡ start_of tail
 start_data upper [] tail = refl
 start_data upper (s ∷ later) tail =
     let after = upper_of s.address in
@@ -163,7 +163,7 @@ ended_upper before after rest = at (nat_eq before after)
     at true = refl
     at false = refl
 
-ended_data : (upper : ℕ) (ss : List Segment) (tail : List Record) → is_ended (data_records upper ss ++ tail) ≡ is_ended tail
+ended_data : (upper : ℕ) (ss : List Stretch) (tail : List Record) → is_ended (data_records upper ss ++ tail) ≡ is_ended tail
 ended_data upper [] tail = refl
 ended_data upper (s ∷ later) tail =
     let after = upper_of s.address in

@@ -5,7 +5,7 @@ use Rattle.std.proofs.lemmas.Grind.{flat_map-append}
 use Rattle.std.specs.List.{flat_map}
 use Rattle.rv_files.specs.Segments.{Segment}
 use Rattle.rv_files.proofs.Slices.{first_and_rest}
-use Rattle.rv_files.specs.Hex.{record_text, upper_of, upper_records, upper_after, data_records, data_record, start_record, end_record, stretches, stretches_of, row_count, hex_text}
+use Rattle.rv_files.specs.Hex.{Stretch, record_text, upper_of, upper_records, upper_after, data_records, data_record, start_record, end_record, stretches, stretches_of, row_count, hex_text}
 
 -- one more stretch of sixteen bytes
 pub next_stretch : (address : ℕ) (bytes : List ℕ) → 0 < length bytes → stretches address bytes (row_count (length bytes)) ≡ record { address = address; bytes = take 16 bytes } ∷ stretches ((address + 16) % 2 ^ 32) (drop 16 bytes) (row_count (length (drop 16 bytes)))
@@ -14,23 +14,23 @@ next_stretch address bytes some =
     rw count refl
 
 -- the records of some stretches, and of others after them
-pub records_then : (upper : ℕ) (xs ys : List Segment) → data_records upper (xs ++ ys) ≡ data_records upper xs ++ data_records (upper_after upper xs) ys
+pub records_then : (upper : ℕ) (xs ys : List Stretch) → data_records upper (xs ++ ys) ≡ data_records upper xs ++ data_records (upper_after upper xs) ys
 records_then upper [] ys = refl
 records_then upper (s ∷ xs) ys =
     ap (λ l. upper_records upper (upper_of s.address) ++ (data_record s ∷ l)) (records_then (upper_of s.address) xs ys)
     ∙ sym (append_assoc (upper_records upper (upper_of s.address)) (data_record s ∷ data_records (upper_of s.address) xs) (data_records (upper_after (upper_of s.address) xs) ys))
 
 -- and their rows
-abbrev pub rows_of : (upper : ℕ) → List Segment → List ℕ
+abbrev pub rows_of : (upper : ℕ) → List Stretch → List ℕ
 rows_of upper stretches = flat_map record_text (data_records upper stretches)
 
-pub rows_then : (upper : ℕ) (xs ys : List Segment) → rows_of upper (xs ++ ys) ≡ rows_of upper xs ++ rows_of (upper_after upper xs) ys
+pub rows_then : (upper : ℕ) (xs ys : List Stretch) → rows_of upper (xs ++ ys) ≡ rows_of upper xs ++ rows_of (upper_after upper xs) ys
 rows_then upper xs ys =
     ap (flat_map record_text) (records_then upper xs ys)
     ∙ flat_map-append record_text (data_records upper xs) (data_records (upper_after upper xs) ys)
 
 -- the rows of one stretch
-pub stretch_rows : (upper : ℕ) (s : Segment) → rows_of upper (s ∷ []) ≡ flat_map record_text (upper_records upper (upper_of s.address)) ++ record_text (data_record s)
+pub stretch_rows : (upper : ℕ) (s : Stretch) → rows_of upper (s ∷ []) ≡ flat_map record_text (upper_records upper (upper_of s.address)) ++ record_text (data_record s)
 stretch_rows upper s =
     flat_map-append record_text (upper_records upper (upper_of s.address)) (data_record s ∷ [])
     ∙ ap (λ l. flat_map record_text (upper_records upper (upper_of s.address)) ++ l) (append-nil (record_text (data_record s)))

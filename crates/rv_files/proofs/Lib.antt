@@ -1,5 +1,7 @@
 pub mod Bytes
 pub mod Cuts
+pub mod ElfLaw
+pub mod ElfSteps
 pub mod Examples
 pub mod Halfway
 pub mod HexLaw

@@ -4,8 +4,8 @@ use Rattle.std.proofs.lemmas.Bool.{cases_lt}
 use Rattle.std.proofs.lemmas.Grind.{flat_map-append}
 use Rattle.std.proofs.lemmas.List.{drop_all, length-take-le, length-drop, take-append-drop}
 use Rattle.std.specs.List.{flat_map}
-use Rattle.rv_files.specs.Cells.{cells_from, cells_of}
-use Rattle.rv_files.specs.Hex.{stretches, stretches_of, row_count}
+use Rattle.rv_files.specs.Cells.{Cell, cells_from, cells_of}
+use Rattle.rv_files.specs.Hex.{Stretch, stretches, stretches_of, row_count}
 use Rattle.rv_files.specs.Segments.{Segment}
 
 -- addresses are counted modulo 2^32
@@ -29,8 +29,11 @@ after_sixteen a bytes = at (cases_lt (length bytes) 16)
         let count : length (take 16 bytes) ≡ 16 = length-take-le 16 bytes many in
         cells_same ((a + 16) % 2 ^ 32) (a + length (take 16 bytes)) (drop 16 bytes) (omega (arith, count))
 
+abbrev pub cells_of_stretches : List Stretch → List Cell
+cells_of_stretches ss = flat_map (λ s. cells_from s.address s.bytes) ss
+
 -- stretches have the bytes that they were cut from
-cells_stretches : (n a : ℕ) (bytes : List ℕ) → length bytes ≤ 16 * n → cells_of (stretches a bytes n) ≡ cells_from a bytes
+cells_stretches : (n a : ℕ) (bytes : List ℕ) → length bytes ≤ 16 * n → cells_of_stretches (stretches a bytes n) ≡ cells_from a bytes
 cells_stretches zero a [] few = refl
 cells_stretches zero a (b ∷ bytes) few = absurd (omega (arith, few))
 cells_stretches (suc n) a bytes few =
@@ -39,8 +42,8 @@ cells_stretches (suc n) a bytes few =
     ∙ sym (cells_append a (take 16 bytes) (drop 16 bytes))
     ∙ ap (cells_from a) (take-append-drop 16 bytes)
 
-pub cells_cut : (segments : List Segment) → cells_of (flat_map stretches_of segments) ≡ cells_of segments
+pub cells_cut : (segments : List Segment) → cells_of_stretches (flat_map stretches_of segments) ≡ cells_of segments
 cells_cut [] = refl
 cells_cut (s ∷ later) =
-    flat_map-append (λ x. cells_from x.address x.bytes) (stretches_of s) (flat_map stretches_of later)
+    flat_map-append (λ (x : Stretch). cells_from x.address x.bytes) (stretches_of s) (flat_map stretches_of later)
     ∙ rw (cells_stretches (row_count (length s.bytes)) s.address s.bytes (omega arith), cells_cut later) refl

@@ -5,6 +5,11 @@ use Rattle.rv_files.specs.Segments.{Segment}
 
 -- Rows
 
+-- a stretch of bytes, at the address of the first
+pub record Stretch : Type 0 where
+  pub address : ℕ
+  pub bytes : List ℕ
+
 -- a record: its type, its 16 bits of address, and its data
 pub record Record : Type 0 where
   pub kind : ℕ
@@ -38,7 +43,7 @@ record_text r = row_text (bytes_of_record r ++ checksum (bytes_of_record r) ∷ 
 -- The rows of a file
 
 -- data, at the lower 16 bits of their address
-abbrev pub data_record : Segment → Record
+abbrev pub data_record : Stretch → Record
 data_record s = record { kind = 0; offset = s.address % 2 ^ 16; content = s.bytes }
 
 -- the upper 16 bits of an address
@@ -67,22 +72,22 @@ abbrev pub row_count : ℕ → ℕ
 row_count size = (size + 15) / 16
 
 -- so many stretches of sixteen bytes, or of what is left; their addresses are counted modulo 2^32
-abbrev pub stretches : (address : ℕ) → List ℕ → (count : ℕ) → List Segment
+abbrev pub stretches : (address : ℕ) → List ℕ → (count : ℕ) → List Stretch
 stretches address bytes zero = []
 stretches address bytes (suc count) =
     record { address = address; bytes = take 16 bytes } ∷ stretches ((address + 16) % 2 ^ 32) (drop 16 bytes) count
 
-abbrev pub stretches_of : Segment → List Segment
+abbrev pub stretches_of : Segment → List Stretch
 stretches_of s = stretches s.address s.bytes (row_count (length s.bytes))
 
 -- the records of some stretches, after records whose addresses had these upper 16 bits
-abbrev pub data_records : (upper : ℕ) → List Segment → List Record
+abbrev pub data_records : (upper : ℕ) → List Stretch → List Record
 data_records upper [] = []
 data_records upper (s ∷ later) =
     upper_records upper (upper_of s.address) ++ (data_record s ∷ data_records (upper_of s.address) later)
 
 -- the upper 16 bits of the addresses after some stretches
-abbrev pub upper_after : (upper : ℕ) → List Segment → ℕ
+abbrev pub upper_after : (upper : ℕ) → List Stretch → ℕ
 upper_after upper [] = upper
 upper_after upper (s ∷ later) = upper_after (upper_of s.address) later
 

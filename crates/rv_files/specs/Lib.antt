@@ -1,9 +1,11 @@
 pub mod Bin
 pub mod Cells
-pub mod DefinedSymbols
+pub mod Elf
+pub mod ElfLoading
 pub mod Hex
 pub mod HexLoading
 pub mod Lines
 pub mod Loading
 pub mod Segments
+pub mod Symbols
 pub mod TextReports

@@ -1,5 +1,5 @@
 -- The reports of a text: that of each fault of each line, and how many there are.
-use Rattle.std.specs.Prelude.{ℕ, ◌+◌, List, ◌++◌, length}
+use Rattle.std.specs.Prelude.{ℕ, ◌+◌, List, ◌++◌, length, map}
 use Rattle.std.specs.List.{flat_map}
 use Rattle.rv_fix.specs.Values.{operand_values_of}
 use Rattle.rv_list.specs.Faults.{faults_of, fault_rows}
@@ -11,7 +11,7 @@ use Rattle.rv_report.specs.Reports.{count_of_faults, report_of}
 use Rattle.rv_store.specs.LinesOfTexts.{names_from}
 use Rattle.rv_store.specs.Shown.{shown_of}
 use Rattle.rv_store.specs.Text.{Text}
-use Rattle.rv_files.specs.DefinedSymbols.{symbols_of}
+use Rattle.rv_files.specs.Symbols.{symbols_of}
 
 -- a line with what its reports may name
 abbrev pub reported_line : Text → (symbols : List (List ℕ)) → (number : ℕ) → ShownLine → Line
@@ -39,5 +39,5 @@ lines_reports style file text symbols count =
 -- and how many there are
 unfoldable pub text_reports : Style → (file : List ℕ) → Text → List ℕ
 text_reports style file text =
-    lines_reports style file text (symbols_of (shown_of text)) (shown_of text).count
+    lines_reports style file text (map (λ s. s.name) (symbols_of (shown_of text))) (shown_of text).count
     ++ count_of_faults file (length (fault_rows (shown_of text)))

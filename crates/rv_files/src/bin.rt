@@ -1,8 +1,8 @@
 //! The bytes of segments as they lie in memory, with zeros between them.
 
-ghost use Rattle.std.specs.Prelude.{◌≡◌, ◌-◌, ◌^◌, ◌<◌, length, replicate};
+ghost use Rattle.std.specs.Prelude.{◌≡◌, ◌-◌, ◌^◌, ◌<◌, replicate, IfOk};
 ghost use Rattle.rv_text.specs.Streams.{failures_after, Writes};
-ghost use Rattle.rv_files.specs.Bin.{bin_bytes};
+ghost use Rattle.rv_files.specs.Bin.{bin_bytes, bytes_up_to, end_of};
 
 use crate::segment::Segment;
 use rv_text::{Failed, Sink, write_all};
@@ -25,8 +25,25 @@ fn write_zeros<W: Sink>(sink: &mut W, count: u64) -> Result<(), Failed>
     write_all(sink, zeros)
 }
 
-/// Writes the bytes of segments from an address on, up to the first failure of the writer: zeros up to each segment, and then its
-/// bytes. The segments are given in ascending order.
+// Writes zeros from an address up to a segment, and then its bytes, or nothing where it has none. Says at which address they end.
+fn write_segment<W: Sink>(sink: &mut W, at: u64, segment: &Segment) -> Result<u64, Failed>
+    requires { W.failures sink.old < 2 ^ 64 - 1 }
+    ensures text { Writes (W.taken sink.old) (bytes_up_to at segment.now) result (W.taken sink.new) }
+    ensures end { IfOk result (λ end. end ≡ end_of at segment.now) }
+    ensures count { W.failures sink.new ≡ failures_after (W.failures sink.old) result }
+{
+    let bytes = segment.bytes();
+    if bytes.is_empty() {
+        return Ok(at);
+    }
+    let address = u64::from(segment.address());
+    write_zeros(sink, address.saturating_sub(at))?;
+    write_all(sink, bytes)?;
+    Ok(address + bytes.len() as u64)
+}
+
+/// Writes the bytes of segments from an address on, up to the first failure of the writer: zeros up to each segment that has bytes,
+/// and then its bytes. The segments are given in ascending order; zeros at the end are left out.
 ///
 /// # Errors
 ///
@@ -38,11 +55,7 @@ pub fn write_bin<W: Sink>(base: u32, mut segments: &[Segment], sink: &mut W) -> 
 {
     let mut at = u64::from(base);
     'segments: while let [segment, later @ ..] = segments {
-        let address = u64::from(segment.address());
-        let bytes = segment.bytes();
-        write_zeros(sink, address.saturating_sub(at))?;
-        write_all(sink, bytes)?;
-        at = address + bytes.len() as u64;
+        at = write_segment(sink, at, segment)?;
         segments = later;
     }
     Ok(())

@@ -1,12 +1,15 @@
 //! What holds of the lines of files and of the formats.
 
-ghost use Rattle.std.specs.Prelude.{◌≡◌, ℕ, ◌<◌, ◌^◌, List, All};
+ghost use Rattle.std.specs.Prelude.{◌≡◌, ℕ, ◌<◌, ◌≤◌, ◌^◌, List, length, All};
 ghost use Rattle.rv_files.specs.Bin.{bin_bytes, AreAscending, StandsIn};
 ghost use Rattle.rv_files.specs.Cells.{cells_of};
+ghost use Rattle.rv_files.specs.Elf.{start_of, elf_bytes};
+ghost use Rattle.rv_files.specs.ElfLoading.{elf_cells, elf_start, cells_in_memory, AreLoadable};
 ghost use Rattle.rv_files.specs.Hex.{Record, hex_text};
 ghost use Rattle.rv_files.specs.HexLoading.{AreRows, Loads};
 ghost use Rattle.rv_files.specs.Lines.{lines_of, AreLinesOf};
 ghost use Rattle.rv_files.specs.Segments.{Segment, HoldBytes};
+ghost use Rattle.rv_files.specs.Symbols.{Symbol};
 
 /// The lines of a file are its lines, and no other list is.
 pub fn lines_are_the_file()
@@ -28,4 +31,11 @@ pub fn hex_is_loaded()
 /// A text is the rows of one list of records at most, so that all loaders put the same into memory.
 pub fn hex_rows_are_unique()
     ensures { (text : List ℕ) (records others : List Record) → AreRows text records → AreRows text others → records ≡ others }
+{}
+
+/// A loader of segments as an ELF file puts exactly their bytes and their zeros into memory, at their addresses, and starts at the
+/// entry.
+pub fn elf_is_loaded()
+    ensures memory { (entry : ℕ) (segments : List Segment) (symbols : List Symbol) → length segments ≤ 6 → AreAscending (start_of segments) segments → AreLoadable segments → elf_cells (elf_bytes entry segments symbols) ≡ cells_in_memory segments }
+    ensures start { (entry : ℕ) (segments : List Segment) (symbols : List Symbol) → entry < 2 ^ 32 → elf_start (elf_bytes entry segments symbols) ≡ entry }
 {}

@@ -2,22 +2,30 @@
 #![tactic(auto)]
 
 mod bin;
-mod defined_symbols;
+mod elf;
+mod elf_headers;
+mod elf_symbols;
 mod hex;
 mod laws;
 mod limits;
 mod lines;
 mod loading;
+mod numbers;
 mod reporting;
 mod sections;
 mod segment;
+mod text_symbols;
 
 pub use bin::write_bin;
+pub use elf::{Elf, write_elf};
 pub use hex::write_hex;
-pub use laws::{bin_holds_the_segments, hex_is_loaded, hex_rows_are_unique, lines_are_the_file};
+pub use laws::{
+    bin_holds_the_segments, elf_is_loaded, hex_is_loaded, hex_rows_are_unique, lines_are_the_file,
+};
 pub use limits::LoadError;
 pub use lines::Lines;
 pub use loading::load;
 pub use reporting::{TextReports, text_reports};
 pub use sections::segments;
 pub use segment::Segment;
+pub use text_symbols::{Symbol, symbols};

@@ -8,10 +8,10 @@ ghost use Rattle.rv_report.specs.Lines.{line_of};
 ghost use Rattle.rv_report.specs.Reports.{report_of};
 ghost use Rattle.rv_store.specs.LinesOfTexts.{names_from};
 ghost use Rattle.rv_store.specs.Shown.{shown_of};
-ghost use Rattle.rv_files.specs.DefinedSymbols.{symbols_of};
+ghost use Rattle.rv_files.specs.Symbols.{symbols_of};
 ghost use Rattle.rv_files.specs.TextReports.{line_reports, lines_reports, text_reports};
 
-use crate::defined_symbols::{bytes_of_names, defined_symbols};
+use crate::text_symbols::{names, symbols};
 use arrayvec::ArrayVec;
 use rv_expr::Names;
 use rv_fix::operand_values;
@@ -144,10 +144,10 @@ pub fn text_reports(
     ensures text { IfOk result (λ r. r.text.items ≡ text_reports page.now.style page.now.file.now store.now) }
     ensures count { IfOk result (λ r. r.count ≡ length (fault_rows (shown_of store.now))) }
 {
-    let names = defined_symbols(alloc, &store)?;
-    let symbols = bytes_of_names(alloc, names.as_slice())?;
+    let symbols = symbols(alloc, &store)?;
+    let names = names(alloc, symbols.as_slice())?;
     let mut text = Vec::new(alloc);
-    let count = push_lines(&mut text, alloc, page, store, symbols.as_slice())?;
+    let count = push_lines(&mut text, alloc, page, store, names.as_slice())?;
     push_fault_count(&mut text, alloc, page.file, count)?;
     Ok(TextReports { text, count })
 }

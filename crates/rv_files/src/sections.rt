@@ -2,7 +2,7 @@
 
 ghost use Rattle.std.specs.Prelude.{◌≡◌, ◌<◌, ◌++◌, IfOk, OnOk};
 ghost use Rattle.rv_layout.specs.Sections.{sections};
-ghost use Rattle.rv_files.specs.Segments.{HoldBytes, segment_of, segment_with, segments_of};
+ghost use Rattle.rv_files.specs.Segments.{AreBytes, HoldBytes, segment_at, segments_of, unless_empty};
 
 use crate::segment::Segment;
 use rv_layout::{SECTIONS, section_number};
@@ -10,38 +10,35 @@ use rv_list::{View, section_bytes};
 use rv_stmt::Sect;
 use std::alloc::{AllocError, Global};
 
-// Adds the segment of these bytes, if there are some.
-fn push_segment(segments: &mut Vec<Segment>, address: u32, bytes: Vec<u8>) -> Result<(), AllocError>
-    ensures segments { OnOk result (segments.new.items ≡ segments.old.items ++ segment_with address bytes.items) }
+// What is loaded of a section.
+fn segment_at<V: View>(alloc: Global, view: &V, section: usize) -> Result<Segment, AllocError>
+    requires { section < sections }
+    ensures segment { IfOk result (λ segment. segment ≡ segment_at (V.shown view.now) section) }
+    ensures bytes { IfOk result (λ segment. AreBytes segment.bytes) }
+{
+    let place = view.section(section);
+    if section == section_number(Sect::Bss) {
+        let none = Vec::new(alloc);
+        return Ok(Segment::new(section, place.base, none, place.size));
+    }
+    let bytes = section_bytes(alloc, view, section)?;
+    Ok(Segment::new(section, place.base, bytes, 0))
+}
+
+// Adds a segment, unless nothing is loaded.
+fn push_unless_empty(segments: &mut Vec<Segment>, segment: Segment) -> Result<(), AllocError>
+    requires { AreBytes segment.bytes }
+    ensures segments { OnOk result (segments.new.items ≡ segments.old.items ++ unless_empty segment) }
     ensures bytes { OnOk result (HoldBytes segments.old.items → HoldBytes segments.new.items) }
 {
-    if bytes.is_empty() {
-        return Ok(());
+    if !segment.is_empty() {
+        segments.push(segment)?;
     }
-    segments.push(Segment::new(address, bytes))?;
     Ok(())
 }
 
-// Adds the segment of a section, if it has bytes that are shown.
-fn push_section<V: View>(
-    alloc: Global,
-    segments: &mut Vec<Segment>,
-    view: &V,
-    section: usize,
-) -> Result<(), AllocError>
-    requires { section < sections }
-    ensures segments { OnOk result (segments.new.items ≡ segments.old.items ++ segment_of (V.shown view.now) section) }
-    ensures bytes { OnOk result (HoldBytes segments.old.items → HoldBytes segments.new.items) }
-{
-    if section == section_number(Sect::Bss) {
-        return Ok(());
-    }
-    let bytes = section_bytes(alloc, view, section)?;
-    push_segment(segments, view.section(section).base, bytes)
-}
-
-/// The segments of a text: the bytes of each section that has some, in the order of the sections. Those of `.bss` are left out. What
-/// is written of them takes no more memory.
+/// The segments of a text: what is loaded of each section of which something is, in the order of the sections. That is its bytes,
+/// and of `.bss` its zeros. What is written of them takes no more memory.
 ///
 /// # Errors
 ///
@@ -52,7 +49,8 @@ pub fn segments<V: View>(alloc: Global, view: &V) -> Result<Vec<Segment>, AllocE
 {
     let mut segments = Vec::new(alloc);
     for section in 0..SECTIONS {
-        push_section(alloc, &mut segments, view, section)?;
+        let segment = segment_at(alloc, view, section)?;
+        push_unless_empty(&mut segments, segment)?;
     }
     Ok(segments)
 }

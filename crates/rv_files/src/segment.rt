@@ -1,15 +1,17 @@
-//! Stretches of bytes at addresses.
+//! What is loaded of a text.
 
-ghost use Rattle.std.specs.Prelude.{◌≡◌};
+ghost use Rattle.std.specs.Prelude.{◌≡◌, ◌+◌, ◌==◌, length};
 ghost use Rattle.rv_files.specs.Segments.{AreBytes};
 
 use std::marker::Model;
 
-/// Some bytes, and the address of the first. Contracts see both.
+/// What is loaded of a section: its number, its address, its bytes, and how many zeros come after them. Contracts see all of it.
 #[derive(Drop)]
 pub struct Segment {
+    section: usize,
     address: u32,
     bytes: Vec<u8>,
+    zeros: u32,
 }
 
 impl Model for Segment {
@@ -17,16 +19,28 @@ impl Model for Segment {
 
     ghost Value = { Segment };
 
-    ghost view = { λ s. record { address = s.address; bytes = s.bytes.items } };
+    ghost view = { λ s. record { section = s.section; address = s.address; bytes = s.bytes.items; zeros = s.zeros } };
 }
 
 impl Segment {
-    /// These bytes, from this address on.
-    pub fn new(address: u32, bytes: Vec<u8>) -> Segment
-        ensures value { result ≡ record { address = address; bytes = bytes.items } }
+    /// These bytes of a section, from this address on, and after them so many zeros.
+    pub fn new(section: usize, address: u32, bytes: Vec<u8>, zeros: u32) -> Segment
+        ensures value { result ≡ record { section = section; address = address; bytes = bytes.items; zeros = zeros } }
         ensures bytes { AreBytes result.bytes }
     {
-        Segment { address, bytes }
+        Segment {
+            section,
+            address,
+            bytes,
+            zeros,
+        }
+    }
+
+    /// The number of its section.
+    pub fn section(&self) -> usize
+        ensures { result ≡ self.now.section }
+    {
+        self.section
     }
 
     /// The address of the first byte.
@@ -41,5 +55,19 @@ impl Segment {
         ensures { result.now ≡ self.now.bytes }
     {
         self.bytes.as_slice()
+    }
+
+    /// How many zeros come after the bytes.
+    pub fn zeros(&self) -> u32
+        ensures { result ≡ self.now.zeros }
+    {
+        self.zeros
+    }
+
+    /// Whether nothing is loaded.
+    pub fn is_empty(&self) -> bool
+        ensures { result ≡ (length self.now.bytes + self.now.zeros == 0) }
+    {
+        self.bytes.is_empty() && self.zeros == 0
     }
 }

@@ -7,12 +7,29 @@ pub enum Format {
     Bin,
     /// Intel HEX.
     Hex,
+    /// ELF of 32 bits, with symbols.
+    Elf,
     /// The image, as the editor's command shows it.
     Image,
 }
 
 /// The formats by their names.
-pub const FORMATS: [&str; 3] = ["bin", "hex", "image"];
+pub const FORMATS: [&str; 4] = ["bin", "hex", "elf", "image"];
+
+// The formats by the endings of files.
+const ENDINGS: [(&str, Format); 4] = [
+    (".bin", Format::Bin),
+    (".hex", Format::Hex),
+    (".ihex", Format::Hex),
+    (".elf", Format::Elf),
+];
+
+// Whether a name ends with an ending, in letters of either case.
+fn has_ending(name: &str, ending: &str) -> bool {
+    let bytes = name.as_bytes();
+    let (_, last) = bytes.split_at(bytes.len().saturating_sub(ending.len()));
+    last.eq_ignore_ascii_case(ending.as_bytes())
+}
 
 impl Format {
     /// The format of a name.
@@ -20,17 +37,19 @@ impl Format {
         match name {
             "bin" => Some(Format::Bin),
             "hex" => Some(Format::Hex),
+            "elf" => Some(Format::Elf),
             "image" => Some(Format::Image),
             _ => None,
         }
     }
 
-    /// The format of a file by its ending: `.hex` and `.ihex` are Intel HEX, all others the bytes of memory.
+    /// The format of a file by its ending, in letters of either case. Other endings mean the bytes of memory.
     pub fn of_file(name: &str) -> Format {
-        if name.ends_with(".hex") || name.ends_with(".ihex") {
-            Format::Hex
-        } else {
-            Format::Bin
+        for (ending, format) in &ENDINGS {
+            if has_ending(name, ending) {
+                return *format;
+            }
         }
+        Format::Bin
     }
 }

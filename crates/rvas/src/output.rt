@@ -4,21 +4,22 @@ ghost use Rattle.std.specs.Prelude.{◌≡◌};
 
 use crate::failure::Failure;
 use crate::format::Format;
-use rv_files::{Segment, segments, write_bin, write_hex};
+use rv_files::{Elf, Segment, segments, symbols, write_bin, write_elf, write_hex};
 use rv_list::write_image;
 use rv_store::{Store, SymValue};
 use rv_text::{Failed, StdSink};
 use std::fs;
 use std::io::{self, Write};
 
-/// What a text is written as.
+/// What is written.
 #[derive(Drop)]
-pub struct Output<'a> {
-    store: &'a Store,
-    base: u32,
-    entry: u32,
-    format: Format,
-    segments: Vec<Segment>,
+pub enum Output<'a> {
+    /// The bytes of memory from this address on.
+    Bin(u32, Vec<Segment>),
+    /// Intel HEX, whose program starts at this address.
+    Hex(u32, Vec<Segment>),
+    Elf(Elf),
+    Image(&'a Store),
 }
 
 // The address at which the program starts.
@@ -39,24 +40,29 @@ impl<'a> Output<'a> {
         entry: Option<&str>,
         format: Format,
     ) -> Result<Output<'a>, Failure> {
-        Ok(Output {
-            store,
-            base,
-            entry: entry_of(store, base, entry)?,
-            format,
-            segments: segments(rt.alloc(), &store)?,
-        })
+        let entry = entry_of(store, base, entry)?;
+        let alloc = rt.alloc();
+        match format {
+            Format::Bin => Ok(Output::Bin(base, segments(alloc, &store)?)),
+            Format::Hex => Ok(Output::Hex(entry, segments(alloc, &store)?)),
+            Format::Elf => {
+                let symbols = symbols(alloc, &store)?;
+                let segments = segments(alloc, &store)?;
+                Ok(Output::Elf(Elf::of(alloc, entry, segments, symbols.as_slice())?))
+            }
+            Format::Image => Ok(Output::Image(store)),
+        }
     }
 
     // Writes it.
     fn write<W: Write>(&self, sink: &mut StdSink<W>) -> Result<(), Failed>
         requires { sink.old.failures ≡ 0 }
     {
-        let segments = self.segments.as_slice();
-        match self.format {
-            Format::Bin => write_bin(self.base, segments, sink),
-            Format::Hex => write_hex(segments, self.entry, sink),
-            Format::Image => write_image(&self.store, sink).map_err(|_| Failed),
+        match self {
+            Output::Bin(base, segments) => write_bin(*base, segments.as_slice(), sink),
+            Output::Hex(entry, segments) => write_hex(segments.as_slice(), *entry, sink),
+            Output::Elf(elf) => write_elf(elf, sink),
+            Output::Image(store) => write_image(store, sink).map_err(|_| Failed),
         }
     }
 
