@@ -1,6 +1,7 @@
 //! The symbols of a text.
 
 ghost use Rattle.std.specs.Prelude.{◌≡◌, ◌≤◌, ◌++◌, ◌∷◌, [], if◌then◌else◌, length, map, IfOk, OnOk};
+ghost use Rattle.rv_layout.specs.Sections.{section_number};
 ghost use Rattle.rv_list.specs.Shown.{shown_line};
 ghost use Rattle.rv_files.specs.Symbols.{symbol_of_label, symbols_of_labels, symbol_of_body, symbols_on, symbols_of};
 
@@ -72,6 +73,13 @@ fn push_if(
     Ok(())
 }
 
+// The number of the section that a label belongs to: that of its line, also where the line has no bytes.
+fn section_of_label(place: LinePlace) -> usize
+    ensures { result ≡ section_number place.section }
+{
+    section_number(place.section)
+}
+
 // Adds the symbol of a label, if this is its definition.
 fn push_label<V: View>(
     symbols: &mut Vec<Symbol>,
@@ -88,7 +96,7 @@ fn push_label<V: View>(
         LabelName::Symbol(symbol) => {
             let is_defined = view.definition(symbol.bytes()).is_label(line, index);
             let value = Some(i64::from(place.address));
-            let section = Some(section_number(place.section));
+            let section = Some(section_of_label(place));
             push_if(symbols, alloc, is_defined, symbol.bytes(), value, section)
         }
         LabelName::Local(_) => Ok(()),
