@@ -11,6 +11,8 @@ pub enum Failure {
     Base,
     /// The output would take the place of the input.
     SameFile,
+    /// Bytes would be written to a terminal.
+    Terminal,
     /// The text has no label of the name that `--entry` asks for.
     NoLabel,
     /// No fault has the name that is to be explained.
@@ -34,7 +36,11 @@ impl Failure {
     pub fn status(self) -> u8 {
         match self {
             Failure::Faulty => 1,
-            Failure::Base | Failure::SameFile | Failure::NoLabel | Failure::NoFault => 2,
+            Failure::Base
+            | Failure::SameFile
+            | Failure::Terminal
+            | Failure::NoLabel
+            | Failure::NoFault => 2,
             Failure::Read => 3,
             Failure::Write => 4,
             Failure::Memory => 5,

@@ -43,6 +43,11 @@ impl Format {
         }
     }
 
+    /// Whether it is text, which a terminal can show.
+    pub fn is_text(self) -> bool {
+        matches!(self, Format::Hex | Format::Image)
+    }
+
     /// The format of a file by its ending, in letters of either case. Other endings mean the bytes of memory.
     pub fn of_file(name: &str) -> Format {
         for (ending, format) in &ENDINGS {

@@ -7,6 +7,7 @@ mod failure;
 mod format;
 mod input;
 mod output;
+mod replacement;
 mod tasks;
 
 use arguments::{ArgumentFault, Arguments, Task, arguments_from};

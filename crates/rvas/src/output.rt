@@ -4,6 +4,7 @@ ghost use Rattle.std.specs.Prelude.{◌≡◌};
 
 use crate::failure::Failure;
 use crate::format::Format;
+use crate::replacement::Replacement;
 use rv_files::{Elf, Segment, segments, symbols, write_bin, write_elf, write_hex};
 use rv_list::write_image;
 use rv_store::{Store, SymValue};
@@ -66,21 +67,25 @@ impl<'a> Output<'a> {
         }
     }
 
-    // Writes it into a file.
-    fn write_file(&self, rt: &HostRuntime, name: &str) -> Result<(), Failed> {
+    // Writes it into a file. A plain file that is there stays as it was until all is written.
+    fn write_file(&self, rt: &HostRuntime, name: &str) -> Result<(), Failure> {
+        if let Some((file, replacement)) = Replacement::of(rt, name)? {
+            let written = self.write(&mut StdSink::new(file));
+            return replacement.settle(rt, written.is_ok());
+        }
         let Ok(file) = fs::create(rt, name) else {
-            return Err(Failed);
+            return Err(Failure::Write);
         };
         self.write(&mut StdSink::new(file))
+            .map_err(|_| Failure::Write)
     }
 
     /// Writes it into a file, or to standard output where its name is `-`.
     pub fn write_to(&self, rt: &HostRuntime, name: &str) -> Result<(), Failure> {
-        let written = if name == "-" {
-            self.write(&mut StdSink::new(io::writer(rt)))
-        } else {
-            self.write_file(rt, name)
-        };
-        written.map_err(|_| Failure::Write)
+        if name == "-" {
+            let written = self.write(&mut StdSink::new(io::writer(rt)));
+            return written.map_err(|_| Failure::Write);
+        }
+        self.write_file(rt, name)
     }
 }

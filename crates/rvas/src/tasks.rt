@@ -56,6 +56,9 @@ fn status_of(rt: &HostRuntime, done: Result<(), Failure>, file: &str, other: &st
         Failure::Faulty => Ok(()),
         Failure::Base => eprintln!(rt; "rvas: bad base"),
         Failure::SameFile => eprintln!(rt; "rvas: OUT and FILE are the same"),
+        Failure::Terminal => eprintln!(rt;
+            "rvas: bytes are not written to a terminal: name a file with -o"
+        ),
         Failure::NoLabel => eprintln!(rt; "rvas: no label '{other}'"),
         Failure::NoFault => eprintln!(rt; "rvas: no fault '{file}'"),
         Failure::Read => eprintln!(rt; "rvas: {}: cannot be read", shown_name(file)),
@@ -70,15 +73,21 @@ fn first_name<'a>(arguments: &Arguments<'a>) -> &'a str {
     arguments.names.first().copied().unwrap_or("-")
 }
 
-// Whether the output has the same file as the input.
+// Whether the output has the same plain file as the input.
 fn is_same_file(rt: &HostRuntime, file: &str, out: &str) -> bool {
-    if file == "-" || out == "-" {
-        return false;
-    }
+    let file = if file == "-" { "/dev/stdin" } else { file };
+    let out = if out == "-" { "/dev/stdout" } else { out };
     match (fs::metadata(rt, file), fs::metadata(rt, out)) {
-        (Ok(one), Ok(other)) => one.dev() == other.dev() && one.ino() == other.ino(),
+        (Ok(one), Ok(other)) => {
+            one.is_file() && one.dev() == other.dev() && one.ino() == other.ino()
+        }
         _ => false,
     }
+}
+
+// Whether bytes that are no text would be shown on a terminal.
+fn is_for_terminal(rt: &HostRuntime, out: &str, format: Format) -> bool {
+    out == "-" && !format.is_text() && rt.stdout().is_terminal()
 }
 
 // Assembles a file. Nothing is written where it has faults, unless that is asked for.
@@ -88,15 +97,18 @@ fn assemble_file(
     file: &str,
     out: &str,
 ) -> Result<(), Failure> {
+    let format = arguments.format.unwrap_or(Format::of_file(out));
     if is_same_file(rt, file, out) {
         return Err(Failure::SameFile);
+    }
+    if is_for_terminal(rt, out, format) {
+        return Err(Failure::Terminal);
     }
     let store = read_text(rt, file, arguments.base)?;
     let is_right = report_faults(rt, file, style_of(rt, arguments.color), &store)?;
     if !is_right && !arguments.force {
         return Err(Failure::Faulty);
     }
-    let format = arguments.format.unwrap_or(Format::of_file(out));
     let output = Output::of(rt, &store, arguments.base, arguments.entry, format)?;
     output.write_to(rt, out)?;
     if is_right {
