@@ -1,6 +1,7 @@
 //! What faults mean.
 
 use crate::failure::Failure;
+use crate::noting::unless_closed;
 use rv_text::number;
 
 /// What a fault means, with lines the last of which has it, and lines that have none.
@@ -173,5 +174,8 @@ pub fn explain(rt: &HostRuntime, name: &str) -> Result<(), Failure> {
         right,
     } = explanation;
     let said = println!(rt; "{name}: {meaning}\n\n    {wrong}    # {name}\n    {right}");
-    said.map_err(|_| Failure::Write)
+    match said {
+        Ok(()) => Ok(()),
+        Err(error) => unless_closed(error.kind()),
+    }
 }

@@ -1,6 +1,7 @@
 //! Why a task was not done.
 
 use std::alloc::AllocError;
+use std::io::ErrorKind;
 
 /// Why a task was not done.
 #[derive(Clone, Copy, Debug, PartialEq, Eq)]
@@ -17,12 +18,37 @@ pub enum Failure {
     NoLabel,
     /// No fault has the name that is to be explained.
     NoFault,
-    /// The file cannot be read.
-    Read,
-    /// The output cannot be written.
-    Write,
+    /// The file cannot be read, for this reason.
+    Read(&'static str),
+    /// The output cannot be written, for this reason.
+    Write(&'static str),
     /// There was no memory.
     Memory,
+}
+
+// Why a file cannot be read, and why one cannot be written, by the kind of the error. Other kinds have no words.
+const REASONS: [(ErrorKind, &str, &str); 11] = [
+    (ErrorKind::NotFound, "no such file", "no such folder"),
+    (ErrorKind::PermissionDenied, "no permission", "no permission"),
+    (ErrorKind::IsADirectory, "is a folder", "is a folder"),
+    (ErrorKind::NotADirectory, "no such folder", "no such folder"),
+    (ErrorKind::FilesystemLoop, "a loop of links", "a loop of links"),
+    (ErrorKind::InvalidFilename, "the name is too long", "the name is too long"),
+    (ErrorKind::FileTooLarge, "larger than 64 MiB", "the file is too large"),
+    (ErrorKind::StorageFull, "the disk is full", "the disk is full"),
+    (ErrorKind::QuotaExceeded, "the quota is used up", "the quota is used up"),
+    (ErrorKind::ReadOnlyFilesystem, "the disk is read-only", "the disk is read-only"),
+    (ErrorKind::BrokenPipe, "nobody reads it", "nobody reads it"),
+];
+
+// The words for a kind of error in reading and in writing.
+fn reasons_of(kind: ErrorKind) -> (&'static str, &'static str) {
+    for (known, unread, unwritten) in &REASONS {
+        if kind == *known {
+            return (*unread, *unwritten);
+        }
+    }
+    ("", "")
 }
 
 impl From<AllocError> for Failure {
@@ -32,6 +58,22 @@ impl From<AllocError> for Failure {
 }
 
 impl Failure {
+    /// A file cannot be read: an error of this kind occurred.
+    pub fn of_reading(kind: ErrorKind) -> Self {
+        match kind {
+            ErrorKind::OutOfMemory => Failure::Memory,
+            _ => Failure::Read(reasons_of(kind).0),
+        }
+    }
+
+    /// A file cannot be written: an error of this kind occurred.
+    pub fn of_writing(kind: ErrorKind) -> Self {
+        match kind {
+            ErrorKind::OutOfMemory => Failure::Memory,
+            _ => Failure::Write(reasons_of(kind).1),
+        }
+    }
+
     /// The status of the process.
     pub fn status(self) -> u8 {
         match self {
@@ -41,8 +83,8 @@ impl Failure {
             | Failure::Terminal
             | Failure::NoLabel
             | Failure::NoFault => 2,
-            Failure::Read => 3,
-            Failure::Write => 4,
+            Failure::Read(_) => 3,
+            Failure::Write(_) => 4,
             Failure::Memory => 5,
         }
     }

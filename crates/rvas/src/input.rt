@@ -14,9 +14,8 @@ fn bytes_of<R: Read + Drop>(rt: &HostRuntime, reader: R) -> Result<Vec<u8>, Fail
     let mut bytes = Vec::new(rt.alloc());
     match reader.take(MOST + 1).read_to_end(&mut bytes) {
         Ok(_) if bytes.len() as u64 <= MOST => Ok(bytes),
-        Ok(_) => Err(Failure::Read),
-        Err(error) if error.kind() == ErrorKind::OutOfMemory => Err(Failure::Memory),
-        Err(_) => Err(Failure::Read),
+        Ok(_) => Err(Failure::of_reading(ErrorKind::FileTooLarge)),
+        Err(error) => Err(Failure::of_reading(error.kind())),
     }
 }
 
@@ -27,8 +26,7 @@ pub fn read(rt: &HostRuntime, name: &str) -> Result<Vec<u8>, Failure> {
     }
     match fs::open(rt, name) {
         Ok(file) => bytes_of(rt, file),
-        Err(error) if error.kind() == ErrorKind::OutOfMemory => Err(Failure::Memory),
-        Err(_) => Err(Failure::Read),
+        Err(error) => Err(Failure::of_reading(error.kind())),
     }
 }
 

@@ -6,12 +6,14 @@ mod explain;
 mod failure;
 mod format;
 mod input;
+mod noting;
 mod output;
 mod replacement;
 mod tasks;
 
 use arguments::{ArgumentFault, Arguments, Task, arguments_from};
 use failure::Failure;
+use noting::unless_closed;
 use std::io::{self, ErrorKind};
 use std::process::ExitCode;
 use tasks::{assemble, check, disassemble_file, explain_fault, list};
@@ -32,13 +34,21 @@ fn status_of(rt: &HostRuntime, arguments: &Arguments<'_>) -> u8 {
     }
 }
 
+// Prints a text that was asked for, and gives the status.
+fn print_help(rt: &HostRuntime, text: String) -> u8 {
+    let Err(error) = rt.print(text) else {
+        return 0;
+    };
+    match unless_closed(error.kind()) {
+        Ok(()) => 0,
+        Err(failure) => failure.status(),
+    }
+}
+
 // Says why the arguments ask for nothing, and gives the status.
 fn refuse(rt: &HostRuntime, fault: ArgumentFault) -> u8 {
     match fault {
-        ArgumentFault::Help(text) => match rt.print(text) {
-            Ok(()) => 0,
-            Err(_) => Failure::Write.status(),
-        },
+        ArgumentFault::Help(text) => print_help(rt, text),
         ArgumentFault::Usage(text) => {
             let _ = rt.eprint(text);
             2

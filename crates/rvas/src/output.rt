@@ -4,6 +4,7 @@ ghost use Rattle.std.specs.Prelude.{◌≡◌};
 
 use crate::failure::Failure;
 use crate::format::Format;
+use crate::noting::Noting;
 use crate::replacement::Replacement;
 use rv_files::{Elf, Segment, segments, symbols, write_bin, write_elf, write_hex};
 use rv_list::write_image;
@@ -67,25 +68,33 @@ impl<'a> Output<'a> {
         }
     }
 
+    // Writes it to a writer.
+    fn write_out<W: Write + Drop>(&self, writer: W) -> Result<(), Failure> {
+        let mut sink = StdSink::new(Noting::new(writer));
+        match self.write(&mut sink) {
+            Ok(()) => Ok(()),
+            Err(_) => Err(Failure::of_writing(sink.writer.kind())),
+        }
+    }
+
     // Writes it into a file. A plain file that is there stays as it was until all is written.
     fn write_file(&self, rt: &HostRuntime, name: &str) -> Result<(), Failure> {
         if let Some((file, replacement)) = Replacement::of(rt, name)? {
-            let written = self.write(&mut StdSink::new(file));
-            return replacement.settle(rt, written.is_ok());
+            let written = self.write_out(file);
+            return replacement.settle(rt, written);
         }
-        let Ok(file) = fs::create(rt, name) else {
-            return Err(Failure::Write);
-        };
-        self.write(&mut StdSink::new(file))
-            .map_err(|_| Failure::Write)
+        match fs::create(rt, name) {
+            Ok(file) => self.write_out(file),
+            Err(error) => Err(Failure::of_writing(error.kind())),
+        }
     }
 
     /// Writes it into a file, or to standard output where its name is `-`.
     pub fn write_to(&self, rt: &HostRuntime, name: &str) -> Result<(), Failure> {
         if name == "-" {
-            let written = self.write(&mut StdSink::new(io::writer(rt)));
-            return written.map_err(|_| Failure::Write);
+            self.write_out(io::writer(rt))
+        } else {
+            self.write_file(rt, name)
         }
-        self.write_file(rt, name)
     }
 }

@@ -76,12 +76,22 @@ impl Replacement {
     }
 
     /// Takes the place, where the file was written; else it goes, and the other file stays.
-    pub fn settle(&self, rt: &HostRuntime, is_written: bool) -> Result<(), Failure> {
-        if is_written && fs::rename(rt, &self.name, &self.place).is_ok() {
-            return Ok(());
+    pub fn settle(&self, rt: &HostRuntime, written: Result<(), Failure>) -> Result<(), Failure> {
+        let settled = match written {
+            Ok(()) => self.take_place(rt),
+            Err(failure) => Err(failure),
+        };
+        if settled.is_err() {
+            self.drop_file(rt);
         }
-        self.drop_file(rt);
-        Err(Failure::Write)
+        settled
+    }
+
+    fn take_place(&self, rt: &HostRuntime) -> Result<(), Failure> {
+        match fs::rename(rt, &self.name, &self.place) {
+            Ok(()) => Ok(()),
+            Err(error) => Err(Failure::of_writing(error.kind())),
+        }
     }
 
     fn drop_file(&self, rt: &HostRuntime) {

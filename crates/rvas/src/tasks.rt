@@ -9,6 +9,7 @@ use crate::explain::explain;
 use crate::failure::Failure;
 use crate::format::Format;
 use crate::input::{read, read_text, shown_name};
+use crate::noting::{Noting, unless_closed};
 use crate::output::Output;
 use rv_dis::{DisRow, disassemble};
 use rv_files::text_reports;
@@ -47,6 +48,15 @@ fn report_faults(rt: &HostRuntime, name: &str, style: Style, store: &Store) -> R
     Ok(reports.count == 0)
 }
 
+// Says that something was not done with a file, and why, where that is known.
+fn say_about(rt: &HostRuntime, file: &str, what: &str, reason: &str) -> io::Result<()> {
+    if reason.is_empty() {
+        eprintln!(rt; "rvas: {file}: {what}")
+    } else {
+        eprintln!(rt; "rvas: {file}: {what}: {reason}")
+    }
+}
+
 // Says why a task was not done with a file, and gives the status.
 fn status_of(rt: &HostRuntime, done: Result<(), Failure>, file: &str, other: &str) -> u8 {
     let Err(failure) = done else {
@@ -61,8 +71,8 @@ fn status_of(rt: &HostRuntime, done: Result<(), Failure>, file: &str, other: &st
         ),
         Failure::NoLabel => eprintln!(rt; "rvas: no label '{other}'"),
         Failure::NoFault => eprintln!(rt; "rvas: no fault '{file}'"),
-        Failure::Read => eprintln!(rt; "rvas: {}: cannot be read", shown_name(file)),
-        Failure::Write => eprintln!(rt; "rvas: {other}: cannot be written"),
+        Failure::Read(reason) => say_about(rt, shown_name(file), "cannot be read", reason),
+        Failure::Write(reason) => say_about(rt, other, "cannot be written", reason),
         Failure::Memory => eprintln!(rt; "rvas: out of memory"),
     };
     failure.status()
@@ -153,9 +163,9 @@ pub fn check(rt: &HostRuntime, arguments: &Arguments<'_>) -> u8 {
 fn list_file(rt: &HostRuntime, arguments: &Arguments<'_>, file: &str) -> Result<(), Failure> {
     let store = read_text(rt, file, arguments.base)?;
     let is_right = report_faults(rt, file, style_of(rt, arguments.color), &store)?;
-    let mut sink = StdSink::new(io::writer(rt));
+    let mut sink = StdSink::new(Noting::new(io::writer(rt)));
     if write_listing(&&store, &mut sink).is_err() {
-        return Err(Failure::Write);
+        unless_closed(sink.writer.kind())?;
     }
     if is_right {
         Ok(())
@@ -190,11 +200,14 @@ fn write_rows(rt: &HostRuntime, file: &str, base: u32) -> Result<(), Failure> {
         return Err(Failure::Memory);
     };
     for row in rows.as_slice() {
-        if write_row(&mut out, row).is_err() {
-            return Err(Failure::Write);
+        if let Err(error) = write_row(&mut out, row) {
+            return unless_closed(error.kind());
         }
     }
-    out.flush().map_err(|_| Failure::Write)
+    match out.flush() {
+        Ok(()) => Ok(()),
+        Err(error) => unless_closed(error.kind()),
+    }
 }
 
 /// Disassembles a file of raw bytes, and gives the status.
