@@ -45,6 +45,11 @@ others_shown : shown_line (0xE2 ∷ 0x80 ∷ 0x9C ∷ 0xE2 ∷ 0x80 ∷ 97 ∷ 0
 unfolding shown_line
 others_shown = refl
 
+-- U+202E and U+061C
+turning_shown : shown_line (0xE2 ∷ 0x80 ∷ 0xAE ∷ 97 ∷ 0xD8 ∷ 0x9C ∷ []) ≡ codes "...a.."
+unfolding shown_line
+turning_shown = refl
+
 columns : column_of (9 ∷ 0xE2 ∷ 0x80 ∷ 0x9C ∷ 97 ∷ []) 1 ∷ column_of (9 ∷ 0xE2 ∷ 0x80 ∷ 0x9C ∷ 97 ∷ []) 2 ∷ column_of (9 ∷ 0xE2 ∷ 0x80 ∷ 0x9C ∷ 97 ∷ []) 4 ∷ column_of (codes "ab") 7 ∷ [] ≡ 8 ∷ 9 ∷ 9 ∷ 2 ∷ []
 columns = refl
 

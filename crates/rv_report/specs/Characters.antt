@@ -1,12 +1,21 @@
 -- How the bytes of a line are shown: each character in one column, a tab up to the next multiple of 8, and a dot for each
--- byte that is part of no character, or of a control character.
-use Rattle.std.specs.Prelude.{ℕ, zero, suc, ◌+◌, ◌-◌, ◌%◌, ◌==◌, nat_le, nat_lt, Bool, ◌&&◌, ◌||◌, List, [], ◌∷◌, ◌++◌, Option, Some, None, replicate, codes, if◌then◌else◌}
+-- byte that is part of no character, of a control character, or of one that changes the direction of text.
+use Rattle.std.specs.Prelude.{ℕ, zero, suc, ◌+◌, ◌-◌, ◌%◌, ◌==◌, nat_le, nat_lt, Bool, not, ◌&&◌, ◌||◌, List, [], ◌∷◌, ◌++◌, Option, Some, None, replicate, codes, if◌then◌else◌}
 use Rattle.bstr.specs.Utf8.{decoded}
 use Rattle.rv_report.specs.declared.characters.Place.{Place}
 
 -- a character that is no control character (Unicode Standard, section 23.1: those below 0x20 and from 0x7F to 0x9F)
+abbrev pub is_no_control : ℕ → Bool
+is_no_control c = nat_le 0x20 c && (nat_lt c 0x7F || nat_le 0xA0 c)
+
+-- a character that changes the direction of those after it (Unicode Standard Annex 9, section 2: the property Bidi_Control)
+abbrev pub turns_text : ℕ → Bool
+turns_text c =
+    c == 0x61C || (nat_le 0x200E c && nat_le c 0x200F) || (nat_le 0x202A c && nat_le c 0x202E) || (nat_le 0x2066 c && nat_le c 0x2069)
+
+-- a character that is shown as it is
 abbrev pub is_visible : ℕ → Bool
-is_visible c = nat_le 0x20 c && (nat_lt c 0x7F || nat_le 0xA0 c)
+is_visible c = is_no_control c && not (turns_text c)
 
 -- how many bytes such a character has, and 0 for any other and for none
 abbrev pub visible_size : Option ℕ → ℕ → ℕ

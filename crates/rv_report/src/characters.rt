@@ -1,7 +1,7 @@
 //! How the bytes of a line are shown.
 
 ghost use Rattle.std.specs.Prelude.{◌≡◌, ◌+◌, ◌-◌, ◌==◌, ◌&&◌, ◌≤◌, ◌++◌, length, OnOk, if◌then◌else◌};
-ghost use Rattle.rv_report.specs.Characters.{byte_in_message, byte_or_dot, cell, column_after, column_of, excerpt, is_visible, left_after, next, shown_from, size_of_first, start, width};
+ghost use Rattle.rv_report.specs.Characters.{byte_in_message, byte_or_dot, cell, column_after, column_of, excerpt, is_no_control, is_visible, left_after, next, shown_from, size_of_first, start, turns_text, width};
 
 use crate::text::Text;
 use bstr::decode_utf8;
@@ -22,11 +22,28 @@ const TAB: usize = 8;
 const EXCERPT: usize = 40;
 
 // Whether a character is no control character.
-fn is_visible(character: char) -> bool
+fn is_no_control(code: u32) -> bool
+    ensures { result ≡ is_no_control code }
+{
+    0x20 <= code && (code < 0x7f || 0xa0 <= code)
+}
+
+// Whether a character changes the direction of those after it.
+fn turns_text(code: u32) -> bool
+    ensures { result ≡ turns_text code }
+{
+    code == 0x61c
+        || (0x200e <= code && code <= 0x200f)
+        || (0x202a <= code && code <= 0x202e)
+        || (0x2066 <= code && code <= 0x2069)
+}
+
+/// Whether a character is shown as it is: it is no control character, and does not change the direction of text.
+pub fn is_visible(character: char) -> bool
     ensures { result ≡ is_visible character }
 {
     let code = u32::from(character);
-    0x20 <= code && (code < 0x7f || 0xa0 <= code)
+    is_no_control(code) && !turns_text(code)
 }
 
 // How many bytes the character has that begins some bytes, if it is one that is shown; otherwise 0.

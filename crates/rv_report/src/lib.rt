@@ -18,6 +18,7 @@ mod suggestions;
 mod text;
 mod value_messages;
 
+pub use characters::is_visible;
 pub use faulty_line::FaultyLine;
 pub use laws::limits_are_those_of_range;
 pub use messages::message;

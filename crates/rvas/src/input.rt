@@ -1,6 +1,7 @@
 //! Files that are read.
 
 use crate::failure::Failure;
+use crate::names::shown_file;
 use rv_files::{LoadError, load};
 use rv_store::{Store, base_ok};
 use std::fs;
@@ -30,14 +31,9 @@ pub fn read(rt: &HostRuntime, name: &str) -> Result<Vec<u8>, Failure> {
     }
 }
 
-/// The name of a file, as it is shown.
-pub fn shown_name(name: &str) -> &str {
-    if name == "-" { "<stdin>" } else { name }
-}
-
 // Reports a line past a limit.
 fn report_limit(rt: &HostRuntime, name: &str, error: LoadError) -> Failure {
-    let file = shown_name(name);
+    let file = shown_file(name);
     let _ = match error {
         LoadError::LineTooLong(line) => eprintln!(rt;
             "{file}:{line}:1001: error: a line has at most 1000 bytes [line-too-long]"

@@ -6,6 +6,7 @@ mod explain;
 mod failure;
 mod format;
 mod input;
+mod names;
 mod noting;
 mod output;
 mod replacement;

@@ -8,7 +8,8 @@ use crate::arguments::{Arguments, Color};
 use crate::explain::explain;
 use crate::failure::Failure;
 use crate::format::Format;
-use crate::input::{read, read_text, shown_name};
+use crate::input::{read, read_text};
+use crate::names::{Shown, shown_file};
 use crate::noting::{Noting, unless_closed};
 use crate::output::Output;
 use rv_dis::{DisRow, disassemble};
@@ -39,8 +40,9 @@ fn style_of(rt: &HostRuntime, color: Color) -> Style {
 fn report_faults(rt: &HostRuntime, name: &str, style: Style, store: &Store) -> Result<bool, Failure>
     ensures { IfOk result (λ is_right. is_right ≡ (length (fault_rows (shown_of store.now)) == 0)) }
 {
+    let file = format!(in rt.alloc(); "{}", shown_file(name))?;
     let page = Page {
-        file: shown_name(name).as_bytes(),
+        file: file.as_bytes(),
         style,
     };
     let reports = text_reports(rt.alloc(), &page, store)?;
@@ -49,7 +51,7 @@ fn report_faults(rt: &HostRuntime, name: &str, style: Style, store: &Store) -> R
 }
 
 // Says that something was not done with a file, and why, where that is known.
-fn say_about(rt: &HostRuntime, file: &str, what: &str, reason: &str) -> io::Result<()> {
+fn say_about(rt: &HostRuntime, file: Shown<'_>, what: &str, reason: &str) -> io::Result<()> {
     if reason.is_empty() {
         eprintln!(rt; "rvas: {file}: {what}")
     } else {
@@ -69,10 +71,10 @@ fn status_of(rt: &HostRuntime, done: Result<(), Failure>, file: &str, other: &st
         Failure::Terminal => eprintln!(rt;
             "rvas: bytes are not written to a terminal: name a file with -o"
         ),
-        Failure::NoLabel => eprintln!(rt; "rvas: no label '{other}'"),
-        Failure::NoFault => eprintln!(rt; "rvas: no fault '{file}'"),
-        Failure::Read(reason) => say_about(rt, shown_name(file), "cannot be read", reason),
-        Failure::Write(reason) => say_about(rt, other, "cannot be written", reason),
+        Failure::NoLabel => eprintln!(rt; "rvas: no label '{}'", Shown(other)),
+        Failure::NoFault => eprintln!(rt; "rvas: no fault '{}'", Shown(file)),
+        Failure::Read(reason) => say_about(rt, shown_file(file), "cannot be read", reason),
+        Failure::Write(reason) => say_about(rt, Shown(other), "cannot be written", reason),
         Failure::Memory => eprintln!(rt; "rvas: out of memory"),
     };
     failure.status()
