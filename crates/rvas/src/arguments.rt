@@ -1,6 +1,7 @@
 //! The arguments of the program.
 
 use crate::format::{FORMATS, Format};
+use crate::names::Shown;
 use clap::error::ErrorKind;
 use clap::{Arg, ArgAction, ArgMatches, Command};
 use rv_store::base_ok;
@@ -18,8 +19,6 @@ pub enum ArgumentFault {
     Help(String),
     /// The arguments are wrong: what is wrong with them.
     Usage(String),
-    /// The value of `--base` is no base.
-    Base,
     /// There was no memory.
     Memory,
 }
@@ -221,18 +220,44 @@ fn task_named(name: &str) -> Option<Task> {
     None
 }
 
-// The base that a text spells as a whole, as the language spells numbers; without a text it is 0. Bytes may be disassembled from any
-// address on.
-fn base_of(task: Task, text: Option<&str>) -> Option<u32> {
-    let Some(text) = text else {
-        return Some(0);
-    };
+// The base that a text spells as a whole, as the language spells numbers. Bytes may be disassembled from any address on.
+fn base_named(task: Task, text: &str) -> Option<u32> {
     let base = u32::try_from(number(text.as_bytes())?).ok()?;
     if task == Task::Disassemble || base_ok(base) {
         Some(base)
     } else {
         None
     }
+}
+
+// The base that is given, or 0.
+fn base_of(alloc: Global, task: Task, text: Option<&str>) -> Result<u32, ArgumentFault> {
+    let Some(text) = text else {
+        return Ok(0);
+    };
+    if let Some(base) = base_named(task, text) {
+        return Ok(base);
+    }
+    let bases = match task {
+        Task::Disassemble => "a number below 2^32",
+        _ => "a multiple of 4096, at most 0x80000000",
+    };
+    let said = format!(in alloc; "rvas: '{}' is no base: {bases}\n", Shown(text))?;
+    Err(ArgumentFault::Usage(said))
+}
+
+// Whether standard input stands among the files more than once.
+fn repeats_input(names: &[&str]) -> bool {
+    let mut is_given = false;
+    for name in names {
+        if *name == "-" {
+            if is_given {
+                return true;
+            }
+            is_given = true;
+        }
+    }
+    false
 }
 
 // When reports have colors, by its name.
@@ -264,15 +289,16 @@ fn arguments_of<'a>(
 ) -> Result<Arguments<'a>, ArgumentFault> {
     let names = names_of(alloc, matches)?;
     let task = task_named(name).unwrap_or(Task::Explain);
-    let Some(base) = base_of(task, matches.get_str("base")) else {
-        return Err(ArgumentFault::Base);
-    };
+    if repeats_input(names.as_slice()) {
+        let said = format!(in alloc; "rvas: standard input can be read once: '-' is given twice\n")?;
+        return Err(ArgumentFault::Usage(said));
+    }
     Ok(Arguments {
         task,
         names,
         out: matches.get_str("output"),
         format: matches.get_str("format").and_then(Format::named),
-        base,
+        base: base_of(alloc, task, matches.get_str("base"))?,
         entry: matches.get_str("entry"),
         force: matches.get_flag("force"),
         color: color_named(matches.get_str("color")),

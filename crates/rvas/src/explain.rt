@@ -3,6 +3,7 @@
 use crate::failure::Failure;
 use crate::noting::unless_closed;
 use rv_text::number;
+use std::io;
 
 /// What a fault means, with lines the last of which has it, and lines that have none.
 #[derive(Clone, Copy)]
@@ -143,8 +144,23 @@ pub const EXPLANATIONS: [Explanation; 21] = [
     },
 ];
 
-// The place of the fault whose number a text is.
+// The reports that are about a file and no fault of its text, and what they mean.
+const LIMITS: [(&str, &str); 2] = [
+    (
+        "line-too-long",
+        "A line has at most 1000 bytes. Nothing is said of the other lines of a file with a longer one.",
+    ),
+    (
+        "too-many-lines",
+        "A text has at most 16384 lines. Nothing is said of the lines of a file with more of them.",
+    ),
+];
+
+// The place of the fault whose number a text is, in decimal.
 fn place_of(text: &str) -> Option<usize> {
+    if text.starts_with('0') {
+        return None;
+    }
     let number = number(text.as_bytes())?;
     usize::try_from(number).ok()?.checked_sub(1)
 }
@@ -162,20 +178,36 @@ fn explanation_of(name: &str) -> Option<&'static Explanation> {
     None
 }
 
-/// Says what the fault of a name, or of a number, means.
-pub fn explain(rt: &HostRuntime, name: &str) -> Result<(), Failure> {
-    let Some(explanation) = explanation_of(name) else {
-        return Err(Failure::NoFault);
-    };
+// Says what a fault means.
+fn explain_fault(rt: &HostRuntime, explanation: &Explanation) -> io::Result<()> {
     let Explanation {
         name,
         meaning,
         wrong,
         right,
     } = explanation;
-    let said = println!(rt; "{name}: {meaning}\n\n    {wrong}    # {name}\n    {right}");
+    println!(rt; "{name}: {meaning}\n\n    {wrong}    # {name}\n    {right}")
+}
+
+// Says what a limit of files means, if it has this name.
+fn explain_limit(rt: &HostRuntime, name: &str) -> Option<io::Result<()>> {
+    for (limit, meaning) in &LIMITS {
+        if limit.eq_ignore_ascii_case(name) {
+            return Some(println!(rt; "{limit}: {meaning}"));
+        }
+    }
+    None
+}
+
+/// Says what the fault of a name, or of a number, means.
+pub fn explain(rt: &HostRuntime, name: &str) -> Result<(), Failure> {
+    let said = match explanation_of(name) {
+        Some(explanation) => Some(explain_fault(rt, explanation)),
+        None => explain_limit(rt, name),
+    };
     match said {
-        Ok(()) => Ok(()),
-        Err(error) => unless_closed(error.kind()),
+        Some(Ok(())) => Ok(()),
+        Some(Err(error)) => unless_closed(error.kind()),
+        None => Err(Failure::NoFault),
     }
 }

@@ -25,6 +25,9 @@ pub fn read(rt: &HostRuntime, name: &str) -> Result<Vec<u8>, Failure> {
     if name == "-" {
         return bytes_of(rt, rt.reader());
     }
+    if name.contains('\0') {
+        return Err(Failure::Read("its name is not UTF-8"));
+    }
     match fs::open(rt, name) {
         Ok(file) => bytes_of(rt, file),
         Err(error) => Err(Failure::of_reading(error.kind())),

@@ -10,18 +10,23 @@ mod names;
 mod noting;
 mod output;
 mod replacement;
+mod sums;
 mod tasks;
+mod words;
 
 use arguments::{ArgumentFault, Arguments, Task, arguments_from};
 use failure::Failure;
+use names::Shown;
 use noting::unless_closed;
-use std::io::{self, ErrorKind};
 use std::process::ExitCode;
 use tasks::{assemble, check, disassemble_file, explain_fault, list};
+use words::words;
 
-// Says something on standard error, if it can be said.
-fn say(rt: &HostRuntime, text: &str) {
-    let _ = rt.eprintln(text);
+// Says some lines on standard error, if they can be said.
+fn say_lines(rt: &HostRuntime, text: &str) {
+    for line in text.lines() {
+        let _ = rt.eprintln(Shown(line));
+    }
 }
 
 // Does what is asked for, and gives the status.
@@ -51,35 +56,18 @@ fn refuse(rt: &HostRuntime, fault: ArgumentFault) -> u8 {
     match fault {
         ArgumentFault::Help(text) => print_help(rt, text),
         ArgumentFault::Usage(text) => {
-            let _ = rt.eprint(text);
+            say_lines(rt, text.as_str());
             2
         }
-        ArgumentFault::Base => {
-            say(rt, "rvas: bad base");
-            Failure::Base.status()
-        }
         ArgumentFault::Memory => {
-            say(rt, "rvas: out of memory");
+            say_lines(rt, "rvas: out of memory");
             Failure::Memory.status()
         }
     }
 }
 
-// Says why the arguments cannot be read, and gives the status.
-fn unread(rt: &HostRuntime, error: &io::Error) -> u8 {
-    if error.kind() == ErrorKind::OutOfMemory {
-        return refuse(rt, ArgumentFault::Memory);
-    }
-    say(rt, "rvas: bad arguments");
-    2
-}
-
 fn main(rt: HostRuntime) -> ExitCode {
-    let words = match std::env::args(&rt) {
-        Ok(words) => words,
-        Err(error) => return ExitCode::from(unread(&rt, &error)),
-    };
-    let Ok(words) = words.collect::<Vec<String>>(rt.alloc()) else {
+    let Ok(words) = words(&rt) else {
         return ExitCode::from(refuse(&rt, ArgumentFault::Memory));
     };
     match arguments_from(rt.alloc(), words.as_slice()) {

@@ -1,6 +1,6 @@
 //! What the program does.
 
-ghost use Rattle.std.specs.Prelude.{◌≡◌, ◌==◌, length, IfOk};
+ghost use Rattle.std.specs.Prelude.{◌≡◌, length, IfOk};
 ghost use Rattle.rv_list.specs.Faults.{fault_rows};
 ghost use Rattle.rv_store.specs.Shown.{shown_of};
 
@@ -12,22 +12,40 @@ use crate::input::{read, read_text};
 use crate::names::{Shown, shown_file};
 use crate::noting::{Noting, unless_closed};
 use crate::output::Output;
+use crate::sums::Sums;
 use rv_dis::{DisRow, disassemble};
 use rv_files::text_reports;
 use rv_list::write_listing;
 use rv_report::{Page, Style};
 use rv_store::Store;
 use rv_text::StdSink;
+use std::env::{self, VarError};
 use std::fs;
 use std::io::{self, IsTerminal, Write};
 use std::os::unix::fs::MetadataExt;
+
+// Whether the environment asks for no colors: NO_COLOR is set and not empty (no-color.org), or the terminal has none.
+fn is_without_colors(rt: &HostRuntime) -> bool {
+    let is_unwanted = match env::var(rt, "NO_COLOR") {
+        Ok(value) => !value.is_empty(),
+        Err(VarError::NotPresent) => false,
+        Err(_) => true,
+    };
+    if is_unwanted {
+        return true;
+    }
+    match env::var(rt, "TERM") {
+        Ok(terminal) => terminal.as_str() == "dumb",
+        Err(_) => false,
+    }
+}
 
 // How reports are shown.
 fn style_of(rt: &HostRuntime, color: Color) -> Style {
     let has_colors = match color {
         Color::Always => true,
         Color::Never => false,
-        Color::Auto => rt.stderr().is_terminal(),
+        Color::Auto => rt.stderr().is_terminal() && !is_without_colors(rt),
     };
     if has_colors {
         Style::Colored
@@ -36,9 +54,9 @@ fn style_of(rt: &HostRuntime, color: Color) -> Style {
     }
 }
 
-// Writes the reports of a text to standard error. Whether it has none.
-fn report_faults(rt: &HostRuntime, name: &str, style: Style, store: &Store) -> Result<bool, Failure>
-    ensures { IfOk result (λ is_right. is_right ≡ (length (fault_rows (shown_of store.now)) == 0)) }
+// Writes the reports of a text to standard error, and says how many faults they are of.
+fn report_faults(rt: &HostRuntime, name: &str, style: Style, store: &Store) -> Result<u32, Failure>
+    ensures { IfOk result (λ count. count ≡ length (fault_rows (shown_of store.now))) }
 {
     let file = format!(in rt.alloc(); "{}", shown_file(name))?;
     let page = Page {
@@ -47,7 +65,7 @@ fn report_faults(rt: &HostRuntime, name: &str, style: Style, store: &Store) -> R
     };
     let reports = text_reports(rt.alloc(), &page, store)?;
     let _ = rt.stderr().write_all(reports.text.as_slice());
-    Ok(reports.count == 0)
+    Ok(reports.count)
 }
 
 // Says that something was not done with a file, and why, where that is known.
@@ -117,7 +135,7 @@ fn assemble_file(
         return Err(Failure::Terminal);
     }
     let store = read_text(rt, file, arguments.base)?;
-    let is_right = report_faults(rt, file, style_of(rt, arguments.color), &store)?;
+    let is_right = report_faults(rt, file, style_of(rt, arguments.color), &store)? == 0;
     if !is_right && !arguments.force {
         return Err(Failure::Faulty);
     }
@@ -142,29 +160,33 @@ pub fn assemble(rt: &HostRuntime, arguments: &Arguments<'_>) -> u8 {
     status_of(rt, done, file, other)
 }
 
-// Reports the faults of a file.
-fn check_file(rt: &HostRuntime, arguments: &Arguments<'_>, file: &str) -> Result<(), Failure> {
-    let store = read_text(rt, file, arguments.base)?;
-    match report_faults(rt, file, style_of(rt, arguments.color), &store)? {
-        true => Ok(()),
-        false => Err(Failure::Faulty),
+// Reports the faults of a file, and says how many there are. A line past a limit is one.
+fn check_file(rt: &HostRuntime, arguments: &Arguments<'_>, file: &str) -> Result<u32, Failure> {
+    match read_text(rt, file, arguments.base) {
+        Ok(store) => report_faults(rt, file, style_of(rt, arguments.color), &store),
+        Err(Failure::Faulty) => Ok(1),
+        Err(failure) => Err(failure),
     }
 }
 
-/// Reports the faults of each file, and gives the greatest status.
+/// Reports the faults of each file, says how many there are in all, and gives the greatest status.
 pub fn check(rt: &HostRuntime, arguments: &Arguments<'_>) -> u8 {
-    let mut status = 0;
+    let mut sums = Sums::none();
     for file in arguments.names.as_slice() {
-        let done = check_file(rt, arguments, file);
-        status = status_of(rt, done, file, "").max(status);
+        let done = match check_file(rt, arguments, file) {
+            Ok(faults) => sums.add(faults),
+            Err(failure) => sums.miss(failure),
+        };
+        status_of(rt, done, file, "");
     }
-    status
+    sums.say(rt, arguments.names.len());
+    sums.status()
 }
 
 // Writes the listing of a file.
 fn list_file(rt: &HostRuntime, arguments: &Arguments<'_>, file: &str) -> Result<(), Failure> {
     let store = read_text(rt, file, arguments.base)?;
-    let is_right = report_faults(rt, file, style_of(rt, arguments.color), &store)?;
+    let is_right = report_faults(rt, file, style_of(rt, arguments.color), &store)? == 0;
     let mut sink = StdSink::new(Noting::new(io::writer(rt)));
     if write_listing(&&store, &mut sink).is_err() {
         unless_closed(sink.writer.kind())?;
