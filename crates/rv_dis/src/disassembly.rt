@@ -96,6 +96,24 @@ fn set_first(row: &mut DisRow, bytes: &[u8])
     }
 }
 
+/// The row that stands first in the bytes from an address on, if there are any: the first of those of `disassemble`, whatever comes after
+/// it. So the rows of many bytes can be shown one after another, without memory for all of them.
+pub fn first_row(bytes: &[u8], address: u32) -> Option<DisRow>
+    ensures first { IfSome result (λ row. IsFirst address bytes.now row) }
+    ensures none { IfNone result (bytes.now ≡ []) }
+{
+    let [byte, ..] = bytes else {
+        return None;
+    };
+    let mut row = DisRow::at(address);
+    if bytes.len() >= 2 {
+        set_first(&mut row, bytes);
+        return Some(row);
+    }
+    set_byte(&mut row, *byte);
+    Some(row)
+}
+
 /// The rows of the bytes from an address on: an instruction wherever the word of one stands, else `.half` of two bytes,
 /// and `.byte` of a last one.
 ///

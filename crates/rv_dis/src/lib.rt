@@ -13,7 +13,7 @@ mod pairs;
 mod row;
 mod text;
 
-pub use disassembly::disassemble;
+pub use disassembly::{disassemble, first_row};
 pub use error::DisError;
 pub use laws::{rows_are_unique, rows_give_the_bytes, texts_are_instructions, texts_assemble};
 pub use row::{DisRow, RowText};

@@ -290,7 +290,9 @@ fn arguments_of<'a>(
     let names = names_of(alloc, matches)?;
     let task = task_named(name).unwrap_or(Task::Explain);
     if repeats_input(names.as_slice()) {
-        let said = format!(in alloc; "rvas: standard input can be read once: '-' is given twice\n")?;
+        let said = format!(in alloc;
+            "rvas: standard input can be read once: '-' is given twice\n"
+        )?;
         return Err(ArgumentFault::Usage(said));
     }
     Ok(Arguments {

@@ -26,29 +26,29 @@ pub enum Failure {
     Memory,
 }
 
-// Why a file cannot be read, and why one cannot be written, by the kind of the error. Other kinds have no words.
-const REASONS: [(ErrorKind, &str, &str); 11] = [
-    (ErrorKind::NotFound, "no such file", "no such folder"),
-    (ErrorKind::PermissionDenied, "no permission", "no permission"),
-    (ErrorKind::IsADirectory, "is a folder", "is a folder"),
-    (ErrorKind::NotADirectory, "no such folder", "no such folder"),
-    (ErrorKind::FilesystemLoop, "a loop of links", "a loop of links"),
-    (ErrorKind::InvalidFilename, "the name is too long", "the name is too long"),
-    (ErrorKind::FileTooLarge, "larger than 64 MiB", "the file is too large"),
-    (ErrorKind::StorageFull, "the disk is full", "the disk is full"),
-    (ErrorKind::QuotaExceeded, "the quota is used up", "the quota is used up"),
-    (ErrorKind::ReadOnlyFilesystem, "the disk is read-only", "the disk is read-only"),
-    (ErrorKind::BrokenPipe, "nobody reads it", "nobody reads it"),
+// Why a file cannot be read or written, by the kind of the error. Other kinds have no words.
+const REASONS: [(ErrorKind, &str); 11] = [
+    (ErrorKind::NotFound, "no such file"),
+    (ErrorKind::NotADirectory, "no such folder"),
+    (ErrorKind::PermissionDenied, "no permission"),
+    (ErrorKind::IsADirectory, "is a folder"),
+    (ErrorKind::FilesystemLoop, "a loop of links"),
+    (ErrorKind::InvalidFilename, "the name is too long"),
+    (ErrorKind::FileTooLarge, "the file is too large"),
+    (ErrorKind::StorageFull, "the disk is full"),
+    (ErrorKind::QuotaExceeded, "the quota is used up"),
+    (ErrorKind::ReadOnlyFilesystem, "the disk is read-only"),
+    (ErrorKind::BrokenPipe, "nobody reads it"),
 ];
 
-// The words for a kind of error in reading and in writing.
-fn reasons_of(kind: ErrorKind) -> (&'static str, &'static str) {
-    for (known, unread, unwritten) in &REASONS {
+// The words for a kind of error.
+fn reason_of(kind: ErrorKind) -> &'static str {
+    for (known, reason) in &REASONS {
         if kind == *known {
-            return (*unread, *unwritten);
+            return *reason;
         }
     }
-    ("", "")
+    ""
 }
 
 impl From<AllocError> for Failure {
@@ -62,15 +62,16 @@ impl Failure {
     pub fn of_reading(kind: ErrorKind) -> Self {
         match kind {
             ErrorKind::OutOfMemory => Failure::Memory,
-            _ => Failure::Read(reasons_of(kind).0),
+            _ => Failure::Read(reason_of(kind)),
         }
     }
 
-    /// A file cannot be written: an error of this kind occurred.
+    /// A file cannot be written: an error of this kind occurred. A file that is not there is made, but not its folder.
     pub fn of_writing(kind: ErrorKind) -> Self {
         match kind {
             ErrorKind::OutOfMemory => Failure::Memory,
-            _ => Failure::Write(reasons_of(kind).1),
+            ErrorKind::NotFound => Failure::Write(reason_of(ErrorKind::NotADirectory)),
+            _ => Failure::Write(reason_of(kind)),
         }
     }
 

@@ -5,7 +5,7 @@ use crate::names::shown_file;
 use rv_files::{LoadError, load};
 use rv_store::{Store, base_ok};
 use std::fs;
-use std::io::{ErrorKind, Read};
+use std::io::Read;
 
 // The most bytes of a file.
 const MOST: u64 = 64 * 1024 * 1024;
@@ -15,7 +15,7 @@ fn bytes_of<R: Read + Drop>(rt: &HostRuntime, reader: R) -> Result<Vec<u8>, Fail
     let mut bytes = Vec::new(rt.alloc());
     match reader.take(MOST + 1).read_to_end(&mut bytes) {
         Ok(_) if bytes.len() as u64 <= MOST => Ok(bytes),
-        Ok(_) => Err(Failure::of_reading(ErrorKind::FileTooLarge)),
+        Ok(_) => Err(Failure::Read("larger than 64 MiB")),
         Err(error) => Err(Failure::of_reading(error.kind())),
     }
 }

@@ -13,7 +13,7 @@ use crate::names::{Shown, shown_file};
 use crate::noting::{Noting, unless_closed};
 use crate::output::Output;
 use crate::sums::Sums;
-use rv_dis::{DisRow, disassemble};
+use rv_dis::{DisRow, first_row};
 use rv_files::text_reports;
 use rv_list::write_listing;
 use rv_report::{Page, Style};
@@ -214,21 +214,28 @@ fn write_row<W: Write>(out: &mut W, row: &DisRow) -> io::Result<()> {
     }
 }
 
+// Writes the rows of some bytes from an address on, one after another.
+fn write_rows<W: Write>(out: &mut W, bytes: &[u8], base: u32) -> io::Result<()> {
+    let mut rest = bytes;
+    let mut address = base;
+    for _ in 0..bytes.len() {
+        let Some(row) = first_row(rest, address) else {
+            return out.flush();
+        };
+        write_row(out, &row)?;
+        address = address.wrapping_add(u32::from(row.len));
+        (_, rest) = rest.split_at(usize::from(row.len));
+    }
+    out.flush()
+}
+
 // Writes the rows of a file of raw bytes.
-fn write_rows(rt: &HostRuntime, file: &str, base: u32) -> Result<(), Failure> {
+fn write_bytes(rt: &HostRuntime, file: &str, base: u32) -> Result<(), Failure> {
     let bytes = read(rt, file)?;
-    let Ok(rows) = disassemble(rt.alloc(), bytes.as_slice(), base) else {
-        return Err(Failure::Memory);
-    };
     let Ok(mut out) = io::BufWriter::new(rt.alloc(), io::writer(rt)) else {
         return Err(Failure::Memory);
     };
-    for row in rows.as_slice() {
-        if let Err(error) = write_row(&mut out, row) {
-            return unless_closed(error.kind());
-        }
-    }
-    match out.flush() {
+    match write_rows(&mut out, bytes.as_slice(), base) {
         Ok(()) => Ok(()),
         Err(error) => unless_closed(error.kind()),
     }
@@ -237,7 +244,7 @@ fn write_rows(rt: &HostRuntime, file: &str, base: u32) -> Result<(), Failure> {
 /// Disassembles a file of raw bytes, and gives the status.
 pub fn disassemble_file(rt: &HostRuntime, arguments: &Arguments<'_>) -> u8 {
     let file = first_name(arguments);
-    status_of(rt, write_rows(rt, file, arguments.base), file, "-")
+    status_of(rt, write_bytes(rt, file, arguments.base), file, "-")
 }
 
 /// Says what a fault means, and gives the status.
