@@ -1,7 +1,7 @@
 //! Files that are read.
 
 use crate::failure::Failure;
-use crate::names::shown_file;
+use crate::names::{NOT_TEXT, shown_file, was_text};
 use rv_files::{LoadError, load};
 use rv_store::{Store, base_ok};
 use std::fs;
@@ -25,8 +25,8 @@ pub fn read(rt: &HostRuntime, name: &str) -> Result<Vec<u8>, Failure> {
     if name == "-" {
         return bytes_of(rt, rt.reader());
     }
-    if name.contains('\0') {
-        return Err(Failure::Read("its name is not UTF-8"));
+    if !was_text(name) {
+        return Err(Failure::Read(NOT_TEXT));
     }
     match fs::open(rt, name) {
         Ok(file) => bytes_of(rt, file),

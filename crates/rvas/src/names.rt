@@ -30,6 +30,14 @@ fn dots_of(character: char) -> &'static str {
     }
 }
 
+/// Why there is no file of a name that was not text (`words`).
+pub const NOT_TEXT: &str = "its name is not UTF-8";
+
+/// Whether a name was text when it was given.
+pub fn was_text(name: &str) -> bool {
+    !name.contains('\0')
+}
+
 /// The name of a file that is read, as it is shown.
 pub fn shown_file(name: &str) -> Shown<'_> {
     Shown(if name == "-" { "<stdin>" } else { name })

@@ -4,6 +4,7 @@ ghost use Rattle.std.specs.Prelude.{◌≡◌};
 
 use crate::failure::Failure;
 use crate::format::Format;
+use crate::names::{NOT_TEXT, was_text};
 use crate::noting::Noting;
 use crate::replacement::Replacement;
 use rv_files::{Elf, Segment, segments, symbols, write_bin, write_elf, write_hex};
@@ -79,6 +80,9 @@ impl<'a> Output<'a> {
 
     // Writes it into a file. A plain file that is there stays as it was until all is written.
     fn write_file(&self, rt: &HostRuntime, name: &str) -> Result<(), Failure> {
+        if !was_text(name) {
+            return Err(Failure::Write(NOT_TEXT));
+        }
         if let Some((file, replacement)) = Replacement::of(rt, name)? {
             let written = self.write_out(file);
             return replacement.settle(rt, written);
