@@ -11,8 +11,9 @@ use rv_files::{Elf, Segment, segments, symbols, write_bin, write_elf, write_hex}
 use rv_list::write_image;
 use rv_store::{Store, SymValue};
 use rv_text::{Failed, StdSink};
-use std::fs;
+use std::fs::{self, File};
 use std::io::{self, Write};
+use std::os::unix::fs::PermissionsExt;
 
 /// What is written.
 #[derive(Drop)]
@@ -32,6 +33,18 @@ fn entry_of(store: &Store, base: u32, name: Option<&str>) -> Result<u32, Failure
         (_, Some(_)) => Err(Failure::NoLabel),
         (_, None) => Ok(base),
     }
+}
+
+// Lets all execute a plain file who may read it.
+fn make_executable(file: &File) -> io::Result<()> {
+    let found = file.metadata()?;
+    if !found.is_file() {
+        return Ok(());
+    }
+    let mut permissions = found.permissions();
+    let mode = permissions.mode();
+    permissions.set_mode(mode | ((mode & 0o444) >> 2));
+    file.set_permissions(permissions)
 }
 
 impl<'a> Output<'a> {
@@ -78,17 +91,25 @@ impl<'a> Output<'a> {
         }
     }
 
+    // Writes it into a file that is open. A program may be executed by all who may read it.
+    fn write_into(&self, file: File) -> Result<(), Failure> {
+        if let Output::Elf(_) = self {
+            let _ = make_executable(&file);
+        }
+        self.write_out(file)
+    }
+
     // Writes it into a file. A plain file that is there stays as it was until all is written.
     fn write_file(&self, rt: &HostRuntime, name: &str) -> Result<(), Failure> {
         if !was_text(name) {
             return Err(Failure::Write(NOT_TEXT));
         }
         if let Some((file, replacement)) = Replacement::of(rt, name)? {
-            let written = self.write_out(file);
+            let written = self.write_into(file);
             return replacement.settle(rt, written);
         }
         match fs::create(rt, name) {
-            Ok(file) => self.write_out(file),
+            Ok(file) => self.write_into(file),
             Err(error) => Err(Failure::of_writing(error.kind())),
         }
     }
