@@ -15,6 +15,7 @@ mod table;
 mod value_limits;
 
 pub use csr::Csr;
+pub use csrs::CSRS;
 pub use laws::{
     fixed_bits_are_in_the_mask, fixed_bits_tell_operations_apart, limits_are_bounds,
     rows_are_in_order,

@@ -1,5 +1,5 @@
 -- Worked messages and rows, computed on the definitions.
-use Rattle.std.specs.Prelude.{◌≡◌, ℕ, ℤ, pos, negsuc, ◌++◌, List, [], ◌∷◌, bytes_eq, codes, Option, Some, None, Result, Ok, Err, refl, if◌then◌else◌}
+use Rattle.std.specs.Prelude.{◌≡◌, ℕ, pos, negsuc, ◌++◌, List, [], ◌∷◌, ◌||◌, bytes_eq, codes, None, Ok, Err, refl, if◌then◌else◌}
 use Rattle.std.specs.Fmt.{digits}
 use Rattle.strsim.specs.Edits.{rows, next_row, cost_at}
 use Rattle.rv_text.specs.declared.faults.Fault.{Fault}
@@ -9,11 +9,9 @@ use Rattle.rv_text.specs.Rows.{hex}
 use Rattle.rv_expr.specs.declared.faults.ValueFault.TheVariants as value
 use Rattle.rv_expr.specs.Value.{Environment}
 use Rattle.rv_fix.specs.Values.{Entry}
-use Rattle.rv_list.specs.declared.view.DefinitionPlace.{DefinitionPlace}
 use Rattle.rv_list.specs.declared.view.DefinitionPlace.TheVariants.{Nowhere, Label, Equ}
-use Rattle.rv_list.specs.declared.view.SectionPlace.{SectionPlace}
 use Rattle.rv_list.specs.Faults.{fault_name}
-use Rattle.rv_list.specs.Shown.{Shown, ShownLine}
+use Rattle.rv_list.specs.Shown.{Shown}
 use Rattle.rv_ops.specs.Csrs.{csr_named, csr_names}
 use Rattle.rv_ops.specs.Registers.{register_named, register_names}
 use Rattle.rv_ops.specs.Table.{operation_named, operation_names, row_of, layout_of}
@@ -25,14 +23,18 @@ use Rattle.rv_stmt.specs.Sections.{section_named, section_names}
 use Rattle.rv_stmt.specs.Statement.{statement_of}
 use Rattle.rv_stmt.specs.Values.{modifier_named, modifier_names}
 use Rattle.rv_report.specs.declared.reports.Style.TheVariants.{Plain, Colored}
+use Rattle.rv_report.specs.Advice.{advice}
 use Rattle.rv_report.specs.Bounds.{from_to, gap_text, limits_text}
 use Rattle.rv_report.specs.Characters.{column_of, excerpt}
 use Rattle.rv_report.specs.Counts.{numbers_text, some_numbers}
+use Rattle.rv_report.specs.Csrs.{counter_number, its_number, standard_number, unknown_csr}
 use Rattle.rv_report.specs.Lines.{Line}
-use Rattle.rv_report.specs.Messages.{bad_byte, unknown_name, operand_count, bad_register, register_range, bad_operand, undefined_name, later_equ, line_of_equ, faulty_equ_of, no_partner, beyond_reach, out_of_range, not_multiple, odd_distance, odd_address, message_of}
+use Rattle.rv_report.specs.Messages.{bad_byte, operand_count, bad_register, register_range, bad_operand, undefined_name, later_equ, line_of_equ, faulty_equ_of, not_constant, no_partner, beyond_reach, out_of_range, not_multiple, odd_distance, odd_address, message_of}
 use Rattle.rv_report.specs.Reports.{count_of_faults, line_row, margin, mark, mark_row, message_row, note_at, painted, rendition, report_of, shown_line}
 use Rattle.rv_report.specs.Suggestions.{did_you_mean, suggestions}
 use Rattle.rv_report.specs.Texts.{about, quoted}
+use Rattle.rv_report.specs.UnknownNames.{missing_colon, replacement, unknown_name}
+use Rattle.rv_report.specs.Wanted.{register_given}
 
 -- Characters
 
@@ -85,7 +87,7 @@ nothing_shown = record {
 
 abbrev names : Environment
 names = record {
-  symbol = λ name. if bytes_eq name (codes "n") then Err value.FaultyEqu else (if bytes_eq name (codes "far") then Ok (pos 5000) else Err value.Undefined);
+  symbol = λ name. if bytes_eq name (codes "n") then Err value.FaultyEqu else (if bytes_eq name (codes "far") || bytes_eq name (codes "table") then Ok (pos 5000) else Err value.Undefined);
   local = λ number direction. Err value.Undefined;
   here = Ok (pos 0);
   paired_high = λ label. Err value.NoPartner;
@@ -108,52 +110,72 @@ abbrev message : (text : List ℕ) → (values : List Entry) → Fault → List 
 message text values f = message_of names nothing_shown (faulty 1 text values) f
 
 quote : message (codes ".ascii " ++ 0xE2 ∷ 0x80 ∷ 0x9C ∷ []) [] (fault_at fault.BadByte 7 8) ≡ codes "byte 0xE2 begins nothing of the language"
-unfolding message_of quoted about did_you_mean suggestions some_numbers from_to gap_text limits_text bad_byte unknown_name operand_count bad_register register_range bad_operand undefined_name later_equ line_of_equ faulty_equ_of no_partner beyond_reach out_of_range not_multiple odd_distance odd_address
+unfolding message_of quoted about did_you_mean suggestions some_numbers from_to gap_text limits_text bad_byte operand_count bad_register register_range bad_operand undefined_name later_equ line_of_equ faulty_equ_of no_partner beyond_reach out_of_range not_multiple odd_distance odd_address
 quote = refl
 
 four_operands : message (codes "a: 1: addi a0, (a, b), c, d") [] (fault_at fault.OperandCount 6 10) ≡ codes "'addi' takes 3 operands, not 4"
-unfolding message_of quoted about did_you_mean suggestions some_numbers from_to gap_text limits_text bad_byte unknown_name operand_count bad_register register_range bad_operand undefined_name later_equ line_of_equ faulty_equ_of no_partner beyond_reach out_of_range not_multiple odd_distance odd_address digits operation_named operation_names row_of layout_of register_named register_names csr_named csr_names other_forms slots_of set_named set_names modifier_named modifier_names directive_named directive_names section_named section_names
+unfolding message_of quoted about did_you_mean suggestions some_numbers from_to gap_text limits_text bad_byte operand_count bad_register register_range bad_operand undefined_name later_equ line_of_equ faulty_equ_of no_partner beyond_reach out_of_range not_multiple odd_distance odd_address digits operation_named operation_names row_of layout_of register_named register_names csr_named csr_names other_forms slots_of set_named set_names modifier_named modifier_names directive_named directive_names section_named section_names
 four_operands = refl
 
 small_register : message (codes "x: c.lui zero, 1") [] (fault_at fault.RegisterRange 9 13) ≡ codes "'c.lui' does not take 'zero' here"
-unfolding message_of quoted about did_you_mean suggestions some_numbers from_to gap_text limits_text bad_byte unknown_name operand_count bad_register register_range bad_operand undefined_name later_equ line_of_equ faulty_equ_of no_partner beyond_reach out_of_range not_multiple odd_distance odd_address digits operation_named operation_names row_of layout_of register_named register_names csr_named csr_names other_forms slots_of set_named set_names modifier_named modifier_names directive_named directive_names section_named section_names
+unfolding message_of quoted about did_you_mean suggestions some_numbers from_to gap_text limits_text bad_byte operand_count bad_register register_range bad_operand undefined_name later_equ line_of_equ faulty_equ_of no_partner beyond_reach out_of_range not_multiple odd_distance odd_address digits operation_named operation_names row_of layout_of register_named register_names csr_named csr_names other_forms slots_of set_named set_names modifier_named modifier_names directive_named directive_names section_named section_names
 small_register = refl
 
 missing_register : message (codes "addi a0, , 1") [] (fault_at fault.BadRegister 8 8) ≡ codes "a register is expected here"
-unfolding message_of quoted about did_you_mean suggestions some_numbers from_to gap_text limits_text bad_byte unknown_name operand_count bad_register register_range bad_operand undefined_name later_equ line_of_equ faulty_equ_of no_partner beyond_reach out_of_range not_multiple odd_distance odd_address
+unfolding message_of quoted about did_you_mean suggestions some_numbers from_to gap_text limits_text bad_byte operand_count bad_register register_range bad_operand undefined_name later_equ line_of_equ faulty_equ_of no_partner beyond_reach out_of_range not_multiple odd_distance odd_address
 missing_register = refl
 
 undefined_symbol : message (codes "bnez a0, far + lop") [] (fault_at fault.Undefined 9 18) ≡ codes "'lop' is not defined; did you mean 'loop'?"
-unfolding message_of quoted about did_you_mean suggestions some_numbers from_to gap_text limits_text bad_byte unknown_name operand_count bad_register register_range bad_operand undefined_name later_equ line_of_equ faulty_equ_of no_partner beyond_reach out_of_range not_multiple odd_distance odd_address rows next_row cost_at digits operation_named operation_names row_of layout_of register_named register_names csr_named csr_names other_forms slots_of set_named set_names modifier_named modifier_names directive_named directive_names section_named section_names
+unfolding message_of quoted about did_you_mean suggestions some_numbers from_to gap_text limits_text bad_byte operand_count bad_register register_range bad_operand undefined_name later_equ line_of_equ faulty_equ_of no_partner beyond_reach out_of_range not_multiple odd_distance odd_address rows next_row cost_at digits operation_named operation_names row_of layout_of register_named register_names csr_named csr_names other_forms slots_of set_named set_names modifier_named modifier_names directive_named directive_names section_named section_names
 undefined_symbol = refl
 
 undefined_local : message (codes "j 1f") [] (fault_at fault.Undefined 2 4) ≡ codes "'1f' is not defined"
-unfolding message_of quoted about did_you_mean suggestions some_numbers from_to gap_text limits_text bad_byte unknown_name operand_count bad_register register_range bad_operand undefined_name later_equ line_of_equ faulty_equ_of no_partner beyond_reach out_of_range not_multiple odd_distance odd_address digits operation_named operation_names row_of layout_of register_named register_names csr_named csr_names other_forms slots_of set_named set_names modifier_named modifier_names directive_named directive_names section_named section_names
+unfolding message_of quoted about did_you_mean suggestions some_numbers from_to gap_text limits_text bad_byte operand_count bad_register register_range bad_operand undefined_name later_equ line_of_equ faulty_equ_of no_partner beyond_reach out_of_range not_multiple odd_distance odd_address digits operation_named operation_names row_of layout_of register_named register_names csr_named csr_names other_forms slots_of set_named set_names modifier_named modifier_names directive_named directive_names section_named section_names
 undefined_local = refl
 
 faulty_symbol : message (codes ".word 1 + n") [] (fault_at fault.FaultyEqu 6 11) ≡ codes "the .equ of 'n' has a fault (line 3)"
-unfolding message_of quoted about did_you_mean suggestions some_numbers from_to gap_text limits_text bad_byte unknown_name operand_count bad_register register_range bad_operand undefined_name later_equ line_of_equ faulty_equ_of no_partner beyond_reach out_of_range not_multiple odd_distance odd_address digits operation_named operation_names row_of layout_of register_named register_names csr_named csr_names other_forms slots_of set_named set_names modifier_named modifier_names directive_named directive_names section_named section_names
+unfolding message_of quoted about did_you_mean suggestions some_numbers from_to gap_text limits_text bad_byte operand_count bad_register register_range bad_operand undefined_name later_equ line_of_equ faulty_equ_of no_partner beyond_reach out_of_range not_multiple odd_distance odd_address digits operation_named operation_names row_of layout_of register_named register_names csr_named csr_names other_forms slots_of set_named set_names modifier_named modifier_names directive_named directive_names section_named section_names
 faulty_symbol = refl
 
 large_immediate : message (codes "addi a0, a0, 2048") (Ok (pos 2048) ∷ []) (fault_at fault.Range 13 17) ≡ codes "2048 is out of range (-2048 to 2047)"
-unfolding message_of quoted about did_you_mean suggestions some_numbers from_to gap_text limits_text bad_byte unknown_name operand_count bad_register register_range bad_operand undefined_name later_equ line_of_equ faulty_equ_of no_partner beyond_reach out_of_range not_multiple odd_distance odd_address digits operation_named operation_names row_of layout_of register_named register_names csr_named csr_names other_forms slots_of set_named set_names modifier_named modifier_names directive_named directive_names section_named section_names
+unfolding message_of quoted about did_you_mean suggestions some_numbers from_to gap_text limits_text bad_byte operand_count bad_register register_range bad_operand undefined_name later_equ line_of_equ faulty_equ_of no_partner beyond_reach out_of_range not_multiple odd_distance odd_address digits operation_named operation_names row_of layout_of register_named register_names csr_named csr_names other_forms slots_of set_named set_names modifier_named modifier_names directive_named directive_names section_named section_names
 large_immediate = refl
 
 no_zero : message (codes "c.addi a0, 0") (Ok (pos 0) ∷ []) (fault_at fault.Range 11 12) ≡ codes "0 is out of range (-32 to 31, not 0)"
-unfolding message_of quoted about did_you_mean suggestions some_numbers from_to gap_text limits_text bad_byte unknown_name operand_count bad_register register_range bad_operand undefined_name later_equ line_of_equ faulty_equ_of no_partner beyond_reach out_of_range not_multiple odd_distance odd_address digits operation_named operation_names row_of layout_of register_named register_names csr_named csr_names other_forms slots_of set_named set_names modifier_named modifier_names directive_named directive_names section_named section_names
+unfolding message_of quoted about did_you_mean suggestions some_numbers from_to gap_text limits_text bad_byte operand_count bad_register register_range bad_operand undefined_name later_equ line_of_equ faulty_equ_of no_partner beyond_reach out_of_range not_multiple odd_distance odd_address digits operation_named operation_names row_of layout_of register_named register_names csr_named csr_names other_forms slots_of set_named set_names modifier_named modifier_names directive_named directive_names section_named section_names
 no_zero = refl
 
 far_branch : message (codes "beqz a0, far") (Ok (negsuc 4999) ∷ []) (fault_at fault.Range 9 12) ≡ codes "the target is 5000 bytes behind; the reach is -4096 to 4094"
-unfolding message_of quoted about did_you_mean suggestions some_numbers from_to gap_text limits_text bad_byte unknown_name operand_count bad_register register_range bad_operand undefined_name later_equ line_of_equ faulty_equ_of no_partner beyond_reach out_of_range not_multiple odd_distance odd_address digits operation_named operation_names row_of layout_of register_named register_names csr_named csr_names other_forms slots_of set_named set_names modifier_named modifier_names directive_named directive_names section_named section_names
+unfolding message_of quoted about did_you_mean suggestions some_numbers from_to gap_text limits_text bad_byte operand_count bad_register register_range bad_operand undefined_name later_equ line_of_equ faulty_equ_of no_partner beyond_reach out_of_range not_multiple odd_distance odd_address digits operation_named operation_names row_of layout_of register_named register_names csr_named csr_names other_forms slots_of set_named set_names modifier_named modifier_names directive_named directive_names section_named section_names
 far_branch = refl
 
 lone_low_half : message (codes "lw a0, %pcrel_lo(here)(a0)") (Err value.NoPartner ∷ []) (fault_at fault.NoPartner 7 26) ≡ codes "no 'auipc .., %pcrel_hi(..)' stands at 'here'"
-unfolding message_of quoted about did_you_mean suggestions some_numbers from_to gap_text limits_text bad_byte unknown_name operand_count bad_register register_range bad_operand undefined_name later_equ line_of_equ faulty_equ_of no_partner beyond_reach out_of_range not_multiple odd_distance odd_address digits operation_named operation_names row_of layout_of register_named register_names csr_named csr_names other_forms slots_of set_named set_names modifier_named modifier_names directive_named directive_names section_named section_names
+unfolding message_of quoted about did_you_mean suggestions some_numbers from_to gap_text limits_text bad_byte operand_count bad_register register_range bad_operand undefined_name later_equ line_of_equ faulty_equ_of no_partner beyond_reach out_of_range not_multiple odd_distance odd_address digits operation_named operation_names row_of layout_of register_named register_names csr_named csr_names other_forms slots_of set_named set_names modifier_named modifier_names directive_named directive_names section_named section_names
 lone_low_half = refl
 
 odd : message (codes "nop") [] (fault_at fault.OddAddress 0 3) ≡ codes "an instruction at the odd address 0x00000001"
-unfolding message_of quoted about did_you_mean suggestions some_numbers from_to gap_text limits_text bad_byte unknown_name operand_count bad_register register_range bad_operand undefined_name later_equ line_of_equ faulty_equ_of no_partner beyond_reach out_of_range not_multiple odd_distance odd_address hex
+unfolding message_of quoted about did_you_mean suggestions some_numbers from_to gap_text limits_text bad_byte operand_count bad_register register_range bad_operand undefined_name later_equ line_of_equ faulty_equ_of no_partner beyond_reach out_of_range not_multiple odd_distance odd_address hex
 odd = refl
+
+directive_elsewhere : message (codes "x: .EQV n, 4") [] (fault_at fault.UnknownName 3 7) ≡ codes "no instruction or directive is called '.EQV'; write '.equ'"
+unfolding message_of unknown_name replacement advice quoted digits operation_named operation_names row_of layout_of register_named register_names csr_named csr_names other_forms slots_of set_named set_names modifier_named modifier_names directive_named directive_names section_named section_names
+directive_elsewhere = refl
+
+label_without_colon : message (codes "loop addi a0, a0, 1") [] (fault_at fault.UnknownName 0 4) ≡ codes "no instruction or directive is called 'loop'; is a ':' missing after the label?"
+unfolding message_of unknown_name replacement missing_colon advice quoted digits operation_named operation_names row_of layout_of register_named register_names csr_named csr_names other_forms slots_of set_named set_names modifier_named modifier_names directive_named directive_names section_named section_names
+label_without_colon = refl
+
+register_for_number : message (codes "addi a0, a0, a1") [] (fault_at fault.Undefined 13 15) ≡ codes "'a1' is a register; 'addi' takes a number here; did you mean 'add'?"
+unfolding message_of register_given advice quoted about digits operation_named operation_names row_of layout_of register_named register_names csr_named csr_names other_forms slots_of set_named set_names modifier_named modifier_names directive_named directive_names section_named section_names
+register_for_number = refl
+
+register_with_number : message (codes "csrr a0, mcycle") [] (fault_at fault.Undefined 9 15) ≡ codes "no control and status register is called 'mcycle' here; its number is 0xB00"
+unfolding message_of unknown_csr standard_number counter_number its_number quoted about digits operation_named operation_names row_of layout_of register_named register_names csr_named csr_names other_forms slots_of set_named set_names modifier_named modifier_names directive_named directive_names section_named section_names
+register_with_number = refl
+
+label_for_constant : message (codes "li a0, table") [] (fault_at fault.NotConstant 7 12) ≡ codes "the size of a line needs a constant; 'table' is none; write 'la' for the address of a label"
+unfolding message_of not_constant advice quoted about digits operation_named operation_names row_of layout_of register_named register_names csr_named csr_names other_forms slots_of set_named set_names modifier_named modifier_names directive_named directive_names section_named section_names
+label_for_constant = refl
 
 -- Reports
 

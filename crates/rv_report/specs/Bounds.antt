@@ -1,5 +1,5 @@
 -- The values that an operand may have. (docs/LANGUAGE.md, Faults of values)
-use Rattle.std.specs.Prelude.{ℕ, ℤ, pos, negsuc, int_le, Bool, ◌&&◌, List, [], ◌∷◌, ◌++◌, Option, Some, None, codes, if◌then◌else◌}
+use Rattle.std.specs.Prelude.{ℕ, ℤ, pos, negsuc, int_le, Bool, ◌&&◌, List, [], ◌++◌, codes, if◌then◌else◌}
 use Rattle.std.specs.Fmt.{signed_decimal}
 use Rattle.rv_ops.specs.declared.value_limits.Limits.{Limits}
 use Rattle.rv_ops.specs.Table.{limits_of, shape_of}

@@ -1,5 +1,5 @@
 -- How many operands a name takes, and how many stand after it.
-use Rattle.std.specs.Prelude.{ℕ, ◌+◌, ◌*◌, ◌==◌, Bool, false, bytes_eq, is_ok, List, [], ◌∷◌, ◌++◌, length, drop, map, Option, Some, None, codes, decimal, if◌then◌else◌}
+use Rattle.std.specs.Prelude.{ℕ, ◌+◌, ◌*◌, Bool, false, bytes_eq, is_ok, List, ◌++◌, length, drop, map, Option, Some, None, codes, decimal, if◌then◌else◌}
 use Rattle.std.specs.List.{filter}
 use Rattle.rv_text.specs.Lexing.{LexedLine, spelled_tokens}
 use Rattle.rv_stmt.specs.declared.directives.DirectiveForm.{DirectiveForm}

@@ -1,5 +1,5 @@
 -- The name that an operand has no value for: the first one in the order of evaluation that has none itself.
-use Rattle.std.specs.Prelude.{ℕ, ℤ, is_err, List, [], ◌++◌, Option, Some, None, Result, codes, decimal, if◌then◌else◌}
+use Rattle.std.specs.Prelude.{ℕ, ℤ, is_err, List, ◌++◌, Option, Some, None, Result, codes, decimal, if◌then◌else◌}
 use Rattle.rv_expr.specs.declared.faults.ValueFault.{ValueFault}
 use Rattle.rv_expr.specs.declared.tree.Direction.{Direction}
 use Rattle.rv_expr.specs.declared.tree.Direction.TheVariants.{Back, Forward}

@@ -1,6 +1,9 @@
+pub mod Advice
 pub mod Bounds
 pub mod Characters
 pub mod Counts
+pub mod Csrs
+pub mod Digits
 pub mod FaultyNames
 pub mod LanguageNames
 pub mod Lines
@@ -9,3 +12,5 @@ pub mod Operands
 pub mod Reports
 pub mod Suggestions
 pub mod Texts
+pub mod UnknownNames
+pub mod Wanted

@@ -35,6 +35,10 @@ abbrev pub part_of_token : List ℕ → Option Token → List ℕ
 part_of_token line None = []
 part_of_token line (Some token) = part line token.span
 
+-- a word of a line, by its number among the tokens
+abbrev pub word_at : (place : ℕ) → LexedLine → List ℕ
+word_at place line = part_of_token line.line (slice_get line.tokens place)
+
 -- the name of a statement: it stands after the labels, each of which is two tokens
 abbrev pub name_after : (labels : ℕ) → LexedLine → List ℕ
-name_after labels line = part_of_token line.line (slice_get line.tokens (2 * labels))
+name_after labels line = word_at (2 * labels) line

@@ -1,6 +1,5 @@
 -- The messages of faults.
-use Rattle.std.specs.Prelude.{ℕ, ℤ, pos, ◌+◌, ◌/◌, ◌%◌, nat_lt, int_lt, unsigned_abs, List, [], ◌∷◌, ◌++◌, length, map, slice_index, Option, Some, None, codes, decimal, if◌then◌else◌}
-use Rattle.std.specs.Char.{to_ascii_lowercase}
+use Rattle.std.specs.Prelude.{ℕ, ℤ, pos, ◌+◌, ◌*◌, int_lt, unsigned_abs, bytes_eq, is_some, List, [], ◌∷◌, ◌++◌, length, slice_index, Option, Some, None, codes, decimal, if◌then◌else◌}
 use Rattle.std.specs.Fmt.{signed_decimal}
 use Rattle.rv_text.specs.declared.faults.Fault.{Fault}
 use Rattle.rv_text.specs.declared.faults.FaultNumber.{FaultNumber}
@@ -11,6 +10,7 @@ use Rattle.rv_text.specs.Rows.{hex}
 use Rattle.rv_expr.specs.declared.tree.LabelReference.{LabelReference}
 use Rattle.rv_expr.specs.declared.tree.LabelReference.TheVariants.{Symbol, Local, Here}
 use Rattle.rv_expr.specs.Value.{Environment}
+use Rattle.rv_ops.specs.Registers.{register_named}
 use Rattle.rv_ops.specs.declared.value_limits.Limits.{Limits}
 use Rattle.rv_stmt.specs.declared.operand.AlignmentUnit.TheVariants.{Bytes, Exponent}
 use Rattle.rv_stmt.specs.declared.operand.Operand.{Operand}
@@ -21,31 +21,28 @@ use Rattle.rv_stmt.specs.Statement.{operands_of}
 use Rattle.rv_list.specs.declared.view.DefinitionPlace.{DefinitionPlace}
 use Rattle.rv_list.specs.declared.view.DefinitionPlace.TheVariants.{Nowhere, Label, Equ}
 use Rattle.rv_list.specs.Shown.{Shown}
+use Rattle.rv_report.specs.declared.advice.Topic.TheVariants.{LabelGiven}
+use Rattle.rv_report.specs.declared.wanted.Wanted.{Wanted}
+use Rattle.rv_report.specs.declared.wanted.Wanted.TheVariants.{Number, Csr}
+use Rattle.rv_report.specs.Advice.{advice}
 use Rattle.rv_report.specs.Bounds.{limits_in, limits_text}
 use Rattle.rv_report.specs.Counts.{numbers_text, operands_standing}
+use Rattle.rv_report.specs.Csrs.{unknown_csr}
+use Rattle.rv_report.specs.Digits.{upper_hex}
 use Rattle.rv_report.specs.FaultyNames.{faulty_name_of, low_label_of, name_text}
-use Rattle.rv_report.specs.LanguageNames.{language_names}
-use Rattle.rv_report.specs.Lines.{Line, part, name_after}
+use Rattle.rv_report.specs.Lines.{Line, part, name_after, word_at}
 use Rattle.rv_report.specs.Operands.{operand_at, value_at}
 use Rattle.rv_report.specs.Suggestions.{did_you_mean, suggestions}
 use Rattle.rv_report.specs.Texts.{about, quoted}
+use Rattle.rv_report.specs.UnknownNames.{unknown_name}
+use Rattle.rv_report.specs.Wanted.{register_given, wanted_of}
 
 -- Lexical faults
-
-abbrev pub upper_digit : ℕ → ℕ
-upper_digit n = if nat_lt n 10 then 48 + n else 55 + n
-
-abbrev pub upper_hex : ℕ → List ℕ
-upper_hex byte = upper_digit (byte / 16) ∷ upper_digit (byte % 16) ∷ []
 
 unfoldable pub bad_byte : ℕ → List ℕ
 bad_byte byte = codes "byte 0x" ++ (upper_hex byte ++ codes " begins nothing of the language")
 
 -- Faults of statements
-
-unfoldable pub unknown_name : List ℕ → List ℕ
-unknown_name name =
-    about (codes "no instruction or directive is called ") name (did_you_mean (suggestions (map to_ascii_lowercase name) language_names))
 
 unfoldable pub operand_count : (name : List ℕ) → (standing : ℕ) → List ℕ
 operand_count name standing = about [] name (codes " takes ") ++ (numbers_text name ++ (codes ", not " ++ decimal standing))
@@ -72,9 +69,23 @@ question_about symbols Here = []
 unfoldable pub undefined_name : (symbols : List (List ℕ)) → LabelReference → List ℕ
 undefined_name symbols name = about [] (name_text name) (codes " is not defined") ++ question_about symbols name
 
-abbrev pub undefined : (symbols : List (List ℕ)) → (text : List ℕ) → Option LabelReference → List ℕ
-undefined symbols text None = about (codes "a name that ") text (codes " needs is not defined")
-undefined symbols text (Some name) = undefined_name symbols name
+-- a name alone in the place of a control and status register is meant to be one
+abbrev pub undefined_as : Wanted → (symbols : List (List ℕ)) → (text name : List ℕ) → List ℕ
+undefined_as Csr symbols text name = if bytes_eq name text then unknown_csr name else undefined_name symbols (Symbol name)
+undefined_as wanted symbols text name = undefined_name symbols (Symbol name)
+
+-- a register's name is meant to be the register
+abbrev pub undefined_symbol : (statement : List ℕ) → Wanted → (symbols : List (List ℕ)) → (text name : List ℕ) → List ℕ
+undefined_symbol statement wanted symbols text name =
+    if is_some (register_named name) then register_given statement wanted name else undefined_as wanted symbols text name
+
+abbrev pub undefined_reference : (statement : List ℕ) → Wanted → (symbols : List (List ℕ)) → (text : List ℕ) → LabelReference → List ℕ
+undefined_reference statement wanted symbols text (Symbol name) = undefined_symbol statement wanted symbols text name
+undefined_reference statement wanted symbols text name = undefined_name symbols name
+
+abbrev pub undefined : (statement : List ℕ) → Wanted → (symbols : List (List ℕ)) → (text : List ℕ) → Option LabelReference → List ℕ
+undefined statement wanted symbols text None = about (codes "a name that ") text (codes " needs is not defined")
+undefined statement wanted symbols text (Some name) = undefined_reference statement wanted symbols text name
 
 -- the name, or the operand where no name of its own has the fault
 abbrev pub name_or : (text : List ℕ) → Option LabelReference → List ℕ
@@ -95,6 +106,38 @@ faulty_equ_of shown name = about (codes "the .equ of ") name (codes " has a faul
 abbrev pub faulty_equ : Shown → (text : List ℕ) → Option LabelReference → List ℕ
 faulty_equ shown text None = about (codes "the .equ of a name that ") text (codes " needs has a fault")
 faulty_equ shown text (Some name) = faulty_equ_of shown (name_text name)
+
+unfoldable pub not_constant : List ℕ → List ℕ
+not_constant text = about (codes "the size of a line needs a constant; ") text (codes " is none")
+
+abbrev pub label_help : (statement : List ℕ) → DefinitionPlace → List ℕ
+label_help statement (Label line index) = advice LabelGiven statement
+label_help statement place = []
+
+-- an operand whose names have values, or no values for other reasons
+abbrev pub operand_not_constant : (statement : List ℕ) → Shown → (text : List ℕ) → List ℕ
+operand_not_constant statement shown text = not_constant text ++ label_help statement (shown.definition text)
+
+unfoldable pub undefined_constant : (symbols : List (List ℕ)) → (name : List ℕ) → List ℕ
+undefined_constant symbols name = codes "the size of a line needs a constant; " ++ undefined_name symbols (Symbol name)
+
+abbrev pub name_not_constant : DefinitionPlace → (symbols : List (List ℕ)) → (text name : List ℕ) → List ℕ
+name_not_constant Nowhere symbols text name = undefined_constant symbols name
+name_not_constant place symbols text name = not_constant text
+
+abbrev pub symbol_not_constant : (statement : List ℕ) → Shown → (symbols : List (List ℕ)) → (text name : List ℕ) → List ℕ
+symbol_not_constant statement shown symbols text name =
+    if is_some (register_named name) then register_given statement Number name
+    else name_not_constant (shown.definition name) symbols text name
+
+abbrev pub reference_not_constant : (statement : List ℕ) → Shown → (symbols : List (List ℕ)) → (text : List ℕ) → LabelReference → List ℕ
+reference_not_constant statement shown symbols text (Symbol name) = symbol_not_constant statement shown symbols text name
+reference_not_constant statement shown symbols text name = operand_not_constant statement shown text
+
+-- the first name without a value tells why an operand is no constant
+abbrev pub why_not_constant : (statement : List ℕ) → Shown → (symbols : List (List ℕ)) → (text : List ℕ) → Option LabelReference → List ℕ
+why_not_constant statement shown symbols text None = operand_not_constant statement shown text
+why_not_constant statement shown symbols text (Some name) = reference_not_constant statement shown symbols text name
 
 unfoldable pub no_partner : List ℕ → List ℕ
 no_partner label = about (codes "no 'auipc .., %pcrel_hi(..)' stands at ") label []
@@ -157,6 +200,9 @@ odd_address address = codes "an instruction at the odd address 0x" ++ hex 8 addr
 abbrev pub name_of_statement : Line → List ℕ
 name_of_statement line = name_after (length line.stmt.labels) (lexed_line line.text)
 
+abbrev pub word_after_name : Line → List ℕ
+word_after_name line = word_at (2 * length line.stmt.labels + 1) (lexed_line line.text)
+
 abbrev pub operand_of_line : Line → Span → Option Operand
 operand_of_line line span = operand_at span (operands_of line.stmt.body)
 
@@ -168,14 +214,14 @@ message_by faults.BadByte given shown line span = bad_byte (slice_index line.tex
 message_by faults.BadNumber given shown line span = about [] (part line.text span) (codes " is not a number")
 message_by faults.BadString given shown line span = codes "string or character not closed, or a wrong escape"
 message_by faults.NoStatement given shown line span = codes "an instruction or a directive is expected here"
-message_by faults.UnknownName given shown line span = unknown_name (part line.text span)
+message_by faults.UnknownName given shown line span = unknown_name (part line.text span) (word_after_name line) (slice_index line.text span.to)
 message_by faults.OperandCount given shown line span = operand_count (part line.text span) (operands_standing (length line.stmt.labels) (lexed_line line.text))
 message_by faults.BadRegister given shown line span = bad_register (part line.text span)
 message_by faults.RegisterRange given shown line span = register_range (name_of_statement line) (part line.text span)
 message_by faults.BadOperand given shown line span = bad_operand (name_of_statement line) (part line.text span)
 message_by faults.TooDeep given shown line span = codes "more than 64 open parentheses"
-message_by faults.NotConstant given shown line span = about (codes "the size of a line needs a constant; ") (part line.text span) (codes " is none")
-message_by faults.Undefined given shown line span = undefined line.symbols (part line.text span) (faulty_name_of given (operand_of_line line span))
+message_by faults.NotConstant given shown line span = why_not_constant (name_of_statement line) shown line.symbols (part line.text span) (faulty_name_of given (operand_of_line line span))
+message_by faults.Undefined given shown line span = undefined (name_of_statement line) (wanted_of line.stmt.body (operand_of_line line span)) line.symbols (part line.text span) (faulty_name_of given (operand_of_line line span))
 message_by faults.LaterEqu given shown line span = later_equ (name_or (part line.text span) (faulty_name_of given (operand_of_line line span)))
 message_by faults.FaultyEqu given shown line span = faulty_equ shown (part line.text span) (faulty_name_of given (operand_of_line line span))
 message_by faults.Arithmetic given shown line span = codes "no value: a division by zero, a shift out of 0 to 63, or more than 64 bits"

@@ -11,8 +11,8 @@ use std::alloc::{AllocError, Global};
 /// The numbers of operands that names take which take no more than so many.
 pub const NUMERALS: [(usize, &str); 4] = [(0, "0"), (1, "1"), (2, "2"), (3, "3")];
 
-// Whether a name is that of a directive.
-fn is_directive_name(name: &[u8]) -> bool
+/// Whether a name is that of a directive.
+pub fn is_directive_name(name: &[u8]) -> bool
     ensures { result ≡ is_directive_name name.now }
 {
     match name.first() {

@@ -1,7 +1,7 @@
 //! A line with a fault.
 
-ghost use Rattle.std.specs.Prelude.{◌≡◌, ◌≤◌, slice_index, option_map};
-ghost use Rattle.rv_report.specs.Lines.{line_of, name_after, part};
+ghost use Rattle.std.specs.Prelude.{◌≡◌, slice_index, option_map};
+ghost use Rattle.rv_report.specs.Lines.{line_of, part, word_at};
 ghost use Rattle.rv_report.specs.Messages.{operand_of_line, value_of_line};
 
 use crate::operands::{operand_at, value_at};
@@ -44,13 +44,12 @@ pub fn byte_at(line: &[u8], place: u32) -> u8
     }
 }
 
-/// The name of a line's statement: it stands after the labels, each of which is two tokens.
-pub fn name_after<'a>(labels: usize, line: &'a [u8], tokens: &Tokens<'_>) -> &'a [u8]
-    requires labels { labels ≤ 1000 }
-    requires line { line.now ≡ tokens.now.line }
-    ensures { result.now ≡ name_after labels tokens.now }
+/// A word of a line, by its number among the tokens.
+pub fn word_at<'a>(place: usize, line: &'a [u8], tokens: &Tokens<'_>) -> &'a [u8]
+    requires { line.now ≡ tokens.now.line }
+    ensures { result.now ≡ word_at place tokens.now }
 {
-    match tokens.tokens().get(2 * labels) {
+    match tokens.tokens().get(place) {
         Some(token) => part(line, token.span),
         None => &[],
     }

@@ -1,8 +1,9 @@
 //! The names that statements begin with.
 
 ghost use Rattle.std.specs.Prelude.{◌≡◌, ◌++◌, map, IfOk, OnOk};
-ghost use Rattle.rv_report.specs.LanguageNames.{language_names, without_operations};
+ghost use Rattle.rv_report.specs.LanguageNames.{directives, mnemonics, names_like, without_operations};
 
+use crate::counts::is_directive_name;
 use rv_ops::{TABLE, TableRow, op_by_name};
 use rv_stmt::{DIRECTIVES, DirectiveRow, FORMS, FormRow};
 use std::alloc::{AllocError, Global};
@@ -49,14 +50,33 @@ fn push_directives<'a>(
     Ok(())
 }
 
-/// The names of the operations, the pseudo-instructions and the directives, each once, in the order of their tables.
-#[tactic(auto, unfolding(crate::specs::LanguageNames::language_names))]
-pub fn language_names(alloc: Global) -> Result<Vec<&'static [u8]>, AllocError>
-    ensures { IfOk result (λ v. map (λ t. t.now) v.items ≡ language_names) }
+// The names of the operations and the pseudo-instructions, each once, in the order of their tables.
+#[tactic(auto, unfolding(crate::specs::LanguageNames::mnemonics))]
+fn mnemonics(alloc: Global) -> Result<Vec<&'static [u8]>, AllocError>
+    ensures { IfOk result (λ v. map (λ t. t.now) v.items ≡ mnemonics) }
 {
     let mut names = Vec::new(alloc);
     push_operations(&mut names, &TABLE)?;
     push_forms(&mut names, &FORMS)?;
+    Ok(names)
+}
+
+// The names of the directives.
+#[tactic(auto, unfolding(crate::specs::LanguageNames::directives))]
+fn directives(alloc: Global) -> Result<Vec<&'static [u8]>, AllocError>
+    ensures { IfOk result (λ v. map (λ t. t.now) v.items ≡ directives) }
+{
+    let mut names = Vec::new(alloc);
     push_directives(&mut names, &DIRECTIVES)?;
     Ok(names)
+}
+
+/// The directives for a name that begins with `.`, and the operations and pseudo-instructions for any other.
+pub fn names_like(alloc: Global, name: &[u8]) -> Result<Vec<&'static [u8]>, AllocError>
+    ensures { IfOk result (λ v. map (λ t. t.now) v.items ≡ names_like name.now) }
+{
+    if is_directive_name(name) {
+        return directives(alloc);
+    }
+    mnemonics(alloc)
 }

@@ -1,9 +1,13 @@
 //! Reports of faults for people: the message of each fault, and the rows that show where it is.
 #![tactic(auto)]
 
+mod advice;
+mod advice_tables;
 mod bounds;
 mod characters;
+mod constant_messages;
 mod counts;
+mod csr_messages;
 mod faulty_line;
 mod faulty_names;
 mod language_names;
@@ -14,9 +18,12 @@ mod operands;
 mod reports;
 mod rows;
 mod statement_messages;
+mod statement_words;
 mod suggestions;
 mod text;
+mod unknown_names;
 mod value_messages;
+mod wanted;
 
 pub use characters::is_visible;
 pub use faulty_line::FaultyLine;

@@ -5,13 +5,14 @@ ghost use Rattle.rv_report.specs.Lines.{line_of, part};
 ghost use Rattle.rv_report.specs.Messages.{message_of};
 ghost use Rattle.rv_report.specs.Texts.{about};
 
+use crate::constant_messages::push_not_constant;
 use crate::faulty_line::{FaultyLine, byte_at, part};
 use crate::name_messages::{push_faulty_equ, push_later_equ, push_no_partner, push_undefined};
 use crate::statement_messages::{
     push_bad_byte, push_bad_operand, push_bad_register, push_operand_count, push_register_range,
-    push_unknown_name,
 };
 use crate::text::Text;
+use crate::unknown_names::push_unknown_name;
 use crate::value_messages::{push_multiple, push_odd_address, push_range};
 use rv_expr::Names;
 use rv_list::View;
@@ -51,19 +52,13 @@ pub fn push_message<N: Names, V: View>(
         FaultNumber::BadNumber => push_about_part(out, b"", line, span, b" is not a number"),
         FaultNumber::BadString => out.push(b"string or character not closed, or a wrong escape"),
         FaultNumber::NoStatement => out.push(b"an instruction or a directive is expected here"),
-        FaultNumber::UnknownName => push_unknown_name(out, alloc, part(line.text, span)),
+        FaultNumber::UnknownName => push_unknown_name(out, alloc, line, span),
         FaultNumber::OperandCount => push_operand_count(out, alloc, line, span),
         FaultNumber::BadRegister => push_bad_register(out, part(line.text, span)),
         FaultNumber::RegisterRange => push_register_range(out, alloc, line, span),
         FaultNumber::BadOperand => push_bad_operand(out, alloc, line, span),
         FaultNumber::TooDeep => out.push(b"more than 64 open parentheses"),
-        FaultNumber::NotConstant => push_about_part(
-            out,
-            b"the size of a line needs a constant; ",
-            line,
-            span,
-            b" is none",
-        ),
+        FaultNumber::NotConstant => push_not_constant(out, alloc, line, names, view, span),
         FaultNumber::Undefined => push_undefined(out, alloc, line, names, span),
         FaultNumber::LaterEqu => push_later_equ(out, alloc, line, names, span),
         FaultNumber::FaultyEqu => push_faulty_equ(out, alloc, line, names, view, span),

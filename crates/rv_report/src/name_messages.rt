@@ -1,21 +1,26 @@
 //! The messages of names without a value.
 
-ghost use Rattle.std.specs.Prelude.{◌≡◌, ◌++◌, map, option_map, IfOk, OnOk};
+ghost use Rattle.std.specs.Prelude.{◌≡◌, ◌≤◌, ◌++◌, length, map, option_map, IfOk, OnOk};
 ghost use Rattle.rv_report.specs.FaultyNames.{faulty_name_of, low_label_of, name_text, name_used};
 ghost use Rattle.rv_report.specs.Lines.{line_of, part};
-ghost use Rattle.rv_report.specs.Messages.{faulty_equ, faulty_equ_of, later_equ, line_of_equ, name_or, no_partner, operand_of_line, question_about, undefined, undefined_name};
+ghost use Rattle.rv_report.specs.Messages.{faulty_equ, faulty_equ_of, later_equ, line_of_equ, name_of_statement, name_or, no_partner, operand_of_line, question_about, undefined, undefined_as, undefined_name, undefined_symbol};
+ghost use Rattle.rv_report.specs.Wanted.{wanted_of};
 
+use crate::csr_messages::push_unknown_csr;
 use crate::faulty_line::{FaultyLine, operand_in, part};
 use crate::faulty_names::{UsedName, faulty_name_of, low_label_of, push_name};
+use crate::statement_words::name_of_statement;
 use crate::suggestions::push_did_you_mean;
 use crate::text::Text;
+use crate::wanted::{Wanted, push_register_given, wanted_at};
 use rv_expr::Names;
 use rv_list::{DefinitionPlace, View};
+use rv_ops::reg_by_name;
 use rv_text::Span;
 use std::alloc::{AllocError, Global};
 
-// The first name without a value of the operand at a span.
-fn faulty_name_at<'a, N: Names>(
+/// The first name without a value of the operand at a span.
+pub fn faulty_name_at<'a, N: Names>(
     line: &FaultyLine<'a>,
     names: &N,
     span: Span,
@@ -50,9 +55,9 @@ fn push_question_about(
     }
 }
 
-// Appends that a name has no definition.
+/// Appends that a name has no definition.
 #[tactic(auto, unfolding(crate::specs::Messages::undefined_name))]
-fn push_undefined_name(
+pub fn push_undefined_name(
     out: &mut Text,
     alloc: Global,
     symbols: &[&[u8]],
@@ -65,6 +70,43 @@ fn push_undefined_name(
     push_question_about(out, alloc, symbols, name)
 }
 
+// Appends that a name has no definition, where a control and status register may be wanted.
+fn push_undefined_as(
+    out: &mut Text,
+    alloc: Global,
+    wanted: Wanted,
+    symbols: &[&[u8]],
+    text: &[u8],
+    name: &[u8],
+) -> Result<(), AllocError>
+    ensures { OnOk result (out.new ≡ out.old ++ undefined_as wanted (map (λ s. s.now) symbols.now) text.now name.now) }
+{
+    if wanted == Wanted::Csr && name == text {
+        return push_unknown_csr(out, alloc, name);
+    }
+    push_undefined_name(out, alloc, symbols, UsedName::Symbol(name))
+}
+
+// Appends that a symbol has no definition, or is a register.
+fn push_undefined_symbol(
+    out: &mut Text,
+    alloc: Global,
+    line: &FaultyLine<'_>,
+    wanted: Wanted,
+    text: &[u8],
+    name: &[u8],
+) -> Result<(), AllocError>
+    requires labels { length line.now.stmt.now.labels ≤ 1000 }
+    requires text { length line.now.text.now ≤ 1000 }
+    ensures { OnOk result (out.new ≡ out.old ++ undefined_symbol (name_of_statement (line_of line.now)) wanted (line_of line.now).symbols text.now name.now) }
+{
+    if reg_by_name(name).is_none() {
+        return push_undefined_as(out, alloc, wanted, line.symbols, text, name);
+    }
+    let statement = name_of_statement(alloc, line)?;
+    push_register_given(out, statement, wanted, name)
+}
+
 /// A name without a definition, in the operand at a span of a line.
 pub fn push_undefined<N: Names>(
     out: &mut Text,
@@ -73,15 +115,17 @@ pub fn push_undefined<N: Names>(
     names: &N,
     span: Span,
 ) -> Result<(), AllocError>
-    ensures { OnOk result (out.new ≡ out.old ++ undefined (line_of line.now).symbols (part line.now.text.now span) (faulty_name_of (N.environment names.now line.now.address) (operand_of_line (line_of line.now) span))) }
+    requires labels { length line.now.stmt.now.labels ≤ 1000 }
+    requires text { length line.now.text.now ≤ 1000 }
+    ensures { OnOk result (out.new ≡ out.old ++ undefined (name_of_statement (line_of line.now)) (wanted_of line.now.stmt.now.body (operand_of_line (line_of line.now) span)) (line_of line.now).symbols (part line.now.text.now span) (faulty_name_of (N.environment names.now line.now.address) (operand_of_line (line_of line.now) span))) }
 {
+    let text = part(line.text, span);
     match faulty_name_at(line, names, span) {
+        Some(UsedName::Symbol(name)) => {
+            push_undefined_symbol(out, alloc, line, wanted_at(line, span), text, name)
+        }
         Some(name) => push_undefined_name(out, alloc, line.symbols, name),
-        None => out.push_about(
-            b"a name that ",
-            part(line.text, span),
-            b" needs is not defined",
-        ),
+        None => out.push_about(b"a name that ", text, b" needs is not defined"),
     }
 }
 

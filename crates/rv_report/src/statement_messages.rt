@@ -1,27 +1,18 @@
 //! The messages of lexical faults and of faults of statements.
 
-ghost use Rattle.std.specs.Prelude.{◌≡◌, ◌<◌, ◌≤◌, ◌++◌, length, IfOk, OnOk};
+ghost use Rattle.std.specs.Prelude.{◌≡◌, ◌≤◌, ◌++◌, length, IfOk, OnOk};
 ghost use Rattle.rv_text.specs.Lexing.{lexed_line};
 ghost use Rattle.rv_report.specs.Counts.{operands_standing};
 ghost use Rattle.rv_report.specs.Lines.{line_of, part};
-ghost use Rattle.rv_report.specs.Messages.{bad_byte, bad_operand, bad_register, name_of_statement, operand_count, register_range, unknown_name, upper_digit};
+ghost use Rattle.rv_report.specs.Messages.{bad_byte, bad_operand, bad_register, name_of_statement, operand_count, register_range};
 
 use crate::counts::push_numbers;
-use crate::faulty_line::{FaultyLine, name_after, part};
-use crate::language_names::language_names;
-use crate::suggestions::push_did_you_mean;
+use crate::faulty_line::{FaultyLine, part};
+use crate::statement_words::name_of_statement;
 use crate::text::Text;
 use rv_stmt::operands_from;
 use rv_text::{Span, tokens};
 use std::alloc::{AllocError, Global};
-
-// The digit of a number below 16, in upper case.
-fn upper_digit(n: u8) -> u8
-    requires { n < 16 }
-    ensures { result ≡ upper_digit n }
-{
-    if n < 10 { b'0' + n } else { b'A' - 10 + n }
-}
 
 /// A byte that begins no token.
 #[tactic(auto, unfolding(crate::specs::Messages::bad_byte))]
@@ -29,21 +20,8 @@ pub fn push_bad_byte(out: &mut Text, byte: u8) -> Result<(), AllocError>
     ensures { OnOk result (out.new ≡ out.old ++ bad_byte byte) }
 {
     out.push(b"byte 0x")?;
-    out.push_byte(upper_digit(byte / 16))?;
-    out.push_byte(upper_digit(byte % 16))?;
+    out.push_upper_hex(byte)?;
     out.push(b" begins nothing of the language")
-}
-
-/// A name that no instruction and no directive has.
-#[tactic(auto, unfolding(crate::specs::Messages::unknown_name))]
-pub fn push_unknown_name(out: &mut Text, alloc: Global, name: &[u8]) -> Result<(), AllocError>
-    ensures { OnOk result (out.new ≡ out.old ++ unknown_name name.now) }
-{
-    out.push(b"no instruction or directive is called ")?;
-    out.push_quoted(name)?;
-    let lower = name.to_ascii_lowercase(alloc)?;
-    let names = language_names(alloc)?;
-    push_did_you_mean(out, alloc, lower.as_slice(), names.as_slice())
 }
 
 // How many operands stand after the name of a line's statement.
@@ -77,19 +55,6 @@ pub fn push_operand_count(
     push_numbers(out, alloc, name)?;
     out.push(b", not ")?;
     out.push_number(standing)
-}
-
-// The name of a line's statement.
-fn name_of_statement<'a>(alloc: Global, line: &FaultyLine<'a>) -> Result<&'a [u8], AllocError>
-    requires labels { length line.now.stmt.now.labels ≤ 1000 }
-    requires text { length line.now.text.now ≤ 1000 }
-    ensures { IfOk result (λ name. name.now ≡ name_of_statement (line_of line.now)) }
-{
-    let Ok(tokens) = tokens(alloc, line.text) else {
-        return Err(AllocError);
-    };
-    let labels = line.stmt.labels.as_slice().len();
-    Ok(name_after(labels, line.text, &tokens))
 }
 
 /// An operand that is no register.

@@ -1,7 +1,8 @@
 //! Texts that are put together.
 
-ghost use Rattle.std.specs.Prelude.{◌≡◌, ◌≤◌, [], ◌∷◌, ◌++◌, replicate, map, OnOk};
+ghost use Rattle.std.specs.Prelude.{◌≡◌, ◌<◌, ◌≤◌, [], ◌∷◌, ◌++◌, replicate, map, OnOk};
 ghost use Rattle.rv_text.specs.Rows.{hex};
+ghost use Rattle.rv_report.specs.Digits.{upper_digit, upper_hex};
 ghost use Rattle.rv_report.specs.Texts.{about, alternatives, quoted, separator};
 
 use crate::characters::push_excerpt;
@@ -9,6 +10,14 @@ use itoa::{Buffer, Integer};
 use rv_text::OutputRow;
 use std::alloc::{AllocError, Global};
 use std::marker::Model;
+
+/// The digit of a number below 16, in upper case.
+pub fn upper_digit(n: u8) -> u8
+    requires { n < 16 }
+    ensures { result ≡ upper_digit n }
+{
+    if n < 10 { b'0' + n } else { b'A' - 10 + n }
+}
 
 /// A text that grows at its end. Contracts see its bytes.
 #[derive(Drop)]
@@ -82,6 +91,13 @@ impl Text {
         let mut row = OutputRow::new();
         row.push_hex(8, number);
         self.push(row.bytes())
+    }
+
+    /// Appends the two hexadecimal digits of a byte, in upper case.
+    pub fn push_upper_hex(&mut self, byte: u8) -> Result<(), AllocError>
+        ensures { OnOk result (self.new ≡ self.old ++ upper_hex byte) }
+    {
+        self.push(&[upper_digit(byte / 16), upper_digit(byte % 16)])
     }
 
     /// Appends a part of a line in quotation marks.

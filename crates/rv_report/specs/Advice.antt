@@ -1,0 +1,23 @@
+-- What messages advise, by the names that they are about.
+use Rattle.std.specs.Prelude.{ℕ, Bool, true, false, List, [], ◌∷◌, map, if◌then◌else◌}
+use Rattle.std.specs.Str.{str_eq_ignore_ascii_case}
+use Rattle.rv_report.specs.declared.advice.Topic.{Topic}
+use Rattle.rv_report.specs.declared.advice.Topic.TheVariants.{OtherDirective, OtherMnemonic, RegisterGiven, LabelGiven}
+use Rattle.rv_report.specs.declared.advice_tables.TheConstants.{LABEL_GIVEN, OTHER_DIRECTIVES, OTHER_MNEMONICS, REGISTER_GIVEN}
+
+-- a name is one of some, in either letter case
+abbrev pub is_any : List (List ℕ) → List ℕ → Bool
+is_any [] name = false
+is_any (n ∷ ns) name = if str_eq_ignore_ascii_case n name then true else is_any ns name
+
+-- the advice of the first row that has the name
+abbrev pub advice_in : List (List (List ℕ) × List ℕ) → List ℕ → List ℕ
+advice_in [] name = []
+advice_in (row ∷ rows) name = if is_any row.0 name then row.1 else advice_in rows name
+
+-- what a message advises about a name
+unfoldable pub advice : Topic → List ℕ → List ℕ
+advice OtherDirective name = advice_in (map (λ row. (map (λ n. n.now) row.0.now, row.1.now)) OTHER_DIRECTIVES) name
+advice OtherMnemonic name = advice_in (map (λ row. (map (λ n. n.now) row.0.now, row.1.now)) OTHER_MNEMONICS) name
+advice RegisterGiven name = advice_in (map (λ row. (map (λ n. n.now) row.0.now, row.1.now)) REGISTER_GIVEN) name
+advice LabelGiven name = advice_in (map (λ row. (map (λ n. n.now) row.0.now, row.1.now)) LABEL_GIVEN) name

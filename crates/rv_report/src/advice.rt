@@ -1,0 +1,61 @@
+//! What messages advise, by the names that they are about.
+
+ghost use Rattle.std.specs.Prelude.{◌≡◌, map};
+ghost use Rattle.rv_report.specs.Advice.{advice, advice_in, is_any};
+
+use crate::advice_tables::{
+    AdviceRow, LABEL_GIVEN, OTHER_DIRECTIVES, OTHER_MNEMONICS, REGISTER_GIVEN,
+};
+use rv_ops::is_name;
+
+/// What a message gives advice about.
+#[derive(Clone, Copy, Debug, PartialEq, Eq)]
+pub enum Topic {
+    /// A directive that other assemblers have.
+    OtherDirective,
+    /// An instruction that other assemblers or processors have.
+    OtherMnemonic,
+    /// A statement that takes a number or an address, where a register stands.
+    RegisterGiven,
+    /// A statement that takes a constant, where a label stands.
+    LabelGiven,
+}
+
+// Whether a name is one of some, in either letter case.
+fn is_any(mut names: &[&str], name: &[u8]) -> bool
+    ensures { result ≡ is_any (map (λ n. n.now) names.entry.now) name.now }
+{
+    'names: while let [first, rest @ ..] = names {
+        if is_name(first, name) {
+            return true;
+        }
+        names = rest;
+    }
+    false
+}
+
+// The advice of the first row that has a name, and none for other names.
+fn advice_in(mut rows: &'static [AdviceRow], name: &[u8]) -> &'static [u8]
+    ensures { result.now ≡ advice_in (map (λ row. (map (λ n. n.now) row.0.now, row.1.now)) rows.entry.now) name.now }
+{
+    'rows: while let [row, rest @ ..] = rows {
+        if is_any(row.0, name) {
+            return row.1.as_bytes();
+        }
+        rows = rest;
+    }
+    b""
+}
+
+/// What a message advises about a name: the end of the message, which is empty where there is no advice.
+#[tactic(auto, unfolding(crate::specs::Advice::advice))]
+pub fn advice(topic: Topic, name: &[u8]) -> &'static [u8]
+    ensures { result.now ≡ advice topic name.now }
+{
+    match topic {
+        Topic::OtherDirective => advice_in(&OTHER_DIRECTIVES, name),
+        Topic::OtherMnemonic => advice_in(&OTHER_MNEMONICS, name),
+        Topic::RegisterGiven => advice_in(&REGISTER_GIVEN, name),
+        Topic::LabelGiven => advice_in(&LABEL_GIVEN, name),
+    }
+}
