@@ -28,8 +28,9 @@ use Rattle.rv_report.specs.Bounds.{from_to, gap_text, limits_text}
 use Rattle.rv_report.specs.Characters.{column_of, excerpt}
 use Rattle.rv_report.specs.Counts.{numbers_text, some_numbers}
 use Rattle.rv_report.specs.Csrs.{counter_number, its_number, standard_number, unknown_csr}
+use Rattle.rv_report.specs.LexicalMessages.{bad_byte, bad_number, bad_string, number_wrong}
 use Rattle.rv_report.specs.Lines.{Line}
-use Rattle.rv_report.specs.Messages.{bad_byte, operand_count, bad_register, register_range, bad_operand, undefined_name, later_equ, line_of_equ, faulty_equ_of, not_constant, no_partner, beyond_reach, out_of_range, not_multiple, odd_distance, odd_address, message_of}
+use Rattle.rv_report.specs.Messages.{operand_count, bad_register, register_range, bad_operand, undefined_name, later_equ, line_of_equ, faulty_equ_of, not_constant, no_partner, beyond_reach, out_of_range, not_multiple, odd_distance, odd_address, message_of}
 use Rattle.rv_report.specs.Reports.{count_of_faults, line_row, margin, mark, mark_row, message_row, note_at, painted, rendition, report_of, shown_line}
 use Rattle.rv_report.specs.Suggestions.{did_you_mean, suggestions}
 use Rattle.rv_report.specs.Texts.{about, quoted}
@@ -109,52 +110,64 @@ fault_at number from to = record { number = number; span = record { from = from;
 abbrev message : (text : List ℕ) → (values : List Entry) → Fault → List ℕ
 message text values f = message_of names nothing_shown (faulty 1 text values) f
 
-quote : message (codes ".ascii " ++ 0xE2 ∷ 0x80 ∷ 0x9C ∷ []) [] (fault_at fault.BadByte 7 8) ≡ codes "byte 0xE2 begins nothing of the language"
-unfolding message_of quoted about did_you_mean suggestions some_numbers from_to gap_text limits_text bad_byte operand_count bad_register register_range bad_operand undefined_name later_equ line_of_equ faulty_equ_of no_partner beyond_reach out_of_range not_multiple odd_distance odd_address
+quote : message (codes ".ascii " ++ 0xE2 ∷ 0x80 ∷ 0x9C ∷ []) [] (fault_at fault.BadByte 7 8) ≡ codes "byte 0xE2 begins nothing of the language; write \" in the place of a typographic quotation mark"
+unfolding message_of bad_byte advice
 quote = refl
 
+octal : message (codes ".word 09") [] (fault_at fault.BadNumber 6 8) ≡ codes "'09' is not a number; '9' is no octal digit, and a number with a leading 0 is octal"
+unfolding message_of bad_number number_wrong quoted about
+octal = refl
+
+large : message (codes ".word 0x8000000000000000") [] (fault_at fault.BadNumber 6 24) ≡ codes "'0x8000000000000000' is not a number; the greatest number is 0x7FFFFFFFFFFFFFFF"
+unfolding message_of bad_number number_wrong quoted about
+large = refl
+
+unclosed : message (codes ".ascii \"a") [] (fault_at fault.BadString 7 9) ≡ codes "the closing quotation mark is missing"
+unfolding message_of bad_string quoted about
+unclosed = refl
+
 four_operands : message (codes "a: 1: addi a0, (a, b), c, d") [] (fault_at fault.OperandCount 6 10) ≡ codes "'addi' takes 3 operands, not 4"
-unfolding message_of quoted about did_you_mean suggestions some_numbers from_to gap_text limits_text bad_byte operand_count bad_register register_range bad_operand undefined_name later_equ line_of_equ faulty_equ_of no_partner beyond_reach out_of_range not_multiple odd_distance odd_address digits operation_named operation_names row_of layout_of register_named register_names csr_named csr_names other_forms slots_of set_named set_names modifier_named modifier_names directive_named directive_names section_named section_names
+unfolding message_of quoted about did_you_mean suggestions some_numbers from_to gap_text limits_text operand_count bad_register register_range bad_operand undefined_name later_equ line_of_equ faulty_equ_of no_partner beyond_reach out_of_range not_multiple odd_distance odd_address digits operation_named operation_names row_of layout_of register_named register_names csr_named csr_names other_forms slots_of set_named set_names modifier_named modifier_names directive_named directive_names section_named section_names
 four_operands = refl
 
 small_register : message (codes "x: c.lui zero, 1") [] (fault_at fault.RegisterRange 9 13) ≡ codes "'c.lui' does not take 'zero' here"
-unfolding message_of quoted about did_you_mean suggestions some_numbers from_to gap_text limits_text bad_byte operand_count bad_register register_range bad_operand undefined_name later_equ line_of_equ faulty_equ_of no_partner beyond_reach out_of_range not_multiple odd_distance odd_address digits operation_named operation_names row_of layout_of register_named register_names csr_named csr_names other_forms slots_of set_named set_names modifier_named modifier_names directive_named directive_names section_named section_names
+unfolding message_of quoted about did_you_mean suggestions some_numbers from_to gap_text limits_text operand_count bad_register register_range bad_operand undefined_name later_equ line_of_equ faulty_equ_of no_partner beyond_reach out_of_range not_multiple odd_distance odd_address digits operation_named operation_names row_of layout_of register_named register_names csr_named csr_names other_forms slots_of set_named set_names modifier_named modifier_names directive_named directive_names section_named section_names
 small_register = refl
 
 missing_register : message (codes "addi a0, , 1") [] (fault_at fault.BadRegister 8 8) ≡ codes "a register is expected here"
-unfolding message_of quoted about did_you_mean suggestions some_numbers from_to gap_text limits_text bad_byte operand_count bad_register register_range bad_operand undefined_name later_equ line_of_equ faulty_equ_of no_partner beyond_reach out_of_range not_multiple odd_distance odd_address
+unfolding message_of quoted about did_you_mean suggestions some_numbers from_to gap_text limits_text operand_count bad_register register_range bad_operand undefined_name later_equ line_of_equ faulty_equ_of no_partner beyond_reach out_of_range not_multiple odd_distance odd_address
 missing_register = refl
 
 undefined_symbol : message (codes "bnez a0, far + lop") [] (fault_at fault.Undefined 9 18) ≡ codes "'lop' is not defined; did you mean 'loop'?"
-unfolding message_of quoted about did_you_mean suggestions some_numbers from_to gap_text limits_text bad_byte operand_count bad_register register_range bad_operand undefined_name later_equ line_of_equ faulty_equ_of no_partner beyond_reach out_of_range not_multiple odd_distance odd_address rows next_row cost_at digits operation_named operation_names row_of layout_of register_named register_names csr_named csr_names other_forms slots_of set_named set_names modifier_named modifier_names directive_named directive_names section_named section_names
+unfolding message_of quoted about did_you_mean suggestions some_numbers from_to gap_text limits_text operand_count bad_register register_range bad_operand undefined_name later_equ line_of_equ faulty_equ_of no_partner beyond_reach out_of_range not_multiple odd_distance odd_address rows next_row cost_at digits operation_named operation_names row_of layout_of register_named register_names csr_named csr_names other_forms slots_of set_named set_names modifier_named modifier_names directive_named directive_names section_named section_names
 undefined_symbol = refl
 
 undefined_local : message (codes "j 1f") [] (fault_at fault.Undefined 2 4) ≡ codes "'1f' is not defined"
-unfolding message_of quoted about did_you_mean suggestions some_numbers from_to gap_text limits_text bad_byte operand_count bad_register register_range bad_operand undefined_name later_equ line_of_equ faulty_equ_of no_partner beyond_reach out_of_range not_multiple odd_distance odd_address digits operation_named operation_names row_of layout_of register_named register_names csr_named csr_names other_forms slots_of set_named set_names modifier_named modifier_names directive_named directive_names section_named section_names
+unfolding message_of quoted about did_you_mean suggestions some_numbers from_to gap_text limits_text operand_count bad_register register_range bad_operand undefined_name later_equ line_of_equ faulty_equ_of no_partner beyond_reach out_of_range not_multiple odd_distance odd_address digits operation_named operation_names row_of layout_of register_named register_names csr_named csr_names other_forms slots_of set_named set_names modifier_named modifier_names directive_named directive_names section_named section_names
 undefined_local = refl
 
 faulty_symbol : message (codes ".word 1 + n") [] (fault_at fault.FaultyEqu 6 11) ≡ codes "the .equ of 'n' has a fault (line 3)"
-unfolding message_of quoted about did_you_mean suggestions some_numbers from_to gap_text limits_text bad_byte operand_count bad_register register_range bad_operand undefined_name later_equ line_of_equ faulty_equ_of no_partner beyond_reach out_of_range not_multiple odd_distance odd_address digits operation_named operation_names row_of layout_of register_named register_names csr_named csr_names other_forms slots_of set_named set_names modifier_named modifier_names directive_named directive_names section_named section_names
+unfolding message_of quoted about did_you_mean suggestions some_numbers from_to gap_text limits_text operand_count bad_register register_range bad_operand undefined_name later_equ line_of_equ faulty_equ_of no_partner beyond_reach out_of_range not_multiple odd_distance odd_address digits operation_named operation_names row_of layout_of register_named register_names csr_named csr_names other_forms slots_of set_named set_names modifier_named modifier_names directive_named directive_names section_named section_names
 faulty_symbol = refl
 
 large_immediate : message (codes "addi a0, a0, 2048") (Ok (pos 2048) ∷ []) (fault_at fault.Range 13 17) ≡ codes "2048 is out of range (-2048 to 2047)"
-unfolding message_of quoted about did_you_mean suggestions some_numbers from_to gap_text limits_text bad_byte operand_count bad_register register_range bad_operand undefined_name later_equ line_of_equ faulty_equ_of no_partner beyond_reach out_of_range not_multiple odd_distance odd_address digits operation_named operation_names row_of layout_of register_named register_names csr_named csr_names other_forms slots_of set_named set_names modifier_named modifier_names directive_named directive_names section_named section_names
+unfolding message_of quoted about did_you_mean suggestions some_numbers from_to gap_text limits_text operand_count bad_register register_range bad_operand undefined_name later_equ line_of_equ faulty_equ_of no_partner beyond_reach out_of_range not_multiple odd_distance odd_address digits operation_named operation_names row_of layout_of register_named register_names csr_named csr_names other_forms slots_of set_named set_names modifier_named modifier_names directive_named directive_names section_named section_names
 large_immediate = refl
 
 no_zero : message (codes "c.addi a0, 0") (Ok (pos 0) ∷ []) (fault_at fault.Range 11 12) ≡ codes "0 is out of range (-32 to 31, not 0)"
-unfolding message_of quoted about did_you_mean suggestions some_numbers from_to gap_text limits_text bad_byte operand_count bad_register register_range bad_operand undefined_name later_equ line_of_equ faulty_equ_of no_partner beyond_reach out_of_range not_multiple odd_distance odd_address digits operation_named operation_names row_of layout_of register_named register_names csr_named csr_names other_forms slots_of set_named set_names modifier_named modifier_names directive_named directive_names section_named section_names
+unfolding message_of quoted about did_you_mean suggestions some_numbers from_to gap_text limits_text operand_count bad_register register_range bad_operand undefined_name later_equ line_of_equ faulty_equ_of no_partner beyond_reach out_of_range not_multiple odd_distance odd_address digits operation_named operation_names row_of layout_of register_named register_names csr_named csr_names other_forms slots_of set_named set_names modifier_named modifier_names directive_named directive_names section_named section_names
 no_zero = refl
 
 far_branch : message (codes "beqz a0, far") (Ok (negsuc 4999) ∷ []) (fault_at fault.Range 9 12) ≡ codes "the target is 5000 bytes behind; the reach is -4096 to 4094"
-unfolding message_of quoted about did_you_mean suggestions some_numbers from_to gap_text limits_text bad_byte operand_count bad_register register_range bad_operand undefined_name later_equ line_of_equ faulty_equ_of no_partner beyond_reach out_of_range not_multiple odd_distance odd_address digits operation_named operation_names row_of layout_of register_named register_names csr_named csr_names other_forms slots_of set_named set_names modifier_named modifier_names directive_named directive_names section_named section_names
+unfolding message_of quoted about did_you_mean suggestions some_numbers from_to gap_text limits_text operand_count bad_register register_range bad_operand undefined_name later_equ line_of_equ faulty_equ_of no_partner beyond_reach out_of_range not_multiple odd_distance odd_address digits operation_named operation_names row_of layout_of register_named register_names csr_named csr_names other_forms slots_of set_named set_names modifier_named modifier_names directive_named directive_names section_named section_names
 far_branch = refl
 
 lone_low_half : message (codes "lw a0, %pcrel_lo(here)(a0)") (Err value.NoPartner ∷ []) (fault_at fault.NoPartner 7 26) ≡ codes "no 'auipc .., %pcrel_hi(..)' stands at 'here'"
-unfolding message_of quoted about did_you_mean suggestions some_numbers from_to gap_text limits_text bad_byte operand_count bad_register register_range bad_operand undefined_name later_equ line_of_equ faulty_equ_of no_partner beyond_reach out_of_range not_multiple odd_distance odd_address digits operation_named operation_names row_of layout_of register_named register_names csr_named csr_names other_forms slots_of set_named set_names modifier_named modifier_names directive_named directive_names section_named section_names
+unfolding message_of quoted about did_you_mean suggestions some_numbers from_to gap_text limits_text operand_count bad_register register_range bad_operand undefined_name later_equ line_of_equ faulty_equ_of no_partner beyond_reach out_of_range not_multiple odd_distance odd_address digits operation_named operation_names row_of layout_of register_named register_names csr_named csr_names other_forms slots_of set_named set_names modifier_named modifier_names directive_named directive_names section_named section_names
 lone_low_half = refl
 
 odd : message (codes "nop") [] (fault_at fault.OddAddress 0 3) ≡ codes "an instruction at the odd address 0x00000001"
-unfolding message_of quoted about did_you_mean suggestions some_numbers from_to gap_text limits_text bad_byte operand_count bad_register register_range bad_operand undefined_name later_equ line_of_equ faulty_equ_of no_partner beyond_reach out_of_range not_multiple odd_distance odd_address hex
+unfolding message_of quoted about did_you_mean suggestions some_numbers from_to gap_text limits_text operand_count bad_register register_range bad_operand undefined_name later_equ line_of_equ faulty_equ_of no_partner beyond_reach out_of_range not_multiple odd_distance odd_address hex
 odd = refl
 
 directive_elsewhere : message (codes "x: .EQV n, 4") [] (fault_at fault.UnknownName 3 7) ≡ codes "no instruction or directive is called '.EQV'; write '.equ'"

@@ -2,3 +2,4 @@ pub mod Columns
 mod Examples
 pub mod Joining
 pub mod RangeLimits
+pub mod Strings

@@ -6,6 +6,7 @@ pub mod Csrs
 pub mod Digits
 pub mod FaultyNames
 pub mod LanguageNames
+pub mod LexicalMessages
 pub mod Lines
 pub mod Messages
 pub mod Operands

@@ -1,5 +1,5 @@
 -- The messages of faults.
-use Rattle.std.specs.Prelude.{ℕ, ℤ, pos, ◌+◌, ◌*◌, int_lt, unsigned_abs, bytes_eq, is_some, List, [], ◌∷◌, ◌++◌, length, slice_index, Option, Some, None, codes, decimal, if◌then◌else◌}
+use Rattle.std.specs.Prelude.{ℕ, ℤ, pos, ◌+◌, ◌*◌, int_lt, unsigned_abs, bytes_eq, is_some, List, [], ◌∷◌, ◌++◌, length, drop, slice_index, Option, Some, None, codes, decimal, if◌then◌else◌}
 use Rattle.std.specs.Fmt.{signed_decimal}
 use Rattle.rv_text.specs.declared.faults.Fault.{Fault}
 use Rattle.rv_text.specs.declared.faults.FaultNumber.{FaultNumber}
@@ -28,19 +28,14 @@ use Rattle.rv_report.specs.Advice.{advice}
 use Rattle.rv_report.specs.Bounds.{limits_in, limits_text}
 use Rattle.rv_report.specs.Counts.{numbers_text, operands_standing}
 use Rattle.rv_report.specs.Csrs.{unknown_csr}
-use Rattle.rv_report.specs.Digits.{upper_hex}
 use Rattle.rv_report.specs.FaultyNames.{faulty_name_of, low_label_of, name_text}
+use Rattle.rv_report.specs.LexicalMessages.{bad_byte, bad_number, bad_string}
 use Rattle.rv_report.specs.Lines.{Line, part, name_after, word_at}
 use Rattle.rv_report.specs.Operands.{operand_at, value_at}
 use Rattle.rv_report.specs.Suggestions.{did_you_mean, suggestions}
 use Rattle.rv_report.specs.Texts.{about, quoted}
 use Rattle.rv_report.specs.UnknownNames.{unknown_name}
 use Rattle.rv_report.specs.Wanted.{register_given, wanted_of}
-
--- Lexical faults
-
-unfoldable pub bad_byte : ℕ → List ℕ
-bad_byte byte = codes "byte 0x" ++ (upper_hex byte ++ codes " begins nothing of the language")
 
 -- Faults of statements
 
@@ -210,9 +205,9 @@ abbrev pub value_of_line : Line → Span → Option ℤ
 value_of_line line span = value_at span (operands_of line.stmt.body) line.values
 
 abbrev pub message_by : FaultNumber → Environment → Shown → Line → Span → List ℕ
-message_by faults.BadByte given shown line span = bad_byte (slice_index line.text span.from)
-message_by faults.BadNumber given shown line span = about [] (part line.text span) (codes " is not a number")
-message_by faults.BadString given shown line span = codes "string or character not closed, or a wrong escape"
+message_by faults.BadByte given shown line span = bad_byte (slice_index line.text span.from) (drop span.from line.text)
+message_by faults.BadNumber given shown line span = bad_number (part line.text span)
+message_by faults.BadString given shown line span = bad_string (part line.text span)
 message_by faults.NoStatement given shown line span = codes "an instruction or a directive is expected here"
 message_by faults.UnknownName given shown line span = unknown_name (part line.text span) (word_after_name line) (slice_index line.text span.to)
 message_by faults.OperandCount given shown line span = operand_count (part line.text span) (operands_standing (length line.stmt.labels) (lexed_line line.text))

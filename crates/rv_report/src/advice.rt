@@ -4,7 +4,7 @@ ghost use Rattle.std.specs.Prelude.{◌≡◌, map};
 ghost use Rattle.rv_report.specs.Advice.{advice, advice_in, is_any};
 
 use crate::advice_tables::{
-    AdviceRow, LABEL_GIVEN, OTHER_DIRECTIVES, OTHER_MNEMONICS, REGISTER_GIVEN,
+    AdviceRow, CHARACTERS, LABEL_GIVEN, OTHER_DIRECTIVES, OTHER_MNEMONICS, REGISTER_GIVEN,
 };
 use rv_ops::is_name;
 
@@ -19,6 +19,8 @@ pub enum Topic {
     RegisterGiven,
     /// A statement that takes a constant, where a label stands.
     LabelGiven,
+    /// A character that looks like one of the language.
+    Character,
 }
 
 // Whether a name is one of some, in either letter case.
@@ -57,5 +59,6 @@ pub fn advice(topic: Topic, name: &[u8]) -> &'static [u8]
         Topic::OtherMnemonic => advice_in(&OTHER_MNEMONICS, name),
         Topic::RegisterGiven => advice_in(&REGISTER_GIVEN, name),
         Topic::LabelGiven => advice_in(&LABEL_GIVEN, name),
+        Topic::Character => advice_in(&CHARACTERS, name),
     }
 }

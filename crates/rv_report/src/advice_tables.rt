@@ -146,6 +146,27 @@ pub const REGISTER_GIVEN: [AdviceRow; 24] = [
 /// The statements that take a constant where a label stands, and what takes a label.
 pub const LABEL_GIVEN: [AdviceRow; 1] = [(&["li"], "; write 'la' for the address of a label")];
 
+/// Characters that text processors put into texts, and what is written in their place.
+pub const CHARACTERS: [AdviceRow; 5] = [
+    (
+        &["\u{2018}", "\u{2019}"],
+        "; write ' in the place of a typographic quotation mark",
+    ),
+    (
+        &["\u{201c}", "\u{201d}", "\u{201e}"],
+        "; write \" in the place of a typographic quotation mark",
+    ),
+    (
+        &["\u{2212}", "\u{2013}", "\u{2014}"],
+        "; write - in the place of a minus sign or a dash",
+    ),
+    (
+        &["\u{a0}"],
+        "; write a space in the place of a no-break space",
+    ),
+    (&["\u{feff}"], "; save the file without a byte order mark"),
+];
+
 /// The numbers of the control and status registers that have no name here, but for the counters of [`COUNTER_NUMBERS`]:
 /// RISC-V Privileged ISA 20190608, tables 2.2 to 2.5, and its version 20211203.
 pub const CSR_NUMBERS: [(u16, &str); 65] = [

@@ -46,8 +46,8 @@ pub fn is_visible(character: char) -> bool
     is_no_control(code) && !turns_text(code)
 }
 
-// How many bytes the character has that begins some bytes, if it is one that is shown; otherwise 0.
-fn size_of_first(bytes: &[u8]) -> usize
+/// How many bytes the character has that begins some bytes, if it is one that is shown; otherwise 0.
+pub fn size_of_first(bytes: &[u8]) -> usize
     ensures { result ≡ size_of_first bytes.now }
 {
     let (character, size) = decode_utf8(bytes);

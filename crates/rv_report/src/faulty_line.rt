@@ -1,6 +1,6 @@
 //! A line with a fault.
 
-ghost use Rattle.std.specs.Prelude.{◌≡◌, slice_index, option_map};
+ghost use Rattle.std.specs.Prelude.{◌≡◌, drop, take, slice_index, option_map};
 ghost use Rattle.rv_report.specs.Lines.{line_of, part, word_at};
 ghost use Rattle.rv_report.specs.Messages.{operand_of_line, value_of_line};
 
@@ -32,6 +32,22 @@ pub fn part(line: &[u8], span: Span) -> &[u8]
     let size = span.to.saturating_sub(span.from) as usize;
     let (part, _) = rest.split_at(rest.len().min(size));
     part
+}
+
+/// The first bytes of some, as many as that if there are.
+pub fn first_bytes(bytes: &[u8], count: usize) -> &[u8]
+    ensures { result.now ≡ take count bytes.now }
+{
+    let (first, _) = bytes.split_at(bytes.len().min(count));
+    first
+}
+
+/// The bytes from a place on.
+pub fn bytes_from(bytes: &[u8], place: usize) -> &[u8]
+    ensures { result.now ≡ drop place bytes.now }
+{
+    let (_, rest) = bytes.split_at(bytes.len().min(place));
+    rest
 }
 
 /// The byte of a line at a place, and 0 behind its end.

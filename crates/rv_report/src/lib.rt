@@ -12,6 +12,7 @@ mod faulty_line;
 mod faulty_names;
 mod language_names;
 mod laws;
+mod lexical_messages;
 mod messages;
 mod name_messages;
 mod operands;

@@ -6,10 +6,11 @@ ghost use Rattle.rv_report.specs.Messages.{message_of};
 ghost use Rattle.rv_report.specs.Texts.{about};
 
 use crate::constant_messages::push_not_constant;
-use crate::faulty_line::{FaultyLine, byte_at, part};
+use crate::faulty_line::{FaultyLine, part};
+use crate::lexical_messages::{push_bad_byte_at, push_bad_number, push_bad_string};
 use crate::name_messages::{push_faulty_equ, push_later_equ, push_no_partner, push_undefined};
 use crate::statement_messages::{
-    push_bad_byte, push_bad_operand, push_bad_register, push_operand_count, push_register_range,
+    push_bad_operand, push_bad_register, push_operand_count, push_register_range,
 };
 use crate::text::Text;
 use crate::unknown_names::push_unknown_name;
@@ -48,9 +49,9 @@ pub fn push_message<N: Names, V: View>(
 {
     let span = fault.span;
     match fault.number {
-        FaultNumber::BadByte => push_bad_byte(out, byte_at(line.text, span.from)),
-        FaultNumber::BadNumber => push_about_part(out, b"", line, span, b" is not a number"),
-        FaultNumber::BadString => out.push(b"string or character not closed, or a wrong escape"),
+        FaultNumber::BadByte => push_bad_byte_at(out, line.text, span.from),
+        FaultNumber::BadNumber => push_bad_number(out, part(line.text, span)),
+        FaultNumber::BadString => push_bad_string(out, part(line.text, span)),
         FaultNumber::NoStatement => out.push(b"an instruction or a directive is expected here"),
         FaultNumber::UnknownName => push_unknown_name(out, alloc, line, span),
         FaultNumber::OperandCount => push_operand_count(out, alloc, line, span),

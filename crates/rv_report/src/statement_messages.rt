@@ -1,10 +1,10 @@
-//! The messages of lexical faults and of faults of statements.
+//! The messages of faults of statements.
 
 ghost use Rattle.std.specs.Prelude.{◌≡◌, ◌≤◌, ◌++◌, length, IfOk, OnOk};
 ghost use Rattle.rv_text.specs.Lexing.{lexed_line};
 ghost use Rattle.rv_report.specs.Counts.{operands_standing};
 ghost use Rattle.rv_report.specs.Lines.{line_of, part};
-ghost use Rattle.rv_report.specs.Messages.{bad_byte, bad_operand, bad_register, name_of_statement, operand_count, register_range};
+ghost use Rattle.rv_report.specs.Messages.{bad_operand, bad_register, name_of_statement, operand_count, register_range};
 
 use crate::counts::push_numbers;
 use crate::faulty_line::{FaultyLine, part};
@@ -13,16 +13,6 @@ use crate::text::Text;
 use rv_stmt::operands_from;
 use rv_text::{Span, tokens};
 use std::alloc::{AllocError, Global};
-
-/// A byte that begins no token.
-#[tactic(auto, unfolding(crate::specs::Messages::bad_byte))]
-pub fn push_bad_byte(out: &mut Text, byte: u8) -> Result<(), AllocError>
-    ensures { OnOk result (out.new ≡ out.old ++ bad_byte byte) }
-{
-    out.push(b"byte 0x")?;
-    out.push_upper_hex(byte)?;
-    out.push(b" begins nothing of the language")
-}
 
 // How many operands stand after the name of a line's statement.
 fn operands_standing(alloc: Global, labels: usize, line: &[u8]) -> Result<usize, AllocError>
