@@ -7,7 +7,7 @@ use Rattle.rv_text.specs.StreamLaws.{writes_then}
 use Rattle.rv_files.specs.Bin.{bin_bytes, bytes_up_to, end_of}
 use Rattle.rv_files.specs.Segments.{Segment}
 use Rattle.rv_files.proofs.Partly.{Partly}
-use Rattle.rv_files.proofs.Slices.{first_and_rest}
+use Rattle.rv_text.specs.SliceLaws.{first_and_rest}
 
 -- sixty-four zeros, and the others
 pub next_zeros : (left : ℕ) → 64 < left → replicate {A = ℕ} left 0 ≡ replicate {A = ℕ} 64 0 ++ replicate (left - 64) 0

@@ -4,7 +4,7 @@ use Rattle.std.proofs.lemmas.List.{append-nil, length-drop}
 use Rattle.std.proofs.lemmas.Grind.{flat_map-append}
 use Rattle.std.specs.List.{flat_map}
 use Rattle.rv_files.specs.Segments.{Segment}
-use Rattle.rv_files.proofs.Slices.{first_and_rest}
+use Rattle.rv_text.specs.SliceLaws.{first_and_rest}
 use Rattle.rv_files.specs.Hex.{Stretch, record_text, upper_of, upper_records, upper_after, data_records, data_record, start_record, end_record, stretches, stretches_of, row_count, hex_text}
 
 -- one more stretch of sixteen bytes

@@ -3,7 +3,6 @@ pub mod Cuts
 pub mod ElfLaw
 pub mod ElfSteps
 pub mod Examples
-pub mod Halfway
 pub mod HexLaw
 pub mod HexRows
 pub mod HexUnique
@@ -12,5 +11,4 @@ pub mod LoadedCells
 pub mod Partly
 pub mod BinLaw
 pub mod BinSteps
-pub mod Slices
 pub mod Reports

@@ -8,8 +8,8 @@ use Rattle.rv_text.specs.declared.faults.Fault.{Fault}
 use Rattle.rv_list.specs.Faults.{body_faults, found, fault_row, is_set}
 use Rattle.rv_text.specs.Streams.{WritesPrefix}
 use Rattle.rv_text.specs.Blocks.{Waits}
-use Rattle.rv_list.proofs.Halfway.{Halfway, halfway_next, halfway_lost}
-use Rattle.rv_list.proofs.Slices.{first_and_rest}
+use Rattle.rv_text.specs.Halfway.{Halfway, halfway_next, halfway_lost}
+use Rattle.rv_text.specs.SliceLaws.{first_and_rest}
 
 -- one byte after another
 pub set_from : (bytes : List ℕ) (i : ℕ) → list_any (λ byte. not (byte == 0)) (drop i bytes) ≡ (is_set (slice_get bytes i) || list_any (λ byte. not (byte == 0)) (drop (i + 1) bytes))
@@ -20,15 +20,6 @@ set_from bytes i = rw add-one (at bytes i)
     at [] (suc i) = refl
     at (b ∷ bs) zero = refl
     at (b ∷ bs) (suc i) = at bs i
-
--- the faults that were found are those
-pub all_found : (fs : List Fault) → found (map (λ f. Some f) fs) ≡ fs
-all_found [] = refl
-all_found (f ∷ fs) = ap (λ l. f ∷ l) (all_found fs)
-
--- and a line has a row for each
-pub found_rows : (line : ℕ) (fs : List Fault) (found : List (Option Fault)) → found ≡ map (λ f. Some f) fs → length found ≡ length (map (fault_row line) fs)
-found_rows line fs found is = ap length is ∙ length-map fs (λ f. Some f) ∙ sym (length-map fs (fault_row line))
 
 -- the rows of faults
 abbrev rows_of : (line : ℕ) → List (Option Fault) → List ℕ

@@ -1,5 +1,5 @@
 -- Lists one after another, and texts that are gathered one after another.
-use Rattle.std.proofs.Common.{◌≡◌, ℕ, zero, suc, ◌+◌, ◌-◌, ◌<◌, ◌≤◌, List, [], ◌∷◌, ◌++◌, length, refl, ap, sym, ◌∙◌, arith, append_assoc, add-one}
+use Rattle.std.proofs.Common.{◌≡◌, ℕ, zero, suc, ◌+◌, ◌-◌, ◌<◌, ◌≤◌, List, [], ◌∷◌, ◌++◌, length, refl, ap, sym, ◌∙◌, arith, append_assoc}
 use Rattle.std.proofs.lemmas.List.{append-nil, length-append, nil_from_length}
 use Rattle.std.proofs.lemmas.List.Folds.{concat-append}
 use Rattle.std.specs.List.{concat}
@@ -8,10 +8,7 @@ use Rattle.rv_text.specs.Streams.{WritesPrefix}
 use Rattle.rv_text.specs.Blocks.{Waits}
 use Rattle.rv_text.specs.BlockLaws.{waits_then, waits_lost, lost_first}
 use Rattle.rv_list.specs.Joined.{joined}
-
--- one more
-pub joined_more : {A : Type 0} (f : ℕ → List A) (k : ℕ) → joined f (k + 1) ≡ joined f k ++ f k
-joined_more f k = rw add-one refl
+use Rattle.rv_list.specs.JoinedLaws.{joined_more}
 
 -- the next one is empty
 pub joined_none : {A : Type 0} (f : ℕ → List A) (k : ℕ) → f k ≡ [] → joined f (k + 1) ≡ joined f k
@@ -66,10 +63,6 @@ gathered_next f k t0 t1 t2 p0 p1 p2 a b = rw (joined_more f k) (waits_then t0 t1
 pub concat_joined : (f : ℕ → List (List ℕ)) (n : ℕ) → concat (joined f n) ≡ joined (λ k. concat (f k)) n
 concat_joined f zero = refl
 concat_joined f (suc n) = concat-append (joined f n) (f n) ∙ ap (λ l. l ++ concat (f n)) (concat_joined f n)
-
--- how many there are
-pub length_of_more : {A : Type 0} (f : ℕ → List A) (k : ℕ) → length (joined f (k + 1)) ≡ length (joined f k) + length (f k)
-length_of_more f k = ap length (joined_more f k) ∙ length-append (joined f k) (f k)
 
 pub length_of_singles : {A : Type 0} (f : ℕ → A) (n : ℕ) → length (joined (λ k. f k ∷ []) n) ≡ n
 length_of_singles f zero = refl

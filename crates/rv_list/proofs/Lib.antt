@@ -2,12 +2,9 @@ pub mod ByteRows
 pub mod Counted
 pub mod Examples
 pub mod FaultRows
-pub mod Halfway
 pub mod Hex
 pub mod Joined
 pub mod LaterLines
 pub mod Sections
-pub mod Slices
 pub mod SymbolRows
 pub mod Written
-pub mod PassedLines

@@ -9,8 +9,8 @@ use Rattle.rv_text.specs.Blocks.{Waits}
 use Rattle.rv_stmt.specs.declared.label.Label.{Label}
 use Rattle.rv_list.specs.Shown.{Shown}
 use Rattle.rv_list.specs.Symbols.{label_symbols, labels_symbols}
-use Rattle.rv_list.proofs.Halfway.{Halfway, halfway_next, halfway_lost}
-use Rattle.rv_list.proofs.Slices.{first_and_rest}
+use Rattle.rv_text.specs.Halfway.{Halfway, halfway_next, halfway_lost}
+use Rattle.rv_text.specs.SliceLaws.{first_and_rest}
 
 -- the rows of the first label, and those of the others
 next_label : (shown : Shown) (line address index : ℕ) (ls : List Label) (l : Label) → 1 ≤ length ls → l ≡ get_or ls 0 l → labels_symbols shown line address index ls ≡ label_symbols shown line address index l.name ++ labels_symbols shown line address (index + 1) (take (length ls - 1) (drop 1 ls))

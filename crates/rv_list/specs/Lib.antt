@@ -1,8 +1,11 @@
 pub mod Faults
+pub mod FoundFaults
 pub mod Image
 pub mod Joined
+pub mod JoinedLaws
 pub mod Later
 pub mod Listing
+pub mod PassedLines
 pub mod Rows
 pub mod Shown
 pub mod Symbols

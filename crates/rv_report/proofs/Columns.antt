@@ -1,14 +1,8 @@
 -- The columns of a line, byte by byte.
 use Rattle.std.proofs.Common.{◌≡◌, ℕ, suc, ◌+◌, ◌-◌, ◌≤◌, List, [], ◌∷◌, length, take, drop, ap, arith}
-use Rattle.std.proofs.lemmas.List.{take_all}
+use Rattle.rv_text.specs.SliceLaws.{rest_of}
 use Rattle.rv_report.specs.declared.characters.Place.{Place}
 use Rattle.rv_report.specs.Characters.{column_behind, next}
-
--- the bytes behind the first
-pub rest_of : (b : ℕ) (bs : List ℕ) → take (length (b ∷ bs) - 1) (drop 1 (b ∷ bs)) ≡ bs
-rest_of b bs =
-    let count : length (b ∷ bs) - 1 ≡ length bs = omega arith in
-    rw count (take_all (length bs) bs (omega arith))
 
 pub length_of_rest : (bs : List ℕ) → 1 ≤ length bs → length (take (length bs - 1) (drop 1 bs)) + 1 ≡ length bs
 length_of_rest [] l = absurd (omega (arith, l))

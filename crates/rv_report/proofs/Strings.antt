@@ -2,7 +2,7 @@
 use Rattle.std.proofs.Common.{◌≡◌, ℕ, ◌==◌, ◌-◌, ◌≤◌, Bool, false, List, [], ◌∷◌, length, take, drop, ap, sym, ◌∙◌, refl, arith}
 use Rattle.std.specs.Prelude.{if◌then◌else◌}
 use Rattle.rv_report.specs.LexicalMessages.{next_place, stop_after}
-use Rattle.rv_report.proofs.Columns.{rest_of}
+use Rattle.rv_text.specs.SliceLaws.{rest_of}
 
 pub otherwise : {A : Type 0} (b : Bool) (x y : A) → b ≡ false → (if b then x else y) ≡ y
 otherwise b x y e = rw e refl

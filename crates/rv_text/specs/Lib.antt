@@ -13,3 +13,5 @@ pub mod StreamLaws
 pub mod TokenLaws
 pub mod Blocks
 pub mod BlockLaws
+pub mod Halfway
+pub mod SliceLaws

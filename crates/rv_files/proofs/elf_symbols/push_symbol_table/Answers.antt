@@ -1,7 +1,7 @@
 use Rattle.std.proofs.Common.{◌≡◌, ◌+◌, ◌-◌, ◌∷◌, length, map, take, drop, ap, sym, ◌∙◌, append_assoc}
 use Rattle.rv_files.specs.Elf.{symbol_entries, symbol_entry}
 use Rattle.rv_files.proofs.ElfSteps.{entries_mod}
-use Rattle.rv_files.proofs.Slices.{first_and_rest}
+use Rattle.rv_text.specs.SliceLaws.{first_and_rest}
 use Rattle.rv_files.proofs.elf_symbols.push_symbol_table.Goals as goal
 
 pub symbols-preserved : goal.symbols-preserved

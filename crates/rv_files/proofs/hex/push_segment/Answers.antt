@@ -5,7 +5,7 @@ use Rattle.std.proofs.lemmas.Grind.{common_steps}
 use Rattle.std.proofs.lemmas.List.{take_min, drop_min}
 use Rattle.std.proofs.lemmas.Result.{err_from_is_err_and}
 use Rattle.rv_files.specs.Hex.{upper_of}
-use Rattle.rv_files.proofs.Halfway.{halfway_next, halfway_lost}
+use Rattle.rv_text.specs.Halfway.{halfway_next, halfway_lost}
 use Rattle.rv_files.proofs.HexRows.{next_rows, next_stretch}
 use Rattle.rv_files.proofs.hex.push_segment.Goals as goal
 

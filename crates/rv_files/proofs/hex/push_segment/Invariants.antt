@@ -1,6 +1,6 @@
 use Rattle.std.proofs.Common.{◌≡◌, length}
 use Rattle.rv_files.specs.Hex.{stretches, stretches_of, row_count, upper_after}
-use Rattle.rv_files.proofs.Halfway.{Halfway}
+use Rattle.rv_text.specs.Halfway.{Halfway}
 use Rattle.rv_files.proofs.HexRows.{rows_of}
 use Rattle.rv_files.proofs.hex.push_segment.Given as goal
 

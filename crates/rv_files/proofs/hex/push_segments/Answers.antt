@@ -1,7 +1,7 @@
 use Rattle.std.proofs.Common.{arith}
 use Rattle.std.proofs.lemmas.Grind.{common_steps}
 use Rattle.std.proofs.lemmas.Result.{err_from_is_err_and}
-use Rattle.rv_files.proofs.Halfway.{halfway_next, halfway_lost}
+use Rattle.rv_text.specs.Halfway.{halfway_next, halfway_lost}
 use Rattle.rv_files.proofs.HexRows.{next_segment}
 use Rattle.rv_files.proofs.hex.push_segments.Goals as goal
 

@@ -1,7 +1,7 @@
 use Rattle.std.proofs.Common.{◌≡◌, length}
 use Rattle.std.specs.List.{flat_map}
 use Rattle.rv_files.specs.Hex.{stretches_of}
-use Rattle.rv_files.proofs.Halfway.{Halfway}
+use Rattle.rv_text.specs.Halfway.{Halfway}
 use Rattle.rv_files.proofs.HexRows.{rows_of}
 use Rattle.rv_files.proofs.hex.push_segments.Given as goal
 

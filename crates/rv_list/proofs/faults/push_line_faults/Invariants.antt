@@ -1,7 +1,7 @@
 use Rattle.std.proofs.Common.{◌≡◌, length, map}
 use Rattle.std.specs.List.{concat}
 use Rattle.rv_list.specs.Faults.{fault_row, found}
-use Rattle.rv_list.proofs.Halfway.{Halfway}
+use Rattle.rv_text.specs.Halfway.{Halfway}
 use Rattle.rv_list.proofs.faults.push_line_faults.Given as goal
 
 -- the rows so far are gathered

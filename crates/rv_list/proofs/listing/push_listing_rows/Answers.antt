@@ -3,7 +3,7 @@ use Rattle.std.proofs.lemmas.Grind.{common_steps}
 use Rattle.std.proofs.lemmas.Result.{err_from_is_err_and}
 use Rattle.rv_list.specs.Listing.{listing_row}
 use Rattle.rv_list.proofs.Joined.{lost_row, gathered_row}
-use Rattle.rv_list.proofs.PassedLines.{passed_line}
+use Rattle.rv_list.specs.PassedLines.{passed_line}
 use Rattle.rv_list.proofs.listing.push_listing_rows.Goals as goal
 
 pub returns-in_err-push_listing_row-clause-text : goal.returns-in_err-push_listing_row-clause-text

@@ -1,7 +1,7 @@
 use Rattle.std.proofs.Common.{◌≡◌, ℕ, ◌+◌, List, length, arith, ap, ◌∙◌}
 use Rattle.rv_list.specs.Symbols.{line_symbols}
-use Rattle.rv_list.proofs.Joined.{length_of_more}
-use Rattle.rv_list.proofs.PassedLines.{passed_line}
+use Rattle.rv_list.specs.JoinedLaws.{length_of_more}
+use Rattle.rv_list.specs.PassedLines.{passed_line}
 use Rattle.rv_list.proofs.symbols.count_symbols.Goals as goal
 
 pub loop-k-preserved : goal.loop-k-preserved

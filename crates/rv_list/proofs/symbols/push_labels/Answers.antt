@@ -1,7 +1,7 @@
 use Rattle.std.proofs.Common.{length, arith, ap}
 use Rattle.std.proofs.lemmas.Grind.{common_steps}
 use Rattle.std.proofs.lemmas.Result.{err_from_is_err_and}
-use Rattle.rv_list.proofs.Slices.{first_and_rest}
+use Rattle.rv_text.specs.SliceLaws.{first_and_rest}
 use Rattle.rv_list.proofs.SymbolRows.{lost_label, gathered_label}
 use Rattle.rv_list.proofs.symbols.push_labels.Goals as goal
 

@@ -1,7 +1,7 @@
 use Rattle.std.proofs.Common.{◌≡◌, ◌+◌, length}
 use Rattle.std.specs.List.{concat}
 use Rattle.rv_list.specs.Symbols.{labels_symbols}
-use Rattle.rv_list.proofs.Halfway.{Halfway}
+use Rattle.rv_text.specs.Halfway.{Halfway}
 use Rattle.rv_list.proofs.symbols.push_labels.Given as goal
 
 -- the rows so far are gathered

@@ -3,7 +3,7 @@ use Rattle.std.proofs.lemmas.Grind.{common_steps}
 use Rattle.std.proofs.lemmas.Result.{err_from_is_err_and}
 use Rattle.rv_list.specs.Symbols.{line_symbols}
 use Rattle.rv_list.proofs.Joined.{lost_rows, gathered_rows}
-use Rattle.rv_list.proofs.PassedLines.{passed_line}
+use Rattle.rv_list.specs.PassedLines.{passed_line}
 use Rattle.rv_list.proofs.symbols.push_symbol_rows.Goals as goal
 
 pub returns-in_err-push_line_symbols-clause-text : goal.returns-in_err-push_line_symbols-clause-text

@@ -2,7 +2,8 @@
 use Rattle.std.proofs.Common.{◌≡◌, ◌-◌, ◌≤◌, List, [], ◌∷◌, length, take, drop, get_or, arith, refl}
 use Rattle.std.proofs.lemmas.List.{take_all}
 
-rest_of : {A : Type 0} (x : A) (xs : List A) → take (length (x ∷ xs) - 1) (drop 1 (x ∷ xs)) ≡ xs
+-- the items behind the first
+pub rest_of : {A : Type 0} (x : A) (xs : List A) → take (length (x ∷ xs) - 1) (drop 1 (x ∷ xs)) ≡ xs
 rest_of x xs =
     let count : length (x ∷ xs) - 1 ≡ length xs = omega arith in
     rw count (take_all (length xs) xs (omega arith))
