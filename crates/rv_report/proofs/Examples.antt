@@ -30,7 +30,8 @@ use Rattle.rv_report.specs.Counts.{numbers_text, some_numbers}
 use Rattle.rv_report.specs.Csrs.{counter_number, its_number, standard_number, unknown_csr}
 use Rattle.rv_report.specs.LexicalMessages.{bad_byte, bad_number, bad_string, number_wrong}
 use Rattle.rv_report.specs.Lines.{Line}
-use Rattle.rv_report.specs.Messages.{operand_count, bad_register, register_range, bad_operand, undefined_name, later_equ, line_of_equ, faulty_equ_of, not_constant, no_partner, beyond_reach, out_of_range, not_multiple, odd_distance, odd_address, message_of}
+use Rattle.rv_report.specs.Messages.{operand_count, register_range, undefined_name, later_equ, line_of_equ, faulty_equ_of, not_constant, no_partner, beyond_reach, out_of_range, not_multiple, odd_distance, odd_address, message_of}
+use Rattle.rv_report.specs.OperandMessages.{comment_help, missing_comma, no_operand, no_register, no_statement, separation_of}
 use Rattle.rv_report.specs.Reports.{count_of_faults, line_row, margin, mark, mark_row, message_row, note_at, painted, rendition, report_of, shown_line}
 use Rattle.rv_report.specs.Suggestions.{did_you_mean, suggestions}
 use Rattle.rv_report.specs.Texts.{about, quoted}
@@ -127,48 +128,64 @@ unfolding message_of bad_string quoted about
 unclosed = refl
 
 four_operands : message (codes "a: 1: addi a0, (a, b), c, d") [] (fault_at fault.OperandCount 6 10) ≡ codes "'addi' takes 3 operands, not 4"
-unfolding message_of quoted about did_you_mean suggestions some_numbers from_to gap_text limits_text operand_count bad_register register_range bad_operand undefined_name later_equ line_of_equ faulty_equ_of no_partner beyond_reach out_of_range not_multiple odd_distance odd_address digits operation_named operation_names row_of layout_of register_named register_names csr_named csr_names other_forms slots_of set_named set_names modifier_named modifier_names directive_named directive_names section_named section_names
+unfolding message_of advice separation_of no_register quoted about did_you_mean suggestions some_numbers from_to gap_text limits_text operand_count register_range undefined_name later_equ line_of_equ faulty_equ_of no_partner beyond_reach out_of_range not_multiple odd_distance odd_address digits operation_named operation_names row_of layout_of register_named register_names csr_named csr_names other_forms slots_of set_named set_names modifier_named modifier_names directive_named directive_names section_named section_names
 four_operands = refl
 
 small_register : message (codes "x: c.lui zero, 1") [] (fault_at fault.RegisterRange 9 13) ≡ codes "'c.lui' does not take 'zero' here"
-unfolding message_of quoted about did_you_mean suggestions some_numbers from_to gap_text limits_text operand_count bad_register register_range bad_operand undefined_name later_equ line_of_equ faulty_equ_of no_partner beyond_reach out_of_range not_multiple odd_distance odd_address digits operation_named operation_names row_of layout_of register_named register_names csr_named csr_names other_forms slots_of set_named set_names modifier_named modifier_names directive_named directive_names section_named section_names
+unfolding message_of advice separation_of no_register quoted about did_you_mean suggestions some_numbers from_to gap_text limits_text operand_count register_range undefined_name later_equ line_of_equ faulty_equ_of no_partner beyond_reach out_of_range not_multiple odd_distance odd_address digits operation_named operation_names row_of layout_of register_named register_names csr_named csr_names other_forms slots_of set_named set_names modifier_named modifier_names directive_named directive_names section_named section_names
 small_register = refl
 
 missing_register : message (codes "addi a0, , 1") [] (fault_at fault.BadRegister 8 8) ≡ codes "a register is expected here"
-unfolding message_of quoted about did_you_mean suggestions some_numbers from_to gap_text limits_text operand_count bad_register register_range bad_operand undefined_name later_equ line_of_equ faulty_equ_of no_partner beyond_reach out_of_range not_multiple odd_distance odd_address
+unfolding message_of advice separation_of no_register quoted about did_you_mean suggestions some_numbers from_to gap_text limits_text operand_count register_range undefined_name later_equ line_of_equ faulty_equ_of no_partner beyond_reach out_of_range not_multiple odd_distance odd_address
 missing_register = refl
 
 undefined_symbol : message (codes "bnez a0, far + lop") [] (fault_at fault.Undefined 9 18) ≡ codes "'lop' is not defined; did you mean 'loop'?"
-unfolding message_of quoted about did_you_mean suggestions some_numbers from_to gap_text limits_text operand_count bad_register register_range bad_operand undefined_name later_equ line_of_equ faulty_equ_of no_partner beyond_reach out_of_range not_multiple odd_distance odd_address rows next_row cost_at digits operation_named operation_names row_of layout_of register_named register_names csr_named csr_names other_forms slots_of set_named set_names modifier_named modifier_names directive_named directive_names section_named section_names
+unfolding message_of advice separation_of no_register quoted about did_you_mean suggestions some_numbers from_to gap_text limits_text operand_count register_range undefined_name later_equ line_of_equ faulty_equ_of no_partner beyond_reach out_of_range not_multiple odd_distance odd_address rows next_row cost_at digits operation_named operation_names row_of layout_of register_named register_names csr_named csr_names other_forms slots_of set_named set_names modifier_named modifier_names directive_named directive_names section_named section_names
 undefined_symbol = refl
 
 undefined_local : message (codes "j 1f") [] (fault_at fault.Undefined 2 4) ≡ codes "'1f' is not defined"
-unfolding message_of quoted about did_you_mean suggestions some_numbers from_to gap_text limits_text operand_count bad_register register_range bad_operand undefined_name later_equ line_of_equ faulty_equ_of no_partner beyond_reach out_of_range not_multiple odd_distance odd_address digits operation_named operation_names row_of layout_of register_named register_names csr_named csr_names other_forms slots_of set_named set_names modifier_named modifier_names directive_named directive_names section_named section_names
+unfolding message_of advice separation_of no_register quoted about did_you_mean suggestions some_numbers from_to gap_text limits_text operand_count register_range undefined_name later_equ line_of_equ faulty_equ_of no_partner beyond_reach out_of_range not_multiple odd_distance odd_address digits operation_named operation_names row_of layout_of register_named register_names csr_named csr_names other_forms slots_of set_named set_names modifier_named modifier_names directive_named directive_names section_named section_names
 undefined_local = refl
 
 faulty_symbol : message (codes ".word 1 + n") [] (fault_at fault.FaultyEqu 6 11) ≡ codes "the .equ of 'n' has a fault (line 3)"
-unfolding message_of quoted about did_you_mean suggestions some_numbers from_to gap_text limits_text operand_count bad_register register_range bad_operand undefined_name later_equ line_of_equ faulty_equ_of no_partner beyond_reach out_of_range not_multiple odd_distance odd_address digits operation_named operation_names row_of layout_of register_named register_names csr_named csr_names other_forms slots_of set_named set_names modifier_named modifier_names directive_named directive_names section_named section_names
+unfolding message_of advice separation_of no_register quoted about did_you_mean suggestions some_numbers from_to gap_text limits_text operand_count register_range undefined_name later_equ line_of_equ faulty_equ_of no_partner beyond_reach out_of_range not_multiple odd_distance odd_address digits operation_named operation_names row_of layout_of register_named register_names csr_named csr_names other_forms slots_of set_named set_names modifier_named modifier_names directive_named directive_names section_named section_names
 faulty_symbol = refl
 
-large_immediate : message (codes "addi a0, a0, 2048") (Ok (pos 2048) ∷ []) (fault_at fault.Range 13 17) ≡ codes "2048 is out of range (-2048 to 2047)"
-unfolding message_of quoted about did_you_mean suggestions some_numbers from_to gap_text limits_text operand_count bad_register register_range bad_operand undefined_name later_equ line_of_equ faulty_equ_of no_partner beyond_reach out_of_range not_multiple odd_distance odd_address digits operation_named operation_names row_of layout_of register_named register_names csr_named csr_names other_forms slots_of set_named set_names modifier_named modifier_names directive_named directive_names section_named section_names
+large_immediate : message (codes "addi a0, a0, 2048") (Ok (pos 2048) ∷ []) (fault_at fault.Range 13 17) ≡ codes "2048 is out of range (-2048 to 2047); load the number by 'li' into a register"
+unfolding message_of advice separation_of no_register quoted about did_you_mean suggestions some_numbers from_to gap_text limits_text operand_count register_range undefined_name later_equ line_of_equ faulty_equ_of no_partner beyond_reach out_of_range not_multiple odd_distance odd_address digits operation_named operation_names row_of layout_of register_named register_names csr_named csr_names other_forms slots_of set_named set_names modifier_named modifier_names directive_named directive_names section_named section_names
 large_immediate = refl
 
-no_zero : message (codes "c.addi a0, 0") (Ok (pos 0) ∷ []) (fault_at fault.Range 11 12) ≡ codes "0 is out of range (-32 to 31, not 0)"
-unfolding message_of quoted about did_you_mean suggestions some_numbers from_to gap_text limits_text operand_count bad_register register_range bad_operand undefined_name later_equ line_of_equ faulty_equ_of no_partner beyond_reach out_of_range not_multiple odd_distance odd_address digits operation_named operation_names row_of layout_of register_named register_names csr_named csr_names other_forms slots_of set_named set_names modifier_named modifier_names directive_named directive_names section_named section_names
+no_zero : message (codes "c.addi a0, 0") (Ok (pos 0) ∷ []) (fault_at fault.Range 11 12) ≡ codes "0 is out of range (-32 to 31, not 0); write the instruction without 'c.'"
+unfolding message_of advice separation_of no_register quoted about did_you_mean suggestions some_numbers from_to gap_text limits_text operand_count register_range undefined_name later_equ line_of_equ faulty_equ_of no_partner beyond_reach out_of_range not_multiple odd_distance odd_address digits operation_named operation_names row_of layout_of register_named register_names csr_named csr_names other_forms slots_of set_named set_names modifier_named modifier_names directive_named directive_names section_named section_names
 no_zero = refl
 
-far_branch : message (codes "beqz a0, far") (Ok (negsuc 4999) ∷ []) (fault_at fault.Range 9 12) ≡ codes "the target is 5000 bytes behind; the reach is -4096 to 4094"
-unfolding message_of quoted about did_you_mean suggestions some_numbers from_to gap_text limits_text operand_count bad_register register_range bad_operand undefined_name later_equ line_of_equ faulty_equ_of no_partner beyond_reach out_of_range not_multiple odd_distance odd_address digits operation_named operation_names row_of layout_of register_named register_names csr_named csr_names other_forms slots_of set_named set_names modifier_named modifier_names directive_named directive_names section_named section_names
+far_branch : message (codes "beqz a0, far") (Ok (negsuc 4999) ∷ []) (fault_at fault.Range 9 12) ≡ codes "the target is 5000 bytes behind; the reach is -4096 to 4094; write the opposite branch over a 'j'"
+unfolding message_of advice separation_of no_register quoted about did_you_mean suggestions some_numbers from_to gap_text limits_text operand_count register_range undefined_name later_equ line_of_equ faulty_equ_of no_partner beyond_reach out_of_range not_multiple odd_distance odd_address digits operation_named operation_names row_of layout_of register_named register_names csr_named csr_names other_forms slots_of set_named set_names modifier_named modifier_names directive_named directive_names section_named section_names
 far_branch = refl
 
 lone_low_half : message (codes "lw a0, %pcrel_lo(here)(a0)") (Err value.NoPartner ∷ []) (fault_at fault.NoPartner 7 26) ≡ codes "no 'auipc .., %pcrel_hi(..)' stands at 'here'"
-unfolding message_of quoted about did_you_mean suggestions some_numbers from_to gap_text limits_text operand_count bad_register register_range bad_operand undefined_name later_equ line_of_equ faulty_equ_of no_partner beyond_reach out_of_range not_multiple odd_distance odd_address digits operation_named operation_names row_of layout_of register_named register_names csr_named csr_names other_forms slots_of set_named set_names modifier_named modifier_names directive_named directive_names section_named section_names
+unfolding message_of advice separation_of no_register quoted about did_you_mean suggestions some_numbers from_to gap_text limits_text operand_count register_range undefined_name later_equ line_of_equ faulty_equ_of no_partner beyond_reach out_of_range not_multiple odd_distance odd_address digits operation_named operation_names row_of layout_of register_named register_names csr_named csr_names other_forms slots_of set_named set_names modifier_named modifier_names directive_named directive_names section_named section_names
 lone_low_half = refl
 
 odd : message (codes "nop") [] (fault_at fault.OddAddress 0 3) ≡ codes "an instruction at the odd address 0x00000001"
-unfolding message_of quoted about did_you_mean suggestions some_numbers from_to gap_text limits_text operand_count bad_register register_range bad_operand undefined_name later_equ line_of_equ faulty_equ_of no_partner beyond_reach out_of_range not_multiple odd_distance odd_address hex
+unfolding message_of advice separation_of no_register quoted about did_you_mean suggestions some_numbers from_to gap_text limits_text operand_count register_range undefined_name later_equ line_of_equ faulty_equ_of no_partner beyond_reach out_of_range not_multiple odd_distance odd_address hex
 odd = refl
+
+second_statement : message (codes "/* c */") [] (fault_at fault.NoStatement 0 1) ≡ codes "an instruction or a directive is expected here; one statement stands on a line, and '#' or '//' begins a comment"
+unfolding message_of no_statement comment_help
+second_statement = refl
+
+no_comma : message (codes "addi a0 a0, 1") [] (fault_at fault.OperandCount 0 4) ≡ codes "'addi' takes 3 operands, not 2; a comma is missing after 'a0'"
+unfolding message_of separation_of missing_comma operand_count some_numbers quoted about digits operation_named operation_names row_of layout_of register_named register_names csr_named csr_names other_forms slots_of set_named set_names modifier_named modifier_names directive_named directive_names section_named section_names
+no_comma = refl
+
+number_for_register : message (codes "add a0, a0, 5") [] (fault_at fault.BadRegister 12 13) ≡ codes "'5' is not a register; did you mean 'addi'?"
+unfolding message_of separation_of no_register advice quoted about digits operation_named operation_names row_of layout_of register_named register_names csr_named csr_names other_forms slots_of set_named set_names modifier_named modifier_names directive_named directive_names section_named section_names
+number_for_register = refl
+
+other_section : message (codes ".section .vectors") [] (fault_at fault.BadOperand 9 17) ≡ codes "'.vectors' is not an operand that '.section' takes here; the sections are .text.init, .text, .rodata, .data, .sdata and .bss"
+unfolding message_of separation_of no_operand advice quoted about digits operation_named operation_names row_of layout_of register_named register_names csr_named csr_names other_forms slots_of set_named set_names modifier_named modifier_names directive_named directive_names section_named section_names
+other_section = refl
 
 directive_elsewhere : message (codes "x: .EQV n, 4") [] (fault_at fault.UnknownName 3 7) ≡ codes "no instruction or directive is called '.EQV'; write '.equ'"
 unfolding message_of unknown_name replacement advice quoted digits operation_named operation_names row_of layout_of register_named register_names csr_named csr_names other_forms slots_of set_named set_names modifier_named modifier_names directive_named directive_names section_named section_names
@@ -197,7 +214,7 @@ unfolding report_of message_row line_row mark_row painted rendition shown_line m
 second_definition = refl
 
 in_color : report_of Colored (codes "<stdin>") names nothing_shown (faulty 1 (codes "4") []) (fault_at fault.NoStatement 0 1) ≡ codes "<stdin>:1:1: " ++ (27 ∷ codes "[31merror:" ++ (27 ∷ codes "[0m an instruction or a directive is expected here [NoStatement]\n    1 | 4\n      | " ++ (27 ∷ codes "[32m^" ++ (27 ∷ codes "[0m\n"))))
-unfolding report_of message_row line_row mark_row painted rendition shown_line margin mark note_at quoted about message_of fault_name digits
+unfolding report_of message_row line_row mark_row painted rendition shown_line margin mark note_at quoted about message_of no_statement fault_name digits
 in_color = refl
 
 fault_counts : count_of_faults (codes "b.s") 0 ∷ count_of_faults (codes "b.s") 1 ∷ count_of_faults (codes "b.s") 2 ∷ [] ≡ [] ∷ codes "b.s: 1 fault\n" ∷ codes "b.s: 2 faults\n" ∷ []

@@ -1,5 +1,5 @@
 -- The messages of faults.
-use Rattle.std.specs.Prelude.{ℕ, ℤ, pos, ◌+◌, ◌*◌, int_lt, unsigned_abs, bytes_eq, is_some, List, [], ◌∷◌, ◌++◌, length, drop, slice_index, Option, Some, None, codes, decimal, if◌then◌else◌}
+use Rattle.std.specs.Prelude.{ℕ, ℤ, pos, ◌+◌, ◌*◌, int_lt, unsigned_abs, bytes_eq, is_some, List, [], ◌++◌, length, drop, slice_index, Option, Some, None, codes, decimal, if◌then◌else◌}
 use Rattle.std.specs.Fmt.{signed_decimal}
 use Rattle.rv_text.specs.declared.faults.Fault.{Fault}
 use Rattle.rv_text.specs.declared.faults.FaultNumber.{FaultNumber}
@@ -21,7 +21,7 @@ use Rattle.rv_stmt.specs.Statement.{operands_of}
 use Rattle.rv_list.specs.declared.view.DefinitionPlace.{DefinitionPlace}
 use Rattle.rv_list.specs.declared.view.DefinitionPlace.TheVariants.{Nowhere, Label, Equ}
 use Rattle.rv_list.specs.Shown.{Shown}
-use Rattle.rv_report.specs.declared.advice.Topic.TheVariants.{LabelGiven}
+use Rattle.rv_report.specs.declared.advice.Topic.TheVariants.{LabelGiven, RangeExceeded}
 use Rattle.rv_report.specs.declared.wanted.Wanted.{Wanted}
 use Rattle.rv_report.specs.declared.wanted.Wanted.TheVariants.{Number, Csr}
 use Rattle.rv_report.specs.Advice.{advice}
@@ -31,6 +31,7 @@ use Rattle.rv_report.specs.Csrs.{unknown_csr}
 use Rattle.rv_report.specs.FaultyNames.{faulty_name_of, low_label_of, name_text}
 use Rattle.rv_report.specs.LexicalMessages.{bad_byte, bad_number, bad_string}
 use Rattle.rv_report.specs.Lines.{Line, part, name_after, word_at}
+use Rattle.rv_report.specs.OperandMessages.{bad_operand, bad_register, no_statement, separation_of}
 use Rattle.rv_report.specs.Operands.{operand_at, value_at}
 use Rattle.rv_report.specs.Suggestions.{did_you_mean, suggestions}
 use Rattle.rv_report.specs.Texts.{about, quoted}
@@ -39,20 +40,12 @@ use Rattle.rv_report.specs.Wanted.{register_given, wanted_of}
 
 -- Faults of statements
 
-unfoldable pub operand_count : (name : List ℕ) → (standing : ℕ) → List ℕ
-operand_count name standing = about [] name (codes " takes ") ++ (numbers_text name ++ (codes ", not " ++ decimal standing))
-
-unfoldable pub bad_register : List ℕ → List ℕ
-bad_register [] = codes "a register is expected here"
-bad_register (b ∷ bs) = about [] (b ∷ bs) (codes " is not a register")
+unfoldable pub operand_count : (name : List ℕ) → (standing : ℕ) → (help : List ℕ) → List ℕ
+operand_count name standing help =
+    about [] name (codes " takes ") ++ (numbers_text name ++ (codes ", not " ++ (decimal standing ++ help)))
 
 unfoldable pub register_range : (name text : List ℕ) → List ℕ
 register_range name text = about [] name (codes " does not take ") ++ about [] text (codes " here")
-
-unfoldable pub bad_operand : (name text : List ℕ) → List ℕ
-bad_operand name [] = codes "an operand is expected here"
-bad_operand name (b ∷ bs) =
-    about [] (b ∷ bs) (codes " is not an operand that ") ++ about [] name (codes " takes here")
 
 -- Names without a value
 
@@ -208,10 +201,10 @@ abbrev pub message_by : FaultNumber → Environment → Shown → Line → Span 
 message_by faults.BadByte given shown line span = bad_byte (slice_index line.text span.from) (drop span.from line.text)
 message_by faults.BadNumber given shown line span = bad_number (part line.text span)
 message_by faults.BadString given shown line span = bad_string (part line.text span)
-message_by faults.NoStatement given shown line span = codes "an instruction or a directive is expected here"
+message_by faults.NoStatement given shown line span = no_statement (name_of_statement line) (word_after_name line)
 message_by faults.UnknownName given shown line span = unknown_name (part line.text span) (word_after_name line) (slice_index line.text span.to)
-message_by faults.OperandCount given shown line span = operand_count (part line.text span) (operands_standing (length line.stmt.labels) (lexed_line line.text))
-message_by faults.BadRegister given shown line span = bad_register (part line.text span)
+message_by faults.OperandCount given shown line span = operand_count (part line.text span) (operands_standing (length line.stmt.labels) (lexed_line line.text)) (separation_of (drop span.to line.text))
+message_by faults.BadRegister given shown line span = bad_register (name_of_statement line) (part line.text span) (bytes_eq (word_after_name line) (part line.text span))
 message_by faults.RegisterRange given shown line span = register_range (name_of_statement line) (part line.text span)
 message_by faults.BadOperand given shown line span = bad_operand (name_of_statement line) (part line.text span)
 message_by faults.TooDeep given shown line span = codes "more than 64 open parentheses"
@@ -220,7 +213,7 @@ message_by faults.Undefined given shown line span = undefined (name_of_statement
 message_by faults.LaterEqu given shown line span = later_equ (name_or (part line.text span) (faulty_name_of given (operand_of_line line span)))
 message_by faults.FaultyEqu given shown line span = faulty_equ shown (part line.text span) (faulty_name_of given (operand_of_line line span))
 message_by faults.Arithmetic given shown line span = codes "no value: a division by zero, a shift out of 0 to 63, or more than 64 bits"
-message_by faults.Range given shown line span = range_of line.stmt.body (part line.text span) (value_of_line line span) (operand_of_line line span)
+message_by faults.Range given shown line span = range_of line.stmt.body (part line.text span) (value_of_line line span) (operand_of_line line span) ++ advice RangeExceeded (name_of_statement line)
 message_by faults.Multiple given shown line span = multiple_of line.stmt.body (part line.text span) (value_of_line line span) (operand_of_line line span)
 message_by faults.NoPartner given shown line span = no_partner (name_or (part line.text span) (low_label_of (operand_of_line line span)))
 message_by faults.Duplicate given shown line span = about [] (part line.text span) (codes " is already defined")

@@ -4,7 +4,8 @@ ghost use Rattle.std.specs.Prelude.{◌≡◌, map};
 ghost use Rattle.rv_report.specs.Advice.{advice, advice_in, is_any};
 
 use crate::advice_tables::{
-    AdviceRow, CHARACTERS, LABEL_GIVEN, OTHER_DIRECTIVES, OTHER_MNEMONICS, REGISTER_GIVEN,
+    AdviceRow, CHARACTERS, LABEL_GIVEN, NAME_GIVEN, NUMBER_GIVEN, OPERAND_GIVEN, OTHER_DIRECTIVES,
+    OTHER_MNEMONICS, RANGE_EXCEEDED, REGISTER_GIVEN, REGISTER_LETTERS,
 };
 use rv_ops::is_name;
 
@@ -19,6 +20,16 @@ pub enum Topic {
     RegisterGiven,
     /// A statement that takes a constant, where a label stands.
     LabelGiven,
+    /// A statement that takes a register, where a number stands.
+    NumberGiven,
+    /// A statement that takes a register, where a name stands.
+    NameGiven,
+    /// A statement that does not take an operand.
+    OperandGiven,
+    /// A letter that the names of registers begin with.
+    RegisterLetter,
+    /// A statement whose value is out of range.
+    RangeExceeded,
     /// A character that looks like one of the language.
     Character,
 }
@@ -59,6 +70,11 @@ pub fn advice(topic: Topic, name: &[u8]) -> &'static [u8]
         Topic::OtherMnemonic => advice_in(&OTHER_MNEMONICS, name),
         Topic::RegisterGiven => advice_in(&REGISTER_GIVEN, name),
         Topic::LabelGiven => advice_in(&LABEL_GIVEN, name),
+        Topic::NumberGiven => advice_in(&NUMBER_GIVEN, name),
+        Topic::NameGiven => advice_in(&NAME_GIVEN, name),
+        Topic::OperandGiven => advice_in(&OPERAND_GIVEN, name),
+        Topic::RegisterLetter => advice_in(&REGISTER_LETTERS, name),
+        Topic::RangeExceeded => advice_in(&RANGE_EXCEEDED, name),
         Topic::Character => advice_in(&CHARACTERS, name),
     }
 }

@@ -146,6 +146,140 @@ pub const REGISTER_GIVEN: [AdviceRow; 24] = [
 /// The statements that take a constant where a label stands, and what takes a label.
 pub const LABEL_GIVEN: [AdviceRow; 1] = [(&["li"], "; write 'la' for the address of a label")];
 
+/// The statements that take a register where a number stands, and what takes a number.
+pub const NUMBER_GIVEN: [AdviceRow; 23] = [
+    (&["add"], "; did you mean 'addi'?"),
+    (&["and"], "; did you mean 'andi'?"),
+    (&["or"], "; did you mean 'ori'?"),
+    (&["xor"], "; did you mean 'xori'?"),
+    (&["slt"], "; did you mean 'slti'?"),
+    (&["sltu"], "; did you mean 'sltiu'?"),
+    (&["sll"], "; did you mean 'slli'?"),
+    (&["srl"], "; did you mean 'srli'?"),
+    (&["sra"], "; did you mean 'srai'?"),
+    (&["sub"], "; write 'addi' with the negative number"),
+    (&["csrrw"], "; did you mean 'csrrwi'?"),
+    (&["csrrs"], "; did you mean 'csrrsi'?"),
+    (&["csrrc"], "; did you mean 'csrrci'?"),
+    (&["csrw"], "; did you mean 'csrwi'?"),
+    (&["csrs"], "; did you mean 'csrsi'?"),
+    (&["csrc"], "; did you mean 'csrci'?"),
+    (&["mv"], "; did you mean 'li'?"),
+    (&["c.add"], "; did you mean 'c.addi'?"),
+    (&["c.and"], "; did you mean 'c.andi'?"),
+    (&["c.mv"], "; did you mean 'c.li'?"),
+    (
+        &[
+            "beq", "bne", "blt", "bge", "bltu", "bgeu", "bgt", "ble", "bgtu", "bleu",
+        ],
+        "; write 'zero' for 0, and load any other number by 'li'",
+    ),
+    (
+        &["sb", "sh", "sw"],
+        "; write '(REGISTER)' behind the offset",
+    ),
+    (
+        &["mul", "mulh", "mulhu", "div", "divu", "rem", "remu"],
+        "; load the number by 'li' into a register",
+    ),
+];
+
+/// The statements that take a register where a name stands, and what they take.
+pub const NAME_GIVEN: [AdviceRow; 2] = [
+    (
+        &["sb", "sh", "sw"],
+        "; write OFFSET(REGISTER), or a register behind the address",
+    ),
+    (
+        &[
+            "lr.w",
+            "sc.w",
+            "amoswap.w",
+            "amoadd.w",
+            "amoxor.w",
+            "amoand.w",
+            "amoor.w",
+        ],
+        "; write the register with the address in parentheses",
+    ),
+];
+
+/// The statements, and what they take where something else stands.
+pub const OPERAND_GIVEN: [AdviceRow; 8] = [
+    (
+        &[".section"],
+        "; the sections are .text.init, .text, .rodata, .data, .sdata and .bss",
+    ),
+    (
+        &[".ascii", ".asciz", ".string"],
+        "; a string stands in double quotation marks",
+    ),
+    (
+        &[".equ", ".set"],
+        "; write a name, a comma and an expression",
+    ),
+    (&["fence"], "; a set has letters of 'iorw', in this order"),
+    (
+        &["lui", "auipc"],
+        "; write an expression, '%hi(..)' or '%pcrel_hi(..)'",
+    ),
+    (
+        &["addi", "andi", "ori", "xori", "slti", "sltiu"],
+        "; write an expression, '%lo(..)' or '%pcrel_lo(..)'",
+    ),
+    (
+        &["lb", "lh", "lw", "lbu", "lhu", "sb", "sh", "sw"],
+        "; write OFFSET(REGISTER) or an address",
+    ),
+    (
+        &["call", "tail", "j", "jal", "la", "lla"],
+        "; write a label or an expression",
+    ),
+];
+
+/// The letters that names of registers begin with, and the registers that there are.
+pub const REGISTER_LETTERS: [AdviceRow; 5] = [
+    (&["a"], "; there are 'a0' to 'a7'"),
+    (&["s"], "; there are 's0' to 's11'"),
+    (&["t"], "; there are 't0' to 't6'"),
+    (&["x", "r"], "; there are 'x0' to 'x31'"),
+    (&["f"], "; there is no floating point"),
+];
+
+/// The statements, and what takes a value that is out of their range.
+pub const RANGE_EXCEEDED: [AdviceRow; 9] = [
+    (
+        &["lui", "auipc"],
+        "; that is 0 to 0xFFFFF: write '%hi(..)', or 'li'",
+    ),
+    (
+        &["addi", "andi", "ori", "xori", "slti", "sltiu"],
+        "; load the number by 'li' into a register",
+    ),
+    (
+        &["lb", "lh", "lw", "lbu", "lhu", "sb", "sh", "sw"],
+        "; add the offset to the register first",
+    ),
+    (
+        &[
+            "beq", "bne", "blt", "bge", "bltu", "bgeu", "bgt", "ble", "bgtu", "bleu", "beqz",
+            "bnez", "blez", "bgez", "bltz", "bgtz",
+        ],
+        "; write the opposite branch over a 'j'",
+    ),
+    (&["j"], "; write 'tail'"),
+    (&["jal"], "; write 'call'"),
+    (&[".byte"], "; write '.half' or '.word'"),
+    (&[".half", ".short"], "; write '.word'"),
+    (
+        &[
+            "c.beqz", "c.bnez", "c.j", "c.jal", "c.addi", "c.andi", "c.li", "c.lui", "c.lw",
+            "c.sw", "c.lwsp", "c.swsp",
+        ],
+        "; write the instruction without 'c.'",
+    ),
+];
+
 /// Characters that text processors put into texts, and what is written in their place.
 pub const CHARACTERS: [AdviceRow; 5] = [
     (

@@ -9,12 +9,11 @@ use crate::constant_messages::push_not_constant;
 use crate::faulty_line::{FaultyLine, part};
 use crate::lexical_messages::{push_bad_byte_at, push_bad_number, push_bad_string};
 use crate::name_messages::{push_faulty_equ, push_later_equ, push_no_partner, push_undefined};
-use crate::statement_messages::{
-    push_bad_operand, push_bad_register, push_operand_count, push_register_range,
-};
+use crate::operand_messages::{push_bad_operand, push_bad_register, push_no_statement};
+use crate::statement_messages::{push_operand_count, push_register_range};
 use crate::text::Text;
 use crate::unknown_names::push_unknown_name;
-use crate::value_messages::{push_multiple, push_odd_address, push_range};
+use crate::value_messages::{push_multiple, push_odd_address, push_range_and_help};
 use rv_expr::Names;
 use rv_list::View;
 use rv_text::{Fault, FaultNumber, Span};
@@ -52,10 +51,10 @@ pub fn push_message<N: Names, V: View>(
         FaultNumber::BadByte => push_bad_byte_at(out, line.text, span.from),
         FaultNumber::BadNumber => push_bad_number(out, part(line.text, span)),
         FaultNumber::BadString => push_bad_string(out, part(line.text, span)),
-        FaultNumber::NoStatement => out.push(b"an instruction or a directive is expected here"),
+        FaultNumber::NoStatement => push_no_statement(out, alloc, line),
         FaultNumber::UnknownName => push_unknown_name(out, alloc, line, span),
         FaultNumber::OperandCount => push_operand_count(out, alloc, line, span),
-        FaultNumber::BadRegister => push_bad_register(out, part(line.text, span)),
+        FaultNumber::BadRegister => push_bad_register(out, alloc, line, span),
         FaultNumber::RegisterRange => push_register_range(out, alloc, line, span),
         FaultNumber::BadOperand => push_bad_operand(out, alloc, line, span),
         FaultNumber::TooDeep => out.push(b"more than 64 open parentheses"),
@@ -66,7 +65,7 @@ pub fn push_message<N: Names, V: View>(
         FaultNumber::Arithmetic => out.push(
             b"no value: a division by zero, a shift out of 0 to 63, or more than 64 bits",
         ),
-        FaultNumber::Range => push_range(out, line, span),
+        FaultNumber::Range => push_range_and_help(out, alloc, line, span),
         FaultNumber::Multiple => push_multiple(out, line, span),
         FaultNumber::NoPartner => push_no_partner(out, alloc, line, span),
         FaultNumber::Duplicate => push_about_part(out, b"", line, span, b" is already defined"),

@@ -1,13 +1,15 @@
 //! The messages of faults of statements.
 
-ghost use Rattle.std.specs.Prelude.{◌≡◌, ◌≤◌, ◌++◌, length, IfOk, OnOk};
+ghost use Rattle.std.specs.Prelude.{◌≡◌, ◌≤◌, ◌++◌, drop, length, IfOk, OnOk};
 ghost use Rattle.rv_text.specs.Lexing.{lexed_line};
 ghost use Rattle.rv_report.specs.Counts.{operands_standing};
 ghost use Rattle.rv_report.specs.Lines.{line_of, part};
-ghost use Rattle.rv_report.specs.Messages.{bad_operand, bad_register, name_of_statement, operand_count, register_range};
+ghost use Rattle.rv_report.specs.Messages.{name_of_statement, operand_count, register_range};
+ghost use Rattle.rv_report.specs.OperandMessages.{separation_of};
 
 use crate::counts::push_numbers;
-use crate::faulty_line::{FaultyLine, part};
+use crate::faulty_line::{FaultyLine, bytes_from, part};
+use crate::operand_messages::separation_of;
 use crate::statement_words::name_of_statement;
 use crate::text::Text;
 use rv_stmt::operands_from;
@@ -36,7 +38,7 @@ pub fn push_operand_count(
 ) -> Result<(), AllocError>
     requires labels { length line.now.stmt.now.labels ≤ 1000 }
     requires text { length line.now.text.now ≤ 1000 }
-    ensures { OnOk result (out.new ≡ out.old ++ operand_count (part line.now.text.now span) (operands_standing (length line.now.stmt.now.labels) (lexed_line line.now.text.now))) }
+    ensures { OnOk result (out.new ≡ out.old ++ operand_count (part line.now.text.now span) (operands_standing (length line.now.stmt.now.labels) (lexed_line line.now.text.now)) (separation_of (drop span.to line.now.text.now))) }
 {
     let labels = line.stmt.labels.as_slice().len();
     let standing = operands_standing(alloc, labels, line.text)?;
@@ -44,18 +46,9 @@ pub fn push_operand_count(
     out.push_about(b"", name, b" takes ")?;
     push_numbers(out, alloc, name)?;
     out.push(b", not ")?;
-    out.push_number(standing)
-}
-
-/// An operand that is no register.
-#[tactic(auto, unfolding(crate::specs::Messages::bad_register))]
-pub fn push_bad_register(out: &mut Text, text: &[u8]) -> Result<(), AllocError>
-    ensures { OnOk result (out.new ≡ out.old ++ bad_register text.now) }
-{
-    if text.is_empty() {
-        return out.push(b"a register is expected here");
-    }
-    out.push_about(b"", text, b" is not a register")
+    out.push_number(standing)?;
+    let separation = separation_of(alloc, bytes_from(line.text, span.to as usize))?;
+    out.push(separation.bytes())
 }
 
 /// A register that a line's statement does not take.
@@ -73,25 +66,4 @@ pub fn push_register_range(
     let name = name_of_statement(alloc, line)?;
     out.push_about(b"", name, b" does not take ")?;
     out.push_about(b"", part(line.text, span), b" here")
-}
-
-/// An operand that a line's statement does not take.
-#[tactic(auto, unfolding(crate::specs::Messages::bad_operand))]
-pub fn push_bad_operand(
-    out: &mut Text,
-    alloc: Global,
-    line: &FaultyLine<'_>,
-    span: Span,
-) -> Result<(), AllocError>
-    requires labels { length line.now.stmt.now.labels ≤ 1000 }
-    requires text { length line.now.text.now ≤ 1000 }
-    ensures { OnOk result (out.new ≡ out.old ++ bad_operand (name_of_statement (line_of line.now)) (part line.now.text.now span)) }
-{
-    let text = part(line.text, span);
-    if text.is_empty() {
-        return out.push(b"an operand is expected here");
-    }
-    let name = name_of_statement(alloc, line)?;
-    out.push_about(b"", text, b" is not an operand that ")?;
-    out.push_about(b"", name, b" takes here")
 }

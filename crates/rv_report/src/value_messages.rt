@@ -1,16 +1,20 @@
 //! The messages of the faults of values.
 
-ghost use Rattle.std.specs.Prelude.{◌≡◌, ◌++◌, OnOk};
+ghost use Rattle.std.specs.Prelude.{◌≡◌, ◌≤◌, ◌++◌, length, OnOk};
+ghost use Rattle.rv_report.specs.declared.advice.Topic.TheVariants.{RangeExceeded};
+ghost use Rattle.rv_report.specs.Advice.{advice};
 ghost use Rattle.rv_report.specs.Lines.{line_of, part};
-ghost use Rattle.rv_report.specs.Messages.{operand_of_line, value_of_line, amount, beyond_reach, multiple_in_role, multiple_of, not_multiple, odd_address, odd_distance, out_of_range, out_of_reach, range_in_role, range_of, side};
+ghost use Rattle.rv_report.specs.Messages.{operand_of_line, value_of_line, amount, beyond_reach, multiple_in_role, multiple_of, name_of_statement, not_multiple, odd_address, odd_distance, out_of_range, out_of_reach, range_in_role, range_of, side};
 
+use crate::advice::{Topic, advice};
 use crate::bounds::{limits_in, push_limits};
 use crate::faulty_line::{FaultyLine, operand_in, part, value_in};
+use crate::statement_words::name_of_statement;
 use crate::text::Text;
 use rv_ops::Limits;
 use rv_stmt::{AlignmentUnit, Role};
 use rv_text::Span;
-use std::alloc::AllocError;
+use std::alloc::{AllocError, Global};
 
 // Appends a value, or the operand that should have one.
 fn push_amount(out: &mut Text, text: &[u8], value: Option<i64>) -> Result<(), AllocError>
@@ -97,8 +101,8 @@ fn push_range_in_role(
     }
 }
 
-/// A value out of range, of the operand at a span of a line.
-pub fn push_range(out: &mut Text, line: &FaultyLine<'_>, span: Span) -> Result<(), AllocError>
+// A value out of range, of the operand at a span of a line.
+fn push_range(out: &mut Text, line: &FaultyLine<'_>, span: Span) -> Result<(), AllocError>
     ensures { OnOk result (out.new ≡ out.old ++ range_of line.now.stmt.now.body (part line.now.text.now span) (value_of_line (line_of line.now) span) (operand_of_line (line_of line.now) span)) }
 {
     let text = part(line.text, span);
@@ -107,6 +111,22 @@ pub fn push_range(out: &mut Text, line: &FaultyLine<'_>, span: Span) -> Result<(
     };
     let limits = limits_in(&line.stmt.body, operand.role);
     push_range_in_role(out, operand.role, text, value_in(line, span), &limits)
+}
+
+/// A value out of range, of the operand at a span of a line, and what to write in place of it.
+pub fn push_range_and_help(
+    out: &mut Text,
+    alloc: Global,
+    line: &FaultyLine<'_>,
+    span: Span,
+) -> Result<(), AllocError>
+    requires labels { length line.now.stmt.now.labels ≤ 1000 }
+    requires text { length line.now.text.now ≤ 1000 }
+    ensures { OnOk result (out.new ≡ out.old ++ (range_of line.now.stmt.now.body (part line.now.text.now span) (value_of_line (line_of line.now) span) (operand_of_line (line_of line.now) span) ++ advice RangeExceeded (name_of_statement (line_of line.now)))) }
+{
+    push_range(out, line, span)?;
+    let statement = name_of_statement(alloc, line)?;
+    out.push(advice(Topic::RangeExceeded, statement))
 }
 
 // Appends that a target is at an odd distance.

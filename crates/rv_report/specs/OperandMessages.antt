@@ -1,0 +1,106 @@
+-- The messages of operands that a statement does not take.
+use Rattle.std.specs.Prelude.{ℕ, Bool, true, false, ◌==◌, ◌||◌, ◌&&◌, not, bytes_eq, List, [], ◌∷◌, ◌++◌, length, take, slice_index, codes, if◌then◌else◌}
+use Rattle.std.specs.Char.{is_ascii_digit}
+use Rattle.rv_text.specs.declared.lexeme.Token.{Token}
+use Rattle.rv_text.specs.Lexing.{lexed_line}
+use Rattle.rv_stmt.specs.Tokens.{is_punctuation_kind}
+use Rattle.rv_report.specs.declared.advice.Topic.TheVariants.{NameGiven, NumberGiven, OperandGiven, RegisterLetter}
+use Rattle.rv_report.specs.Advice.{advice}
+use Rattle.rv_report.specs.Lines.{part}
+use Rattle.rv_report.specs.Texts.{about}
+
+-- What stands between the words of an operand
+
+-- the first of some tokens
+abbrev pub first_word : List ℕ → List Token → List ℕ
+first_word line [] = []
+first_word line (t ∷ ts) = part line t.span
+
+-- a word ends a statement, or begins a comment, elsewhere
+abbrev pub is_foreign : (word next : List ℕ) → Bool
+is_foreign word next = bytes_eq word (codes ";") || (bytes_eq word (codes "/") && bytes_eq next (codes "*"))
+
+-- no sign stands between a token and the next
+abbrev pub is_beside_next : Token → List Token → Bool
+is_beside_next t [] = false
+is_beside_next t (u ∷ us) = not (is_punctuation_kind t.kind) && not (is_punctuation_kind u.kind)
+
+unfoldable pub comment_help : List ℕ
+comment_help = codes "; one statement stands on a line, and '#' or '//' begins a comment"
+
+unfoldable pub missing_comma : List ℕ → List ℕ
+missing_comma word = about (codes "; a comma is missing after ") word []
+
+-- the first place where another statement or a comment is meant, or where a comma is missing
+abbrev pub separation : List ℕ → List Token → List ℕ
+separation line [] = []
+separation line (t ∷ ts) =
+    if is_foreign (part line t.span) (first_word line ts) then comment_help
+    else (if is_beside_next t ts then missing_comma (part line t.span)
+    else separation line ts)
+
+unfoldable pub separation_of : List ℕ → List ℕ
+separation_of text = separation text (lexed_line text).tokens
+
+-- Registers
+
+-- the registers whose names begin like a word: with its letter, and then a digit
+abbrev pub registers_like : List ℕ → List ℕ
+registers_like word = if is_ascii_digit (slice_index word 1) then advice RegisterLetter (take 1 word) else []
+
+abbrev pub has_parenthesis : List ℕ → Bool
+has_parenthesis [] = false
+has_parenthesis (b ∷ bs) = if b == 0x28 then true else has_parenthesis bs
+
+abbrev pub begins_number : List ℕ → Bool
+begins_number [] = false
+begins_number (b ∷ bs) = is_ascii_digit b || b == 0x2D
+
+-- a name that is like no register is meant for an address
+abbrev pub name_help : (statement text : List ℕ) → List ℕ
+name_help statement text =
+    if length (registers_like text) == 0 then advice NameGiven statement else registers_like text
+
+-- what helps where an operand is no register; a number or an address is not meant by the first one
+abbrev pub register_help : (statement text : List ℕ) → (first : Bool) → List ℕ
+register_help statement text first =
+    if first then registers_like text
+    else (if begins_number text then advice NumberGiven statement else name_help statement text)
+
+unfoldable pub no_base : List ℕ → List ℕ
+no_base text = about [] text (codes " does not end with a register in parentheses")
+
+unfoldable pub no_register : (text help : List ℕ) → List ℕ
+no_register text help = about [] text (codes " is not a register") ++ help
+
+abbrev pub register_message : (statement text separation : List ℕ) → (first : Bool) → List ℕ
+register_message statement text separation first =
+    if length separation == 0
+    then (if has_parenthesis text then no_base text else no_register text (register_help statement text first))
+    else no_register text separation
+
+abbrev pub bad_register : (statement text : List ℕ) → (first : Bool) → List ℕ
+bad_register statement text first =
+    if length text == 0 then codes "a register is expected here"
+    else register_message statement text (separation_of text) first
+
+-- Other operands
+
+abbrev pub operand_help : (statement separation : List ℕ) → List ℕ
+operand_help statement separation =
+    if length separation == 0 then advice OperandGiven statement else separation
+
+unfoldable pub no_operand : (statement text help : List ℕ) → List ℕ
+no_operand statement text help =
+    about [] text (codes " is not an operand that ") ++ (about [] statement (codes " takes here") ++ help)
+
+abbrev pub bad_operand : (statement text : List ℕ) → List ℕ
+bad_operand statement text =
+    if length text == 0 then codes "an operand is expected here"
+    else no_operand statement text (operand_help statement (separation_of text))
+
+-- Lines without a statement
+
+unfoldable pub no_statement : (word next : List ℕ) → List ℕ
+no_statement word next =
+    codes "an instruction or a directive is expected here" ++ (if is_foreign word next then comment_help else [])
