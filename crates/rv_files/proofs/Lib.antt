@@ -3,6 +3,7 @@ pub mod Cuts
 pub mod ElfLaw
 pub mod ElfSteps
 pub mod Examples
+pub mod FirstReports
 pub mod HexLaw
 pub mod HexRows
 pub mod HexUnique

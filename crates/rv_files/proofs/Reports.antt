@@ -1,28 +1,20 @@
 -- The reports of the faults of lines.
-use Rattle.std.proofs.Common.{◌≡◌, ℕ, zero, suc, ◌+◌, ◌-◌, ◌==◌, Bool, true, false, ◌&&◌, nat_le, List, [], ◌∷◌, ◌++◌, length, map, get_or, slice_get, Option, Some, None, if◌then◌else◌, refl, ap, sym, ◌∙◌, add-one}
-use Rattle.std.proofs.lemmas.List.{length-map, length-append}
-use Rattle.std.specs.List.{flat_map}
+use Rattle.std.proofs.Common.{◌≡◌, ℕ, zero, suc, ◌-◌, ◌==◌, Bool, true, false, ◌&&◌, nat_le, List, [], ◌∷◌, ◌++◌, length, map, take, get_or, slice_get, Option, Some, None, if◌then◌else◌, refl, ap, sym, ◌∙◌}
+use Rattle.std.proofs.lemmas.List.{take-map}
+use Rattle.std.proofs.lemmas.List.Concat.{concat_is}
+use Rattle.std.proofs.lemmas.List.Folds.{flat_map-map}
+use Rattle.std.specs.List.{concat, flat_map}
 use Rattle.rv_text.specs.declared.faults.Fault.{Fault}
 use Rattle.rv_fix.specs.Values.{Entry, operand_values_of}
-use Rattle.rv_list.specs.Faults.{faults_of, fault_row, found}
-use Rattle.rv_list.specs.Joined.{joined}
-use Rattle.rv_list.specs.Shown.{Shown, ShownLine}
+use Rattle.rv_list.specs.Faults.{faults_of, found}
+use Rattle.rv_list.specs.FoundFaults.{all_found}
+use Rattle.rv_list.specs.Shown.{ShownLine}
 use Rattle.rv_report.specs.declared.reports.Style.{Style}
 use Rattle.rv_report.specs.Reports.{report_of}
 use Rattle.rv_store.specs.LinesOfTexts.{LineOfText, names_from}
 use Rattle.rv_store.specs.Shown.{shown_of}
 use Rattle.rv_store.specs.Text.{Text, at_line}
 use Rattle.rv_files.specs.TextReports.{line_reports, reported_line}
-
--- Faults
-
-all_found : (fs : List Fault) → found (map (λ f. Some f) fs) ≡ fs
-all_found [] = refl
-all_found (f ∷ fs) = ap (λ l. f ∷ l) (all_found fs)
-
--- a line has a row for each
-pub found_rows : (line : ℕ) (fs : List Fault) (found : List (Option Fault)) → found ≡ map (λ f. Some f) fs → length found ≡ length (map (fault_row line) fs)
-found_rows line fs found is = ap length is ∙ length-map fs (λ f. Some f) ∙ sym (length-map fs (fault_row line))
 
 -- A line of a store
 
@@ -47,26 +39,18 @@ bytes_of_line lines k text e = at (k == 0) e
     at true e = absurd (let no : Some text ≡ None = e in cc)
     at false e = at_place lines (k - 1) text e
 
--- the line that was passed last, where k lines were passed before it
-pub passed_line : {now before shown : Shown} {passed n k : ℕ} {line : ShownLine} → line ≡ now.line passed → now ≡ before → before ≡ shown → passed ≡ n + 1 → n ≡ k → line ≡ shown.line (k + 1)
-passed_line {now} {before} {shown} {passed} {n} {k} {line} is text same next count =
-    is ∙ ap (λ (s : Shown). s.line passed) (text ∙ same) ∙ ap (λ i. shown.line i) (next ∙ ap (λ i. i + 1) count)
-
 -- Reports
 
-pub line_reports-are : (style : Style) (file : List ℕ) (text : Text) (symbols : List (List ℕ)) (number : ℕ) (shown : ShownLine) (names : LineOfText) (bytes : List ℕ) (values : List Entry) (faults : List (Option Fault)) → names ≡ record { text = text; line = number } → bytes ≡ shown.text → values ≡ operand_values_of (names_from names shown.place.address) shown.place.address shown.stmt.body → faults ≡ map (λ f. Some f) (faults_of (shown_of text) number shown) → flat_map (report_of style file (names_from names shown.place.address) (shown_of text) (record { number = number; text = bytes; stmt = shown.stmt; address = shown.place.address; values = values; symbols = symbols })) (found faults) ≡ line_reports style file text symbols number shown
+-- their texts, one after another
+in_order : {X : Type 0} (f : X → List ℕ) (n : ℕ) (xs : List X) → flat_map f (take n xs) ≡ concat (take n (map f xs))
+in_order f n xs = sym (ap concat (take-map f n xs) ∙ concat_is (map f (take n xs)) ∙ flat_map-map (λ x. x) f (take n xs))
+
+pub line_reports-are : (style : Style) (file : List ℕ) (text : Text) (symbols : List (List ℕ)) (number count : ℕ) (shown : ShownLine) (names : LineOfText) (bytes : List ℕ) (values : List Entry) (faults : List (Option Fault)) → names ≡ record { text = text; line = number } → bytes ≡ shown.text → values ≡ operand_values_of (names_from names shown.place.address) shown.place.address shown.stmt.body → faults ≡ map (λ f. Some f) (take count (faults_of (shown_of text) number shown)) → flat_map (report_of style file (names_from names shown.place.address) (shown_of text) (record { number = number; text = bytes; stmt = shown.stmt; address = shown.place.address; values = values; symbols = symbols })) (found faults) ≡ concat (take count (line_reports style file text symbols number shown))
 unfolding line_reports
-line_reports-are style file text symbols number shown names bytes values faults named same valued faulty =
+line_reports-are style file text symbols number count shown names bytes values faults named same valued faulty =
     ap (λ v. flat_map (report_of style file (names_from names shown.place.address) (shown_of text) (record { number = number; text = bytes; stmt = shown.stmt; address = shown.place.address; values = v; symbols = symbols })) (found faults)) valued
     ∙ ap (λ (n : LineOfText). flat_map (report_of style file (names_from n shown.place.address) (shown_of text) (record { number = number; text = bytes; stmt = shown.stmt; address = shown.place.address; values = operand_values_of (names_from n shown.place.address) shown.place.address shown.stmt.body; symbols = symbols })) (found faults)) named
     ∙ ap (λ b. flat_map (report_of style file (names_from (record { text = text; line = number }) shown.place.address) (shown_of text) (record { number = number; text = b; stmt = shown.stmt; address = shown.place.address; values = operand_values_of (names_from (record { text = text; line = number }) shown.place.address) shown.place.address shown.stmt.body; symbols = symbols })) (found faults)) same
     ∙ ap (λ f. flat_map (report_of style file (names_from (record { text = text; line = number }) shown.place.address) (shown_of text) (reported_line text symbols number shown)) (found f)) faulty
-    ∙ ap (flat_map (report_of style file (names_from (record { text = text; line = number }) shown.place.address) (shown_of text) (reported_line text symbols number shown))) (all_found (faults_of (shown_of text) number shown))
-
--- One more of lists one after another
-
-pub joined_more : {A : Type 0} (f : ℕ → List A) (k : ℕ) → joined f (k + 1) ≡ joined f k ++ f k
-joined_more f k = rw add-one refl
-
-pub length_of_more : {A : Type 0} (f : ℕ → List A) (k : ℕ) → length (joined f (k + 1)) ≡ length (joined f k) + length (f k)
-length_of_more f k = ap length (joined_more f k) ∙ length-append (joined f k) (f k)
+    ∙ ap (flat_map (report_of style file (names_from (record { text = text; line = number }) shown.place.address) (shown_of text) (reported_line text symbols number shown))) (all_found (take count (faults_of (shown_of text) number shown)))
+    ∙ in_order (report_of style file (names_from (record { text = text; line = number }) shown.place.address) (shown_of text) (reported_line text symbols number shown)) count (faults_of (shown_of text) number shown)

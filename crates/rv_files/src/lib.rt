@@ -2,6 +2,7 @@
 #![tactic(auto)]
 
 mod bin;
+mod counting;
 mod elf;
 mod elf_headers;
 mod elf_symbols;
@@ -11,12 +12,14 @@ mod limits;
 mod lines;
 mod loading;
 mod numbers;
+mod report_error;
 mod reporting;
 mod sections;
 mod segment;
 mod text_symbols;
 
 pub use bin::write_bin;
+pub use counting::fault_count;
 pub use elf::{Elf, write_elf};
 pub use hex::write_hex;
 pub use laws::{
@@ -25,7 +28,8 @@ pub use laws::{
 pub use limits::LoadError;
 pub use lines::Lines;
 pub use loading::load;
-pub use reporting::{TextReports, text_reports};
+pub use report_error::ReportError;
+pub use reporting::write_reports;
 pub use sections::segments;
 pub use segment::Segment;
 pub use text_symbols::{Symbol, symbols};

@@ -1,32 +1,31 @@
 //! The reports of a text.
 
-ghost use Rattle.std.specs.Prelude.{◌≡◌, ◌≤◌, ◌++◌, length, map, Some, IfOk, OnOk};
-ghost use Rattle.std.specs.List.{flat_map};
+ghost use Rattle.std.specs.Prelude.{◌≡◌, ◌-◌, ◌^◌, ◌<◌, ◌≤◌, ◌++◌, length, map, take, Some, IfOk, OnOk};
+ghost use Rattle.std.specs.List.{concat, flat_map};
 ghost use Rattle.rv_list.specs.Faults.{fault_rows, faults_of, found};
 ghost use Rattle.rv_list.specs.Shown.{shown_line};
 ghost use Rattle.rv_report.specs.Lines.{line_of};
-ghost use Rattle.rv_report.specs.Reports.{report_of};
+ghost use Rattle.rv_report.specs.Reports.{count_of_faults, report_of};
 ghost use Rattle.rv_store.specs.LinesOfTexts.{names_from};
 ghost use Rattle.rv_store.specs.Shown.{shown_of};
+ghost use Rattle.rv_text.specs.Streams.{Writes};
 ghost use Rattle.rv_files.specs.Symbols.{symbols_of};
-ghost use Rattle.rv_files.specs.TextReports.{line_reports, lines_reports, text_reports};
+ghost use Rattle.rv_files.specs.TextReports.{all_reports, failures_by_report, line_reports, searched, text_reports};
 
-use crate::text_symbols::{names, symbols};
+use crate::counting::fault_count;
+use crate::report_error::ReportError;
+use crate::text_symbols::{first_symbols, names};
 use arrayvec::ArrayVec;
 use rv_expr::Names;
 use rv_fix::operand_values;
 use rv_list::{LineSource, LineView, MAX_FAULTS, View, find_faults};
 use rv_report::{FaultyLine, Page, push_fault_count, report};
 use rv_store::Store;
-use rv_text::{Fault, Tally};
+use rv_text::{Fault, Sink, Tally, write_all};
 use std::alloc::{AllocError, Global};
 
-/// The reports of a text, and how many faults they are of.
-#[derive(Drop)]
-pub struct TextReports {
-    pub text: Vec<u8>,
-    pub count: u32,
-}
+// With how many symbols all the names that are not defined are compared together.
+const COMPARED: u32 = 100_000;
 
 // Appends the reports of some faults of a line.
 fn push_faults<N: Names, V: View>(
@@ -52,7 +51,7 @@ fn push_faults<N: Names, V: View>(
     Ok(())
 }
 
-// Appends the reports of a line's faults.
+// Appends the reports of the first faults of a line.
 #[tactic(auto, unfolding(crate::specs::TextReports::line_reports))]
 fn push_line(
     out: &mut Vec<u8>,
@@ -68,9 +67,9 @@ fn push_line(
     requires last { number ≤ length store.now.lines }
     requires line { shown_line line.now ≡ (shown_of store.now).line number }
     requires labels { length line.now.stmt.now.labels ≤ 1000 }
-    requires faults { faults.now ≡ map Some (faults_of (shown_of store.now) number (shown_line line.now)) }
+    requires faults { faults.now ≡ map Some (take (length faults.now) (faults_of (shown_of store.now) number (shown_line line.now))) }
     ensures { OnOk result (out.new.items ≡ out.old.items
-        ++ line_reports page.now.style page.now.file.now store.now (map (λ s. s.now) symbols.now) number ((shown_of store.now).line number)) }
+        ++ concat (take (length faults.now) (line_reports page.now.style page.now.file.now store.now (map (λ s. s.now) symbols.now) number ((shown_of store.now).line number)))) }
 {
     if faults.is_empty() {
         return Ok(());
@@ -93,61 +92,127 @@ fn push_line(
     push_faults(out, alloc, page, &line, &names, &store, faults)
 }
 
-// Appends the reports of all lines, and says how many faults they are of.
-#[tactic(auto, unfolding(crate::specs::TextReports::lines_reports))]
-fn push_lines(
-    out: &mut Vec<u8>,
+// Writes the reports of the first faults of a line.
+fn write_line<W: Sink>(
+    sink: &mut W,
     alloc: Global,
     page: &Page<'_>,
     store: &Store,
     symbols: &[&[u8]],
-) -> Result<u32, AllocError>
-    ensures text { OnOk result (out.new.items ≡ out.old.items
-        ++ lines_reports page.now.style page.now.file.now store.now (map (λ s. s.now) symbols.now) (shown_of store.now).count) }
-    ensures count { IfOk result (λ count. count ≡ length (fault_rows (shown_of store.now))) }
+    number: u32,
+    line: &LineView<'_>,
+    faults: &[Option<Fault>],
+) -> Result<(), ReportError>
+    requires first { 1 ≤ number }
+    requires last { number ≤ length store.now.lines }
+    requires line { shown_line line.now ≡ (shown_of store.now).line number }
+    requires labels { length line.now.stmt.now.labels ≤ 1000 }
+    requires faults { faults.now ≡ map Some (take (length faults.now) (faults_of (shown_of store.now) number (shown_line line.now))) }
+    requires failures { W.failures sink.old < 2 ^ 64 - 1 }
+    ensures text { Writes (W.taken sink.old) (concat (take (length faults.now) (line_reports page.now.style page.now.file.now store.now (map (λ s. s.now) symbols.now) number ((shown_of store.now).line number)))) result (W.taken sink.new) }
+    ensures count { W.failures sink.new ≡ failures_by_report (W.failures sink.old) result }
 {
-    let view = &store;
-    let mut faults = ArrayVec::<Option<Fault>, MAX_FAULTS>::new();
-    let mut count = 0;
-    let mut lines = view.lines();
-    for k in 0..view.line_count() {
-        lines.advance();
-        let line = lines.line();
-        find_faults(&mut faults, view, k + 1, &line);
-        push_line(
-            out,
-            alloc,
-            page,
-            store,
-            symbols,
-            k + 1,
-            &line,
-            faults.as_slice(),
-        )?;
-        count += faults.len() as u32;
-    }
-    Ok(count)
+    let mut text = Vec::new(alloc);
+    push_line(&mut text, alloc, page, store, symbols, number, line, faults)?;
+    write_all(sink, text.as_slice())?;
+    Ok(())
 }
 
-/// The reports of a text on a page: those of each fault, in the order of the lines and of the faults of a line, and how many
-/// there are.
-///
-/// # Errors
-///
-/// `AllocError` if there is no memory for them.
-#[tactic(auto, unfolding(crate::specs::TextReports::text_reports))]
-pub fn text_reports(
+// Writes the first reports of the faults of all lines, at most so many.
+fn write_lines<W: Sink>(
+    sink: &mut W,
     alloc: Global,
     page: &Page<'_>,
     store: &Store,
-) -> Result<TextReports, AllocError>
-    ensures text { IfOk result (λ r. r.text.items ≡ text_reports page.now.style page.now.file.now store.now) }
-    ensures count { IfOk result (λ r. r.count ≡ length (fault_rows (shown_of store.now))) }
+    symbols: &[&[u8]],
+    most: u32,
+) -> Result<(), ReportError>
+    requires { W.failures sink.old < 2 ^ 64 - 1 }
+    ensures text { Writes (W.taken sink.old) (concat (take most (all_reports page.now.style page.now.file.now store.now (map (λ s. s.now) symbols.now)))) result (W.taken sink.new) }
+    ensures count { W.failures sink.new ≡ failures_by_report (W.failures sink.old) result }
 {
-    let symbols = symbols(alloc, &store)?;
-    let names = names(alloc, symbols.as_slice())?;
-    let mut text = Vec::new(alloc);
-    let count = push_lines(&mut text, alloc, page, store, names.as_slice())?;
-    push_fault_count(&mut text, alloc, page.file, count)?;
-    Ok(TextReports { text, count })
+    let view = &store;
+    let mut faults = ArrayVec::<Option<Fault>, MAX_FAULTS>::new();
+    let mut left = most as usize;
+    let mut lines = view.lines();
+    for k in 0..view.line_count() {
+        if left == 0 {
+            return Ok(());
+        }
+        lines.advance();
+        let line = lines.line();
+        find_faults(&mut faults, view, k + 1, &line);
+        let (first, _) = faults.as_slice().split_at(faults.len().min(left));
+        write_line(sink, alloc, page, store, symbols, k + 1, &line, first)?;
+        left -= first.len();
+    }
+    Ok(())
+}
+
+// Writes the row that ends the reports of a file.
+fn write_count<W: Sink>(
+    sink: &mut W,
+    alloc: Global,
+    file: &[u8],
+    count: u32,
+    most: u32,
+) -> Result<(), ReportError>
+    requires { W.failures sink.old < 2 ^ 64 - 1 }
+    ensures text { Writes (W.taken sink.old) (count_of_faults file.now count most) result (W.taken sink.new) }
+    ensures count { W.failures sink.new ≡ failures_by_report (W.failures sink.old) result }
+{
+    let mut row = Vec::new(alloc);
+    push_fault_count(&mut row, alloc, file, count, most)?;
+    write_all(sink, row.as_slice())?;
+    Ok(())
+}
+
+// Writes the first reports of a text with so many faults, and how many there are.
+#[tactic(auto, unfolding(crate::specs::TextReports::text_reports))]
+fn write_some<W: Sink>(
+    sink: &mut W,
+    alloc: Global,
+    page: &Page<'_>,
+    store: &Store,
+    count: u32,
+    most: u32,
+) -> Result<(), ReportError>
+    requires count { count ≡ length (fault_rows (shown_of store.now)) }
+    requires failures { W.failures sink.old < 2 ^ 64 - 1 }
+    ensures text { Writes (W.taken sink.old) (text_reports page.now.style page.now.file.now store.now most) result (W.taken sink.new) }
+    ensures count { W.failures sink.new ≡ failures_by_report (W.failures sink.old) result }
+{
+    let searched = (COMPARED / count.min(most).max(1)) as usize;
+    let symbols = first_symbols(alloc, &store, searched)?;
+    let (first, _) = symbols.as_slice().split_at(symbols.len().min(searched));
+    let names = names(alloc, first)?;
+    write_lines(sink, alloc, page, store, names.as_slice(), most)?;
+    write_count(sink, alloc, page.file, count, most)
+}
+
+/// Writes the reports of a text on a page: those of each fault, in the order of the lines and of the faults of a line, and how many
+/// there are. At most so many reports are shown, and then the last row says so. Returns how many faults there are. No
+/// more memory is taken than for the reports of one line, and for the symbols among which names are looked for that may be meant.
+///
+/// # Errors
+///
+/// `Write` if a call of the writer failed, and `Memory` if there is no memory. What was written before is the beginning of the
+/// reports.
+pub fn write_reports<W: Sink>(
+    sink: &mut W,
+    alloc: Global,
+    page: &Page<'_>,
+    store: &Store,
+    most: u32,
+) -> Result<u32, ReportError>
+    requires { W.failures sink.old < 2 ^ 64 - 1 }
+    ensures text { Writes (W.taken sink.old) (text_reports page.now.style page.now.file.now store.now most) result (W.taken sink.new) }
+    ensures faults { IfOk result (λ count. count ≡ length (fault_rows (shown_of store.now))) }
+    ensures count { W.failures sink.new ≡ failures_by_report (W.failures sink.old) result }
+{
+    let count = fault_count(&store);
+    if count > 0 {
+        write_some(sink, alloc, page, store, count, most)?;
+    }
+    Ok(count)
 }

@@ -1,6 +1,6 @@
 //! The symbols of a text.
 
-ghost use Rattle.std.specs.Prelude.{◌≡◌, ◌≤◌, ◌++◌, ◌∷◌, [], if◌then◌else◌, length, map, IfOk, OnOk};
+ghost use Rattle.std.specs.Prelude.{◌≡◌, ◌<◌, ◌≤◌, ◌++◌, ◌∷◌, [], if◌then◌else◌, length, map, take, IfOk, OnOk};
 ghost use Rattle.rv_layout.specs.Sections.{section_number};
 ghost use Rattle.rv_list.specs.Shown.{shown_line};
 ghost use Rattle.rv_files.specs.Symbols.{symbol_of_label, symbols_of_labels, symbol_of_body, symbols_on, symbols_of};
@@ -160,22 +160,41 @@ fn push_line<V: View>(
     push_body(symbols, alloc, view, number, &line.stmt.body)
 }
 
-/// The symbols of a text, each once, in the order of their definitions.
+/// The symbols of a text, each once, in the order of their definitions: the first ones, no fewer than `most` unless these are all.
 ///
 /// # Errors
 ///
 /// `AllocError` if there is no memory for them.
 #[tactic(auto, unfolding(crate::specs::Symbols::symbols_of))]
-pub fn symbols<V: View>(alloc: Global, view: &V) -> Result<Vec<Symbol>, AllocError>
-    ensures { IfOk result (λ symbols. symbols.items ≡ symbols_of (V.shown view.now)) }
+pub fn first_symbols<V: View>(
+    alloc: Global,
+    view: &V,
+    most: usize,
+) -> Result<Vec<Symbol>, AllocError>
+    ensures first { IfOk result (λ symbols. take most symbols.items ≡ take most (symbols_of (V.shown view.now))) }
+    ensures all { IfOk result (λ symbols. length symbols.items < most → symbols.items ≡ symbols_of (V.shown view.now)) }
 {
     let mut symbols = Vec::new(alloc);
     let mut lines = view.lines();
     for k in 0..view.line_count() {
+        if symbols.len() >= most {
+            return Ok(symbols);
+        }
         lines.advance();
         push_line(&mut symbols, alloc, view, k + 1, &lines.line())?;
     }
     Ok(symbols)
+}
+
+/// All symbols of a text, each once, in the order of their definitions.
+///
+/// # Errors
+///
+/// `AllocError` if there is no memory for them.
+pub fn symbols<V: View>(alloc: Global, view: &V) -> Result<Vec<Symbol>, AllocError>
+    ensures { IfOk result (λ symbols. symbols.items ≡ symbols_of (V.shown view.now)) }
+{
+    first_symbols(alloc, view, usize::MAX)
 }
 
 /// The names of symbols.

@@ -8,26 +8,7 @@ use Rattle.rv_text.specs.Streams.{WritesPrefix}
 use Rattle.rv_text.specs.Blocks.{Waits}
 use Rattle.rv_text.specs.BlockLaws.{waits_then, waits_lost, lost_first}
 use Rattle.rv_list.specs.Joined.{joined}
-use Rattle.rv_list.specs.JoinedLaws.{joined_more}
-
--- the next one is empty
-pub joined_none : {A : Type 0} (f : ℕ → List A) (k : ℕ) → f k ≡ [] → joined f (k + 1) ≡ joined f k
-joined_none f k none = joined_more f k ∙ ap (λ l. joined f k ++ l) none ∙ append-nil (joined f k)
-
--- there is more after the first ones
-record Then {A : Type 0} (f : ℕ → List A) (k n : ℕ) : Type 0 where
-  later : List A
-  whole : joined f n ≡ joined f k ++ later
-
-joined_then : {A : Type 0} (f : ℕ → List A) (k more : ℕ) → Then f k (k + more)
-joined_then f k zero = record { later = []; whole = let e : k + 0 ≡ k = omega arith in rw e (sym (append-nil (joined f k))) }
-joined_then f k (suc more) =
-    let before = joined_then f k more in
-    let e : k + suc more ≡ suc (k + more) = omega arith in
-    record {
-      later = before.later ++ f (k + more);
-      whole = rw e (rw before.whole (append_assoc (joined f k) before.later (f (k + more))));
-    }
+use Rattle.rv_list.specs.JoinedLaws.{Then, joined_more, joined_then}
 
 -- no fewer than the first ones
 pub joined_within : {A : Type 0} (f : ℕ → List A) (k n : ℕ) → k ≤ n → length (joined f k) ≤ length (joined f n)

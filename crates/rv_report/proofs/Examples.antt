@@ -32,7 +32,7 @@ use Rattle.rv_report.specs.LexicalMessages.{bad_byte, bad_number, bad_string, nu
 use Rattle.rv_report.specs.Lines.{Line}
 use Rattle.rv_report.specs.Messages.{operand_count, register_range, undefined_name, later_equ, line_of_equ, faulty_equ_of, not_constant, no_partner, beyond_reach, out_of_range, not_multiple, odd_distance, odd_address, message_of}
 use Rattle.rv_report.specs.OperandMessages.{comment_help, missing_comma, no_operand, no_register, no_statement, separation_of}
-use Rattle.rv_report.specs.Reports.{count_of_faults, line_row, margin, mark, mark_row, message_row, note_at, painted, rendition, report_of, shown_line}
+use Rattle.rv_report.specs.Reports.{count_of_faults, first_shown, line_row, margin, mark, mark_row, message_row, note_at, painted, rendition, report_of, shown_line}
 use Rattle.rv_report.specs.Suggestions.{did_you_mean, suggestions}
 use Rattle.rv_report.specs.Texts.{about, quoted}
 use Rattle.rv_report.specs.UnknownNames.{missing_colon, replacement, unknown_name}
@@ -217,6 +217,6 @@ in_color : report_of Colored (codes "<stdin>") names nothing_shown (faulty 1 (co
 unfolding report_of message_row line_row mark_row painted rendition shown_line margin mark note_at quoted about message_of no_statement fault_name digits
 in_color = refl
 
-fault_counts : count_of_faults (codes "b.s") 0 ∷ count_of_faults (codes "b.s") 1 ∷ count_of_faults (codes "b.s") 2 ∷ [] ≡ [] ∷ codes "b.s: 1 fault\n" ∷ codes "b.s: 2 faults\n" ∷ []
-unfolding count_of_faults digits
+fault_counts : count_of_faults (codes "b.s") 0 1000 ∷ count_of_faults (codes "b.s") 1 1000 ∷ count_of_faults (codes "b.s") 2 2 ∷ count_of_faults (codes "b.s") 1001 1000 ∷ [] ≡ [] ∷ codes "b.s: 1 fault\n" ∷ codes "b.s: 2 faults\n" ∷ codes "b.s: 1001 faults; the first 1000 are shown, --all shows all\n" ∷ []
+unfolding count_of_faults first_shown digits
 fault_counts = refl

@@ -1,4 +1,5 @@
 pub mod Columns
+pub mod Distances
 mod Examples
 pub mod Joining
 pub mod RangeLimits

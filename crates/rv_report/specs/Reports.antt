@@ -1,5 +1,5 @@
 -- The rows that report a fault.
-use Rattle.std.specs.Prelude.{ℕ, ◌+◌, ◌-◌, ◌==◌, List, [], ◌∷◌, ◌++◌, length, take, replicate, codes, decimal, if◌then◌else◌}
+use Rattle.std.specs.Prelude.{ℕ, ◌+◌, ◌-◌, ◌==◌, nat_le, List, [], ◌∷◌, ◌++◌, length, take, replicate, codes, decimal, if◌then◌else◌}
 use Rattle.std.specs.Char.{is_ascii_whitespace}
 use Rattle.rv_text.specs.declared.faults.Fault.{Fault}
 use Rattle.rv_text.specs.declared.faults.FaultNumber.{FaultNumber}
@@ -84,7 +84,15 @@ report_of style file given shown line fault =
 
 -- the row that ends the reports of a file
 abbrev pub faults_word : ℕ → List ℕ
-faults_word count = if count == 1 then codes " fault\n" else codes " faults\n"
+faults_word count = if count == 1 then codes " fault" else codes " faults"
 
-unfoldable pub count_of_faults : (file : List ℕ) → (count : ℕ) → List ℕ
-count_of_faults file count = if count == 0 then [] else file ++ (codes ": " ++ (decimal count ++ faults_word count))
+-- of more faults than are shown, which ones are
+unfoldable pub first_shown : (most : ℕ) → List ℕ
+first_shown most = codes "; the first " ++ (decimal most ++ codes " are shown, --all shows all")
+
+abbrev pub part_shown : (count most : ℕ) → List ℕ
+part_shown count most = if nat_le count most then [] else first_shown most
+
+unfoldable pub count_of_faults : (file : List ℕ) → (count most : ℕ) → List ℕ
+count_of_faults file count most =
+    if count == 0 then [] else file ++ (codes ": " ++ (decimal count ++ (faults_word count ++ (part_shown count most ++ codes "\n"))))

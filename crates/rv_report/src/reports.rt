@@ -86,7 +86,8 @@ pub fn report<N: Names, V: View>(
     out.extend_from_slice(text.bytes())
 }
 
-/// Appends the row that ends the reports of a file: how many faults it has. There is none where it has no fault.
+/// Appends the row that ends the reports of a file: how many faults it has, and which are shown, where at most so many are. There
+/// is none where it has no fault.
 ///
 /// # Errors
 ///
@@ -96,11 +97,12 @@ pub fn push_fault_count(
     alloc: Global,
     file: &[u8],
     count: u32,
+    most: u32,
 ) -> Result<(), AllocError>
-    ensures appended { OnOk result (out.new.items ≡ out.old.items ++ count_of_faults file.now count) }
+    ensures appended { OnOk result (out.new.items ≡ out.old.items ++ count_of_faults file.now count most) }
     ensures refused { OnErr result (out.new.items ≡ out.old.items) }
 {
     let mut text = Text::new(alloc);
-    push_count(&mut text, file, count)?;
+    push_count(&mut text, file, count, most)?;
     out.extend_from_slice(text.bytes())
 }

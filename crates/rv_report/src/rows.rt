@@ -1,7 +1,7 @@
 //! The rows of a report.
 
 ghost use Rattle.std.specs.Prelude.{◌≡◌, ◌+◌, ◌≤◌, ◌++◌, codes, decimal, length, OnOk};
-ghost use Rattle.rv_report.specs.Reports.{count_of_faults, faults_word, line_row, margin, mark, mark_row, message_row, note_at, note_by, painted, rendition, shown_line, text_end};
+ghost use Rattle.rv_report.specs.Reports.{count_of_faults, faults_word, first_shown, line_row, margin, mark, mark_row, message_row, note_at, note_by, painted, part_shown, rendition, shown_line, text_end};
 
 use crate::characters::{column_of, push_shown};
 use crate::reports::Style;
@@ -201,10 +201,31 @@ pub fn push_note(
     }
 }
 
-/// Appends the row that ends the reports of a file.
+// Appends that only the first faults are shown.
+#[tactic(auto, unfolding(crate::specs::Reports::first_shown))]
+fn push_first_shown(out: &mut Text, most: u32) -> Result<(), AllocError>
+    ensures { OnOk result (out.new ≡ out.old ++ first_shown most) }
+{
+    out.push(b"; the first ")?;
+    out.push_number(most)?;
+    out.push(b" are shown, --all shows all")
+}
+
+// Appends which faults are shown, where not all are.
+fn push_part_shown(out: &mut Text, count: u32, most: u32) -> Result<(), AllocError>
+    ensures { OnOk result (out.new ≡ out.old ++ part_shown count most) }
+{
+    if count <= most {
+        Ok(())
+    } else {
+        push_first_shown(out, most)
+    }
+}
+
+/// Appends the row that ends the reports of a file, of which at most so many are shown.
 #[tactic(auto, unfolding(crate::specs::Reports::count_of_faults))]
-pub fn push_count(out: &mut Text, file: &[u8], count: u32) -> Result<(), AllocError>
-    ensures { OnOk result (out.new ≡ out.old ++ count_of_faults file.now count) }
+pub fn push_count(out: &mut Text, file: &[u8], count: u32, most: u32) -> Result<(), AllocError>
+    ensures { OnOk result (out.new ≡ out.old ++ count_of_faults file.now count most) }
 {
     if count == 0 {
         return Ok(());
@@ -212,16 +233,14 @@ pub fn push_count(out: &mut Text, file: &[u8], count: u32) -> Result<(), AllocEr
     out.push(file)?;
     out.push(b": ")?;
     out.push_number(count)?;
-    out.push(faults_word(count))
+    out.push(faults_word(count))?;
+    push_part_shown(out, count, most)?;
+    out.push(b"\n")
 }
 
 // What is counted.
 fn faults_word(count: u32) -> &'static [u8]
     ensures { result.now ≡ faults_word count }
 {
-    if count == 1 {
-        b" fault\n"
-    } else {
-        b" faults\n"
-    }
+    if count == 1 { b" fault" } else { b" faults" }
 }

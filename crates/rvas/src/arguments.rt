@@ -68,6 +68,8 @@ pub struct Arguments<'a> {
     pub entry: Option<&'a str>,
     pub force: bool,
     pub color: Color,
+    /// Whether all reports of a file are shown.
+    pub all: bool,
 }
 
 const COLORS: [&str; 3] = ["always", "never", "auto"];
@@ -109,6 +111,19 @@ fn color_option<'a>(alloc: Global) -> Arg<'a> {
         .action(ArgAction::Set)
 }
 
+// Whether all reports are shown.
+fn all_option<'a>(alloc: Global) -> Arg<'a> {
+    Arg::new(alloc, "all")
+        .long("all")
+        .help("Show the reports of all faults, not only of the first 1000")
+        .action(ArgAction::SetTrue)
+}
+
+// How reports are shown.
+fn with_reports<'a>(alloc: Global, command: Command<'a>) -> Result<Command<'a>, AllocError> {
+    command.arg(color_option(alloc))?.arg(all_option(alloc))
+}
+
 // Where the bytes go to, and in which format.
 fn with_output<'a>(alloc: Global, command: Command<'a>) -> Result<Command<'a>, AllocError> {
     let output = Arg::new(alloc, "output")
@@ -144,27 +159,22 @@ fn with_choices<'a>(alloc: Global, command: Command<'a>) -> Result<Command<'a>, 
 fn assemble_command<'a>(alloc: Global) -> Result<Command<'a>, AllocError> {
     let command = Command::new(alloc, "asm").about("Assembles a file");
     let command = with_choices(alloc, with_output(alloc, command)?)?;
-    command
-        .arg(text_base(alloc))?
-        .arg(color_option(alloc))?
-        .arg(file_argument(alloc))
+    with_reports(alloc, command.arg(text_base(alloc))?)?.arg(file_argument(alloc))
 }
 
 fn check_command<'a>(alloc: Global) -> Result<Command<'a>, AllocError> {
     let files = file_argument(alloc).num_args(1..).action(ArgAction::Append);
-    Command::new(alloc, "check")
+    let command = Command::new(alloc, "check")
         .about("Assembles each file by itself, and writes nothing")
-        .arg(text_base(alloc))?
-        .arg(color_option(alloc))?
-        .arg(files)
+        .arg(text_base(alloc))?;
+    with_reports(alloc, command)?.arg(files)
 }
 
 fn list_command<'a>(alloc: Global) -> Result<Command<'a>, AllocError> {
-    Command::new(alloc, "list")
+    let command = Command::new(alloc, "list")
         .about("Writes the listing of a file")
-        .arg(text_base(alloc))?
-        .arg(color_option(alloc))?
-        .arg(file_argument(alloc))
+        .arg(text_base(alloc))?;
+    with_reports(alloc, command)?.arg(file_argument(alloc))
 }
 
 fn disassemble_command<'a>(alloc: Global) -> Result<Command<'a>, AllocError> {
@@ -304,6 +314,7 @@ fn arguments_of<'a>(
         entry: matches.get_str("entry"),
         force: matches.get_flag("force"),
         color: color_named(matches.get_str("color")),
+        all: matches.get_flag("all"),
     })
 }
 

@@ -14,7 +14,7 @@ use crate::noting::{Noting, unless_closed};
 use crate::output::Output;
 use crate::sums::Sums;
 use rv_dis::{DisRow, first_row};
-use rv_files::text_reports;
+use rv_files::{ReportError, fault_count, write_reports};
 use rv_list::write_listing;
 use rv_report::{Page, Style};
 use rv_store::Store;
@@ -23,6 +23,9 @@ use std::env::{self, VarError};
 use std::fs;
 use std::io::{self, IsTerminal, Write};
 use std::os::unix::fs::MetadataExt;
+
+// How many reports of a file are shown, unless all are asked for.
+const MOST_REPORTS: u32 = 1000;
 
 // Whether the environment asks for no colors: NO_COLOR is set and not empty (no-color.org), or the terminal has none.
 fn is_without_colors(rt: &HostRuntime) -> bool {
@@ -54,18 +57,31 @@ fn style_of(rt: &HostRuntime, color: Color) -> Style {
     }
 }
 
-// Writes the reports of a text to standard error, and says how many faults they are of.
-fn report_faults(rt: &HostRuntime, name: &str, style: Style, store: &Store) -> Result<u32, Failure>
+// Writes the reports of a text to standard error, and says how many faults it has. Where they cannot be written, they are lost.
+fn report_faults(
+    rt: &HostRuntime,
+    arguments: &Arguments<'_>,
+    name: &str,
+    store: &Store,
+) -> Result<u32, Failure>
     ensures { IfOk result (λ count. count ≡ length (fault_rows (shown_of store.now))) }
 {
     let file = format!(in rt.alloc(); "{}", shown_file(name))?;
     let page = Page {
         file: file.as_bytes(),
-        style,
+        style: style_of(rt, arguments.color),
     };
-    let reports = text_reports(rt.alloc(), &page, store)?;
-    let _ = rt.stderr().write_all(reports.text.as_slice());
-    Ok(reports.count)
+    let most = if arguments.all {
+        u32::MAX
+    } else {
+        MOST_REPORTS
+    };
+    let mut sink = StdSink::new(rt.stderr());
+    match write_reports(&mut sink, rt.alloc(), &page, store, most) {
+        Ok(count) => Ok(count),
+        Err(ReportError::Write) => Ok(fault_count(&store)),
+        Err(ReportError::Memory) => Err(Failure::Memory),
+    }
 }
 
 // Says that something was not done with a file, and why, where that is known.
@@ -135,7 +151,7 @@ fn assemble_file(
         return Err(Failure::Terminal);
     }
     let store = read_text(rt, file, arguments.base)?;
-    let is_right = report_faults(rt, file, style_of(rt, arguments.color), &store)? == 0;
+    let is_right = report_faults(rt, arguments, file, &store)? == 0;
     if !is_right && !arguments.force {
         return Err(Failure::Faulty);
     }
@@ -163,7 +179,7 @@ pub fn assemble(rt: &HostRuntime, arguments: &Arguments<'_>) -> u8 {
 // Reports the faults of a file, and says how many there are. A line past a limit is one.
 fn check_file(rt: &HostRuntime, arguments: &Arguments<'_>, file: &str) -> Result<u32, Failure> {
     match read_text(rt, file, arguments.base) {
-        Ok(store) => report_faults(rt, file, style_of(rt, arguments.color), &store),
+        Ok(store) => report_faults(rt, arguments, file, &store),
         Err(Failure::Faulty) => Ok(1),
         Err(failure) => Err(failure),
     }
@@ -186,7 +202,7 @@ pub fn check(rt: &HostRuntime, arguments: &Arguments<'_>) -> u8 {
 // Writes the listing of a file.
 fn list_file(rt: &HostRuntime, arguments: &Arguments<'_>, file: &str) -> Result<(), Failure> {
     let store = read_text(rt, file, arguments.base)?;
-    let is_right = report_faults(rt, file, style_of(rt, arguments.color), &store)? == 0;
+    let is_right = report_faults(rt, arguments, file, &store)? == 0;
     let mut sink = StdSink::new(Noting::new(io::writer(rt)));
     if write_listing(&&store, &mut sink).is_err() {
         unless_closed(sink.writer.kind())?;

@@ -1,7 +1,7 @@
 use Rattle.std.proofs.Common.{◌≡◌, ℕ, ◌+◌, List, ◌++◌, ap, sym, ◌∙◌}
 use Rattle.rv_list.specs.Joined.{joined}
 use Rattle.rv_files.specs.Segments.{Segment, segment_at, unless_empty}
-use Rattle.rv_files.proofs.Reports.{joined_more}
+use Rattle.rv_list.specs.JoinedLaws.{joined_more}
 use Rattle.rv_files.proofs.sections.segments.Goals as goal
 
 pub loop-section-preserved : goal.loop-section-preserved

@@ -1,8 +1,7 @@
 use Rattle.std.proofs.Common.{◌≡◌, ℕ, ◌+◌, List, [], length, map, arith, ap, sym, ◌∙◌}
 use Rattle.rv_list.specs.Faults.{fault_row, faults_of}
 use Rattle.rv_list.specs.FoundFaults.{found_rows}
-use Rattle.rv_list.proofs.Joined.{joined_none}
-use Rattle.rv_list.specs.JoinedLaws.{length_of_more}
+use Rattle.rv_list.specs.JoinedLaws.{joined_none, length_of_more}
 use Rattle.rv_list.specs.PassedLines.{passed_line, passed_quiet}
 use Rattle.rv_list.proofs.faults.count_faults.Goals as goal
 

@@ -4,8 +4,8 @@ use Rattle.std.proofs.lemmas.Result.{err_from_is_err_and}
 use Rattle.rv_list.specs.Faults.{fault_row, faults_of}
 use Rattle.rv_list.specs.Joined.{joined}
 use Rattle.rv_list.specs.FoundFaults.{all_found, found_rows}
-use Rattle.rv_list.proofs.Joined.{joined_none, joined_within, joined_no_more, lost_rows, gathered_rows}
-use Rattle.rv_list.specs.JoinedLaws.{length_of_more}
+use Rattle.rv_list.proofs.Joined.{joined_within, joined_no_more, lost_rows, gathered_rows}
+use Rattle.rv_list.specs.JoinedLaws.{joined_none, length_of_more}
 use Rattle.rv_list.specs.PassedLines.{passed_line, passed_quiet}
 use Rattle.rv_list.proofs.faults.push_fault_rows.Goals as goal
 

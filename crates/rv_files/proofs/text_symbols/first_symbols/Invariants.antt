@@ -1,7 +1,7 @@
 use Rattle.std.proofs.Common.{◌≡◌, ◌+◌}
 use Rattle.rv_list.specs.Joined.{joined}
 use Rattle.rv_files.specs.Symbols.{symbols_on}
-use Rattle.rv_files.proofs.text_symbols.symbols.Given as goal
+use Rattle.rv_files.proofs.text_symbols.first_symbols.Given as goal
 
 -- the symbols of the lines so far
 abbrev pub invariant-loop-k : goal.invariant-loop-k

@@ -1,0 +1,139 @@
+-- The first of many reports, written line by line.
+use Rattle.std.proofs.Common.{◌≡◌, ℕ, zero, suc, ◌+◌, ◌-◌, ◌<◌, ◌≤◌, List, [], ◌∷◌, ◌++◌, length, map, take, min, refl, ap, sym, ◌∙◌, arith, append_assoc}
+use Rattle.std.proofs.lemmas.List.{append-nil, length-append, length-map, nil_from_length, length-take, take-map, take_min}
+use Rattle.std.proofs.lemmas.List.Folds.{concat-append}
+use Rattle.std.specs.List.{concat}
+use Rattle.std.specs.Prelude.{Option, Some}
+use Rattle.rv_text.specs.Streams.{after, WritesPrefix}
+use Rattle.rv_text.specs.StreamLaws.{after_after, prefix_within}
+use Rattle.rv_text.specs.declared.faults.Fault.{Fault}
+use Rattle.rv_list.specs.Faults.{fault_row, faults_of}
+use Rattle.rv_list.specs.Joined.{joined}
+use Rattle.rv_list.specs.Shown.{ShownLine}
+use Rattle.rv_report.specs.declared.reports.Style.{Style}
+use Rattle.rv_report.specs.Reports.{count_of_faults, report_of}
+use Rattle.rv_store.specs.LinesOfTexts.{names_from}
+use Rattle.rv_store.specs.Shown.{shown_of}
+use Rattle.rv_store.specs.Text.{Text}
+use Rattle.rv_files.specs.TextReports.{all_reports, fault_count, line_reports, reported_line, searched_symbols, text_reports}
+use Rattle.rv_list.specs.JoinedLaws.{Then, joined_more, joined_then}
+
+-- the first of two lists one after the other
+take_both : {A : Type 0} (n : ℕ) (xs ys : List A) → take n (xs ++ ys) ≡ take n xs ++ take (n - length xs) ys
+take_both zero [] ys = refl
+take_both {A} (suc n) [] ys =
+    let all : suc n - 0 ≡ suc n = omega arith in
+    rw all refl
+take_both zero (x ∷ xs) ys =
+    let none : zero - length (x ∷ xs) ≡ 0 = omega arith in
+    rw none refl
+take_both (suc n) (x ∷ xs) ys =
+    let fewer : suc n - length (x ∷ xs) ≡ n - length xs = omega arith in
+    rw fewer (ap (λ l. x ∷ l) (take_both n xs ys))
+
+-- the first faults of a line
+pub first_faults : {A : Type 0} (n : ℕ) (fs : List A) (first : List (Option A)) → first ≡ take n (map (λ f. Some f) fs) → first ≡ map (λ f. Some f) (take (length first) fs)
+first_faults n fs first is =
+    let some : first ≡ map (λ f. Some f) (take n fs) = is ∙ take-map (λ f. Some f) n fs in
+    let count : length first ≡ min n (length fs) = ap length some ∙ length-map (take n fs) (λ f. Some f) ∙ length-take n fs in
+    some ∙ ap (map (λ f. Some f)) (sym (ap (λ c. take c fs) count ∙ take_min n fs))
+
+take_none : {A : Type 0} (n : ℕ) (xs : List A) → n ≡ 0 → take n xs ≡ []
+take_none n xs none = rw none refl
+
+-- Lists one after another
+
+-- there is more after the first ones
+then_all : {A : Type 0} (f : ℕ → List A) (k n : ℕ) → k ≤ n → Then f k n
+then_all f k n within =
+    let count : k + (n - k) ≡ n = omega (arith, within) in
+    let more = joined_then f k (n - k) in
+    record { later = more.later; whole = rw count at more.whole }
+
+-- where so many are reached, no later one is among the first
+pub first_reached : {A : Type 0} (f : ℕ → List A) (most k n : ℕ) → k ≤ n → most ≤ length (joined f k) → take most (joined f k) ≡ take most (joined f n)
+first_reached f most k n within reached =
+    let more = then_all f k n within in
+    let none : most - length (joined f k) ≡ 0 = omega (arith, reached) in
+    sym (ap (take most) more.whole
+    ∙ take_both most (joined f k) more.later
+    ∙ ap (λ l. take most (joined f k) ++ l) (take_none (most - length (joined f k)) more.later none)
+    ∙ append-nil (take most (joined f k)))
+
+-- the first ones with those of one more
+pub first_more : {A : Type 0} (f : ℕ → List A) (most k : ℕ) → take most (joined f (k + 1)) ≡ take most (joined f k) ++ take (most - length (joined f k)) (f k)
+first_more f most k = ap (take most) (joined_more f k) ∙ take_both most (joined f k) (f k)
+
+-- as many of one list as of another
+pub same_lengths : {A B : Type 0} (f : ℕ → List A) (g : ℕ → List B) (n : ℕ) → ((k : ℕ) → length (f k) ≡ length (g k)) → length (joined f n) ≡ length (joined g n)
+same_lengths f g zero same = refl
+same_lengths f g (suc n) same =
+    omega (arith, length-append (joined f n) (f n), length-append (joined g n) (g n), same_lengths f g n same, same n)
+
+-- Texts that are written one after another
+
+-- the next ones are written
+pub first_written : (f : ℕ → List (List ℕ)) (most k : ℕ) (old now new : Option (List ℕ)) → now ≡ after old (concat (take most (joined f k))) → new ≡ after now (concat (take (most - length (joined f k)) (f k))) → new ≡ after old (concat (take most (joined f (k + 1))))
+first_written f most k old now new before next =
+    rw (next, before, first_more f most k, concat-append (take most (joined f k)) (take (most - length (joined f k)) (f k)))
+    (after_after old (concat (take most (joined f k))) (concat (take (most - length (joined f k)) (f k))))
+
+-- a write fails within them
+pub first_lost : (f : ℕ → List (List ℕ)) (most k n : ℕ) (old now new : Option (List ℕ)) → k < n → now ≡ after old (concat (take most (joined f k))) → WritesPrefix now (concat (take (most - length (joined f k)) (f k))) new → WritesPrefix old (concat (take most (joined f n))) new
+first_lost f most k n old now new within before lost =
+    let more = then_all f (k + 1) n (omega (arith, within)) in
+    let first = take most (joined f k) in
+    let next = take (most - length (joined f k)) (f k) in
+    let later = take (most - length (joined f (k + 1))) more.later in
+    let whole : concat (take most (joined f n)) ≡ (concat first ++ concat next) ++ concat later =
+    ap concat (ap (take most) more.whole ∙ take_both most (joined f (k + 1)) more.later ∙ ap (λ l. l ++ later) (first_more f most k))
+    ∙ concat-append (first ++ next) later
+    ∙ ap (λ l. l ++ concat later) (concat-append first next) in
+    prefix_within old now new (concat first) (concat next) (concat later) (concat (take most (joined f n))) whole before lost
+
+-- Reports
+
+-- a line has a report for each of its faults
+pub found_reports : (style : Style) (file : List ℕ) (text : Text) (symbols : List (List ℕ)) (number : ℕ) (line : ShownLine) (found : List (Option Fault)) → found ≡ map (λ f. Some f) (faults_of (shown_of text) number line) → length found ≡ length (line_reports style file text symbols number line)
+unfolding line_reports
+found_reports style file text symbols number line found is =
+    ap length is
+    ∙ length-map (faults_of (shown_of text) number line) (λ f. Some f)
+    ∙ sym (length-map (faults_of (shown_of text) number line) (report_of style file (names_from (record { text = text; line = number }) line.place.address) (shown_of text) (reported_line text symbols number line)))
+
+-- as many of them as there are faults among the first
+pub as_many : {A : Type 0} (xs : List A) (n left : ℕ) → n ≡ min left (length xs) → take n xs ≡ take left xs
+as_many xs n left is = ap (λ c. take c xs) is ∙ take_min left xs
+
+-- the first symbols, of no fewer
+pub first_of_more : (most n : ℕ) (names first symbols : List (List ℕ)) → take most names ≡ take most symbols → n ≡ min most (length names) → first ≡ take n names → first ≡ take most symbols
+first_of_more most n names first symbols same count is = is ∙ as_many names n most count ∙ same
+
+line_count : (style : Style) (file : List ℕ) (text : Text) (symbols : List (List ℕ)) (number : ℕ) (line : ShownLine) → length (line_reports style file text symbols number line) ≡ length (map (fault_row number) (faults_of (shown_of text) number line))
+line_count style file text symbols number line =
+    sym (found_reports style file text symbols number line (map (λ f. Some f) (faults_of (shown_of text) number line)) refl)
+    ∙ length-map (faults_of (shown_of text) number line) (λ f. Some f)
+    ∙ sym (length-map (faults_of (shown_of text) number line) (fault_row number))
+
+pub take_nil : {A : Type 0} (n : ℕ) → take {A = A} n [] ≡ []
+take_nil zero = refl
+take_nil (suc n) = refl
+
+-- a text has a report for each of its faults
+pub all_counted : (style : Style) (file : List ℕ) (text : Text) (symbols : List (List ℕ)) → length (all_reports style file text symbols) ≡ fault_count text
+all_counted style file text symbols =
+    same_lengths
+    (λ k. line_reports style file text symbols (k + 1) ((shown_of text).line (k + 1)))
+    (λ k. map (fault_row (k + 1)) (faults_of (shown_of text) (k + 1) ((shown_of text).line (k + 1))))
+    (shown_of text).count
+    (λ k. line_count style file text symbols (k + 1) ((shown_of text).line (k + 1)))
+
+-- a text without faults has none
+pub none_reported : (style : Style) (file : List ℕ) (text : Text) (most : ℕ) → fault_count text ≡ 0 → text_reports style file text most ≡ []
+unfolding text_reports count_of_faults
+none_reported style file text most none =
+    let symbols = searched_symbols text (min (fault_count text) most) in
+    let nothing : all_reports style file text symbols ≡ [] = nil_from_length (all_reports style file text symbols) (all_counted style file text symbols ∙ none) in
+    ap (λ (l : List (List ℕ)). concat (take most l) ++ count_of_faults file (fault_count text) most) nothing
+    ∙ ap (λ (l : List (List ℕ)). concat l ++ count_of_faults file (fault_count text) most) (take_nil most)
+    ∙ ap (λ n. count_of_faults file n most) none
