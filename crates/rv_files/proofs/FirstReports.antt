@@ -106,8 +106,8 @@ pub as_many : {A : Type 0} (xs : List A) (n left : ℕ) → n ≡ min left (leng
 as_many xs n left is = ap (λ c. take c xs) is ∙ take_min left xs
 
 -- the first symbols, of no fewer
-pub first_of_more : (most n : ℕ) (names first symbols : List (List ℕ)) → take most names ≡ take most symbols → n ≡ min most (length names) → first ≡ take n names → first ≡ take most symbols
-first_of_more most n names first symbols same count is = is ∙ as_many names n most count ∙ same
+pub first_of_more : {A : Type 0} (most n : ℕ) (all first symbols : List A) → take most all ≡ take most symbols → n ≡ min most (length all) → first ≡ take n all → first ≡ take most symbols
+first_of_more most n all first symbols same count is = is ∙ as_many all n most count ∙ same
 
 line_count : (style : Style) (file : List ℕ) (text : Text) (symbols : List (List ℕ)) (number : ℕ) (line : ShownLine) → length (line_reports style file text symbols number line) ≡ length (map (fault_row number) (faults_of (shown_of text) number line))
 line_count style file text symbols number line =

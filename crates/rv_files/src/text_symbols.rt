@@ -194,7 +194,8 @@ pub fn first_symbols<V: View>(
 pub fn symbols<V: View>(alloc: Global, view: &V) -> Result<Vec<Symbol>, AllocError>
     ensures { IfOk result (λ symbols. symbols.items ≡ symbols_of (V.shown view.now)) }
 {
-    first_symbols(alloc, view, usize::MAX)
+    let symbols = first_symbols(alloc, view, usize::MAX)?;
+    Ok(symbols)
 }
 
 /// The names of symbols.
