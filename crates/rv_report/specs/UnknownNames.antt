@@ -22,6 +22,11 @@ is_known (Err number) = true
 abbrev pub begins_statement : List ℕ → Bool
 begins_statement name = if is_directive_name name then is_some (directive_named name) else is_known (form_of name 0)
 
+-- a statement begins with the word after the name; behind the name of a directive it may be that of a section
+abbrev pub is_before_statement : (name next : List ℕ) → Bool
+is_before_statement name next =
+    if is_directive_name name && is_directive_name next then false else begins_statement next
+
 -- the names of its kind that may have been meant
 unfoldable pub near_names : List ℕ → List ℕ
 near_names name = did_you_mean (suggestions (map to_ascii_lowercase name) (names_like name))
@@ -44,8 +49,8 @@ abbrev pub by_what_follows : (name next : List ℕ) → (behind : ℕ) → List 
 by_what_follows name next behind =
     if bytes_eq next (codes "=") then definition_of name
     else (if behind == 0x2D then codes "; a name has no '-'"
-    else (if begins_statement next then missing_colon
     else (if is_some (directive_named (0x2E ∷ name)) then missing_point name
+    else (if is_before_statement name next then missing_colon
     else by_names next (near_names name))))
 
 -- what is written in the place of a name that other assemblers have

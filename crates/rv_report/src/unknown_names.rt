@@ -4,7 +4,7 @@ ghost use Rattle.std.specs.Prelude.{◌≡◌, ◌≤◌, ◌∷◌, ◌++◌, i
 ghost use Rattle.rv_stmt.specs.Directives.{directive_named};
 ghost use Rattle.rv_report.specs.Lines.{line_of, part};
 ghost use Rattle.rv_report.specs.Messages.{word_after_name};
-ghost use Rattle.rv_report.specs.UnknownNames.{begins_statement, by_names, by_what_follows, definition_of, help_with_name, missing_colon, missing_point, near_names, replacement, unknown_name};
+ghost use Rattle.rv_report.specs.UnknownNames.{begins_statement, by_names, by_what_follows, definition_of, help_with_name, is_before_statement, missing_colon, missing_point, near_names, replacement, unknown_name};
 
 use crate::advice::{Topic, advice};
 use crate::characters::push_excerpt;
@@ -29,6 +29,16 @@ fn begins_statement(name: &[u8]) -> bool
         Ok(_) => true,
         Err(number) => number != FaultNumber::UnknownName,
     }
+}
+
+// Whether a statement begins with the word after a name. Behind the name of a directive it may be that of a section.
+fn is_before_statement(name: &[u8], next: &[u8]) -> bool
+    ensures { result ≡ is_before_statement name.now next.now }
+{
+    if is_directive_name(name) && is_directive_name(next) {
+        return false;
+    }
+    begins_statement(next)
 }
 
 // The question about the names of a name's kind that may have been meant.
@@ -107,11 +117,11 @@ fn push_by_what_follows(
     if behind == b'-' {
         return out.push(b"; a name has no '-'");
     }
-    if begins_statement(next) {
-        return push_missing_colon(out);
-    }
     if is_directive_without_point(alloc, name)? {
         return push_missing_point(out, name);
+    }
+    if is_before_statement(name, next) {
+        return push_missing_colon(out);
     }
     let question = near_names(alloc, name)?;
     push_by_names(out, next, question.bytes())
