@@ -1,8 +1,9 @@
 -- The messages of operands that a statement does not take.
-use Rattle.std.specs.Prelude.{ℕ, Bool, true, false, ◌==◌, ◌||◌, ◌&&◌, not, bytes_eq, List, [], ◌∷◌, ◌++◌, length, take, slice_index, codes, if◌then◌else◌}
+use Rattle.std.specs.Prelude.{ℕ, Bool, true, false, ◌==◌, ◌||◌, ◌&&◌, not, bytes_eq, is_some, List, [], ◌∷◌, ◌++◌, length, take, slice_index, codes, if◌then◌else◌}
 use Rattle.std.specs.Char.{is_ascii_digit}
 use Rattle.rv_text.specs.declared.lexeme.Token.{Token}
 use Rattle.rv_text.specs.Lexing.{lexed_line}
+use Rattle.rv_ops.specs.Registers.{register_named}
 use Rattle.rv_stmt.specs.Tokens.{is_punctuation_kind}
 use Rattle.rv_report.specs.declared.advice.Topic.TheVariants.{NameGiven, NumberGiven, OperandGiven, RegisterLetter}
 use Rattle.rv_report.specs.Advice.{advice}
@@ -73,6 +74,10 @@ no_base text = about [] text (codes " does not end with a register in parenthese
 unfoldable pub no_register : (text help : List ℕ) → List ℕ
 no_register text help = about [] text (codes " is not a register") ++ help
 
+-- a register where an address in one is wanted
+unfoldable pub no_parentheses : List ℕ → List ℕ
+no_parentheses text = about [] text (codes " has to stand in parentheses here")
+
 abbrev pub register_message : (statement text separation : List ℕ) → (first : Bool) → List ℕ
 register_message statement text separation first =
     if length separation == 0
@@ -82,7 +87,8 @@ register_message statement text separation first =
 abbrev pub bad_register : (statement text : List ℕ) → (first : Bool) → List ℕ
 bad_register statement text first =
     if length text == 0 then codes "a register is expected here"
-    else register_message statement text (separation_of text) first
+    else (if is_some (register_named text) then no_parentheses text
+    else register_message statement text (separation_of text) first)
 
 -- Other operands
 

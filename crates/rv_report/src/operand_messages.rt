@@ -4,12 +4,13 @@ ghost use Rattle.std.specs.Prelude.{◌≡◌, ◌≤◌, ◌++◌, bytes_eq, le
 ghost use Rattle.rv_stmt.specs.Tokens.{is_punctuation_kind};
 ghost use Rattle.rv_report.specs.Lines.{line_of, part};
 ghost use Rattle.rv_report.specs.Messages.{name_of_statement, word_after_name};
-ghost use Rattle.rv_report.specs.OperandMessages.{bad_operand, bad_register, begins_number, comment_help, first_word, has_parenthesis, is_beside_next, is_foreign, missing_comma, name_help, no_base, no_operand, no_register, no_statement, operand_help, register_help, register_message, registers_like, separation, separation_of};
+ghost use Rattle.rv_report.specs.OperandMessages.{bad_operand, bad_register, begins_number, comment_help, first_word, has_parenthesis, is_beside_next, is_foreign, missing_comma, name_help, no_base, no_operand, no_parentheses, no_register, no_statement, operand_help, register_help, register_message, registers_like, separation, separation_of};
 
 use crate::advice::{Topic, advice};
 use crate::faulty_line::{FaultyLine, byte_at, first_bytes, part};
 use crate::statement_words::{name_of_statement, word_after_name};
 use crate::text::Text;
+use rv_ops::reg_by_name;
 use rv_text::{Span, Token, TokenKind, tokens};
 use std::alloc::{AllocError, Global};
 
@@ -159,6 +160,14 @@ fn push_no_base(out: &mut Text, text: &[u8]) -> Result<(), AllocError>
     out.push_about(b"", text, b" does not end with a register in parentheses")
 }
 
+// Appends that a register stands where an address in one is wanted.
+#[tactic(auto, unfolding(crate::specs::OperandMessages::no_parentheses))]
+fn push_no_parentheses(out: &mut Text, text: &[u8]) -> Result<(), AllocError>
+    ensures { OnOk result (out.new ≡ out.old ++ no_parentheses text.now) }
+{
+    out.push_about(b"", text, b" has to stand in parentheses here")
+}
+
 // Appends that an operand is no register.
 #[tactic(auto, unfolding(crate::specs::OperandMessages::no_register))]
 fn push_no_register(out: &mut Text, text: &[u8], help: &[u8]) -> Result<(), AllocError>
@@ -201,6 +210,9 @@ pub fn push_bad_register(
     let text = part(line.text, span);
     if text.is_empty() {
         return out.push(b"a register is expected here");
+    }
+    if reg_by_name(text).is_some() {
+        return push_no_parentheses(out, text);
     }
     let statement = name_of_statement(alloc, line)?;
     let first = word_after_name(alloc, line)?;
