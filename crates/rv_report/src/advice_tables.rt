@@ -247,7 +247,7 @@ pub const REGISTER_LETTERS: [AdviceRow; 5] = [
 ];
 
 /// The statements, and what takes a value that is out of their range.
-pub const RANGE_EXCEEDED: [AdviceRow; 9] = [
+pub const RANGE_EXCEEDED: [AdviceRow; 11] = [
     (
         &["lui", "auipc"],
         "; that is 0 to 0xFFFFF: write '%hi(..)', or 'li'",
@@ -267,17 +267,18 @@ pub const RANGE_EXCEEDED: [AdviceRow; 9] = [
         ],
         "; write the opposite branch over a 'j'",
     ),
-    (&["j"], "; write 'tail'"),
-    (&["jal"], "; write 'call'"),
+    (&["j"], "; write 'tail', which uses 't1'"),
+    (&["jal"], "; write 'call', which links in 'ra'"),
     (&[".byte"], "; write '.half' or '.word'"),
     (&[".half", ".short"], "; write '.word'"),
     (
         &[
-            "c.beqz", "c.bnez", "c.j", "c.jal", "c.addi", "c.andi", "c.li", "c.lui", "c.lw",
-            "c.sw", "c.lwsp", "c.swsp",
+            "c.beqz", "c.bnez", "c.j", "c.jal", "c.addi", "c.andi", "c.li", "c.lui", "c.lw", "c.sw",
         ],
         "; write the instruction without 'c.'",
     ),
+    (&["c.lwsp"], "; write 'lw'"),
+    (&["c.swsp"], "; write 'sw'"),
 ];
 
 /// Characters that text processors put into texts, and what is written in their place.
