@@ -7,7 +7,7 @@ use Rattle.std.proofs.lemmas.List.{drop-drop, length-append, length-replicate, n
 use Rattle.std.proofs.lemmas.Bool.Decides.{nat_tests}
 use Rattle.rv_files.specs.Bin.{bin_bytes, AreAscending}
 use Rattle.rv_files.specs.Cells.{cells_from}
-use Rattle.rv_files.specs.Elf.{half, word, halves, words, elf_header, file_offset, program_header, start_of, contents, has_value, head, tail, headers_at, elf_file, elf_bytes}
+use Rattle.rv_files.specs.Elf.{word, halves, words, elf_header, file_offset, program_header, start_of, contents, has_value, head, tail, headers_at, elf_file, elf_bytes}
 use Rattle.rv_files.specs.ElfLoading.{half_at, word_at, header_cells, table_cells, elf_cells, elf_start, cells_in_memory, AreLoadable}
 use Rattle.rv_files.specs.Segments.{Segment}
 use Rattle.rv_files.specs.Symbols.{Symbol}

@@ -5,7 +5,9 @@ ghost use Rattle.rv_text.specs.Streams.{failures_after, Writes};
 ghost use Rattle.rv_files.specs.Elf.{elf_bytes, elf_file, tail};
 
 use crate::bin::write_bin;
-use crate::elf_headers::{SECTION_STRINGS, fill_of, head, headers_at, push_section_headers, start_of};
+use crate::elf_headers::{
+    SECTION_STRINGS, fill_of, head, headers_at, push_section_headers, start_of,
+};
 use crate::elf_symbols::{push_symbol_table, symbol_strings, valued};
 use crate::numbers::push_zeros;
 use crate::segment::Segment;
@@ -34,11 +36,7 @@ impl Model for Elf {
 
 // What comes after the contents.
 #[tactic(auto, unfolding(crate::specs::Elf::tail))]
-fn tail(
-    alloc: Global,
-    segments: &[Segment],
-    symbols: &[&Symbol],
-) -> Result<Vec<u8>, AllocError>
+fn tail(alloc: Global, segments: &[Segment], symbols: &[&Symbol]) -> Result<Vec<u8>, AllocError>
     ensures { IfOk result (λ bytes. bytes.items ≡ tail segments.now (map (λ s. s.now) symbols.now)) }
 {
     let strings = symbol_strings(alloc, symbols)?;

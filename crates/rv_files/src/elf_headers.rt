@@ -123,11 +123,7 @@ fn push_elf_header(
 
 // Appends the program header of a segment.
 #[tactic(auto, unfolding(crate::specs::Elf::program_header))]
-fn push_program_header(
-    out: &mut Vec<u8>,
-    start: u32,
-    segment: &Segment,
-) -> Result<(), AllocError>
+fn push_program_header(out: &mut Vec<u8>, start: u32, segment: &Segment) -> Result<(), AllocError>
     ensures { OnOk result (out.new.items ≡ out.old.items ++ program_header start segment.now) }
 {
     let address = u64::from(segment.address());
@@ -161,11 +157,7 @@ fn push_program_headers(
 
 // Appends the section header of a segment.
 #[tactic(auto, unfolding(crate::specs::Elf::segment_header))]
-fn push_segment_header(
-    out: &mut Vec<u8>,
-    start: u32,
-    segment: &Segment,
-) -> Result<(), AllocError>
+fn push_segment_header(out: &mut Vec<u8>, start: u32, segment: &Segment) -> Result<(), AllocError>
     ensures { OnOk result (out.new.items ≡ out.old.items ++ segment_header start segment.now) }
 {
     let section = segment.section();
@@ -279,7 +271,18 @@ fn symbols_header(segments: &[Segment], symbols: usize) -> [u64; 10]
     let place = symbols_at(segments);
     let names = (segments.len() as u64).wrapping_add(2);
     let globals = (symbols as u64).wrapping_add(1);
-    [1, 2, 0, 0, place, table_size(symbols), names, globals, 4, 16]
+    [
+        1,
+        2,
+        0,
+        0,
+        place,
+        table_size(symbols),
+        names,
+        globals,
+        4,
+        16,
+    ]
 }
 
 // Those of their names, which have so many bytes.

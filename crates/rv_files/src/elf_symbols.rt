@@ -14,10 +14,7 @@ use std::alloc::{AllocError, Global};
 const NO_SECTION: u64 = 0xFFF1;
 
 /// The symbols that have a value.
-pub fn valued<'a>(
-    alloc: Global,
-    mut symbols: &'a [Symbol],
-) -> Result<Vec<&'a Symbol>, AllocError>
+pub fn valued<'a>(alloc: Global, mut symbols: &'a [Symbol]) -> Result<Vec<&'a Symbol>, AllocError>
     ensures { IfOk result (λ valued. map (λ s. s.now) valued.items ≡ filter has_value symbols.entry.now) }
 {
     let mut valued = Vec::new(alloc);
