@@ -1,21 +1,22 @@
 -- The first of many reports, written line by line.
-use Rattle.std.proofs.Common.{◌≡◌, ℕ, zero, suc, ◌+◌, ◌-◌, ◌<◌, ◌≤◌, List, [], ◌∷◌, ◌++◌, length, map, take, min, refl, ap, sym, ◌∙◌, arith}
+use Rattle.std.proofs.Common.{◌≡◌, ℕ, zero, suc, ◌+◌, ◌-◌, ◌<◌, ◌≤◌, List, [], ◌∷◌, ◌++◌, length, map, take, min, Bool, true, false, true≢false, not, if◌then◌else◌, refl, ap, sym, ◌∙◌, arith}
 use Rattle.std.proofs.lemmas.List.{append-nil, length-append, length-map, nil_from_length, length-take, take-map, take_min}
 use Rattle.std.proofs.lemmas.List.Folds.{concat-append}
 use Rattle.std.specs.List.{concat}
-use Rattle.std.specs.Prelude.{Option, Some}
+use Rattle.std.specs.Prelude.{Option, Some, None}
 use Rattle.rv_text.specs.Streams.{after, WritesPrefix}
 use Rattle.rv_text.specs.StreamLaws.{after_after, prefix_within}
 use Rattle.rv_text.specs.declared.faults.Fault.{Fault}
 use Rattle.rv_list.specs.Faults.{fault_row, faults_of}
 use Rattle.rv_list.specs.Joined.{joined}
-use Rattle.rv_list.specs.Shown.{ShownLine}
+use Rattle.rv_list.specs.Shown.{Shown, ShownLine}
 use Rattle.rv_report.specs.declared.reports.Style.{Style}
-use Rattle.rv_report.specs.Reports.{count_of_faults, report_of}
+use Rattle.rv_report.specs.Reports.{last_rows, report_of, warning_report_of}
+use Rattle.rv_report.specs.Warnings.{Warning, warning_of}
 use Rattle.rv_store.specs.LinesOfTexts.{names_from}
 use Rattle.rv_store.specs.Shown.{shown_of}
 use Rattle.rv_store.specs.Text.{Text}
-use Rattle.rv_files.specs.TextReports.{all_reports, fault_count, line_reports, reported_line, searched_symbols, text_reports}
+use Rattle.rv_files.specs.TextReports.{all_reports, all_warnings, asked_warnings, fault_count, line_reports, optional, reported_line, searched_symbols, text_reports, warning_count, warning_reports, warnings_about}
 use Rattle.rv_list.specs.JoinedLaws.{Then, joined_more, joined_then}
 
 -- the first of two lists one after the other
@@ -37,6 +38,10 @@ first_faults n fs first is =
     let some : first ≡ map (λ f. Some f) (take n fs) = is ∙ take-map (λ f. Some f) n fs in
     let count : length first ≡ min n (length fs) = ap length some ∙ length-map (take n fs) (λ f. Some f) ∙ length-take n fs in
     some ∙ ap (map (λ f. Some f)) (sym (ap (λ c. take c fs) count ∙ take_min n fs))
+
+pub take_nil : {A : Type 0} (n : ℕ) → take {A = A} n [] ≡ []
+take_nil zero = refl
+take_nil (suc n) = refl
 
 take_none : {A : Type 0} (n : ℕ) (xs : List A) → n ≡ 0 → take n xs ≡ []
 take_none n xs none = rw none refl
@@ -115,10 +120,6 @@ line_count style file text symbols number line =
     ∙ length-map (faults_of (shown_of text) number line) (λ f. Some f)
     ∙ sym (length-map (faults_of (shown_of text) number line) (fault_row number))
 
-pub take_nil : {A : Type 0} (n : ℕ) → take {A = A} n [] ≡ []
-take_nil zero = refl
-take_nil (suc n) = refl
-
 -- a text has a report for each of its faults
 pub all_counted : (style : Style) (file : List ℕ) (text : Text) (symbols : List (List ℕ)) → length (all_reports style file text symbols) ≡ fault_count text
 all_counted style file text symbols =
@@ -128,12 +129,59 @@ all_counted style file text symbols =
     (shown_of text).count
     (λ k. line_count style file text symbols (k + 1) ((shown_of text).line (k + 1)))
 
--- a text without faults has none
-pub none_reported : (style : Style) (file : List ℕ) (text : Text) (most : ℕ) → fault_count text ≡ 0 → text_reports style file text most ≡ []
-unfolding text_reports count_of_faults
-none_reported style file text most none =
+-- Warnings
+
+-- there is a report of each
+warnings_counted : (style : Style) (file : List ℕ) (text : Text) → length (all_warnings style file text) ≡ warning_count text
+unfolding warning_reports
+warnings_counted style file text =
+    same_lengths
+    (λ k. warning_reports style file (shown_of text) (k + 1) ((shown_of text).line (k + 1)))
+    (λ k. warnings_about (shown_of text) ((shown_of text).line (k + 1)))
+    (shown_of text).count
+    (λ k. length-map (warnings_about (shown_of text) ((shown_of text).line (k + 1))) (warning_report_of style file (k + 1) ((shown_of text).line (k + 1)).text))
+
+asked_counted : (style : Style) (file : List ℕ) (text : Text) (warns : Bool) → length (if warns then all_warnings style file text else []) ≡ asked_warnings text warns
+asked_counted style file text true = warnings_counted style file text
+asked_counted style file text false = refl
+
+-- a line without a warning has no report of one
+pub no_warning_here : (style : Style) (file : List ℕ) (shown : Shown) (number : ℕ) (line : ShownLine) → warning_of shown line.stmt.body ≡ None → warning_reports style file shown number line ≡ []
+unfolding warning_reports
+no_warning_here style file shown number line none =
+    ap (λ w. map (warning_report_of style file number line.text) (optional w)) none
+
+-- a line with one has its report
+pub warning_here : (style : Style) (file : List ℕ) (shown : Shown) (number : ℕ) (line : ShownLine) (warning : Warning) → warning_of shown line.stmt.body ≡ Some warning → warning_reports style file shown number line ≡ warning_report_of style file number line.text warning ∷ []
+unfolding warning_reports
+warning_here style file shown number line warning one =
+    ap (λ w. map (warning_report_of style file number line.text) (optional w)) one
+
+-- the first of one report
+pub first_one : (x : List ℕ) (left : ℕ) → 0 < left → concat (take left (x ∷ [])) ≡ x
+first_one x zero some = absurd (omega (arith, some))
+first_one x (suc left) some = ap (λ l. concat (x ∷ l)) (take_nil left) ∙ append-nil x
+
+pub is_on : (b : Bool) → not b ≡ false → b ≡ true
+is_on true off = refl
+is_on false off = absurd (true≢false off)
+
+-- the first reports of a list and of a later one
+pub first_of_both : (most count : ℕ) (xs ys : List (List ℕ)) → length xs ≡ count → concat (take most (xs ++ ys)) ≡ concat (take most xs) ++ concat (take (most - count) ys)
+first_of_both most count xs ys is =
+    ap concat (take_both most xs ys)
+    ∙ concat-append (take most xs) (take (most - length xs) ys)
+    ∙ ap (λ n. concat (take most xs) ++ concat (take (most - n) ys)) is
+
+-- a text without faults and warnings has none
+pub none_reported : (style : Style) (file : List ℕ) (text : Text) (most : ℕ) (warns : Bool) → fault_count text ≡ 0 → asked_warnings text warns ≡ 0 → text_reports style file text most warns ≡ []
+unfolding text_reports
+none_reported style file text most warns no_fault no_warning =
     let symbols = searched_symbols text (min (fault_count text) most) in
-    let nothing : all_reports style file text symbols ≡ [] = nil_from_length (all_reports style file text symbols) (all_counted style file text symbols ∙ none) in
-    ap (λ (l : List (List ℕ)). concat (take most l) ++ count_of_faults file (fault_count text) most) nothing
-    ∙ ap (λ (l : List (List ℕ)). concat l ++ count_of_faults file (fault_count text) most) (take_nil most)
-    ∙ ap (λ n. count_of_faults file n most) none
+    let faults : all_reports style file text symbols ≡ [] = nil_from_length (all_reports style file text symbols) (all_counted style file text symbols ∙ no_fault) in
+    let warnings : (if warns then all_warnings style file text else []) ≡ [] = nil_from_length (if warns then all_warnings style file text else []) (asked_counted style file text warns ∙ no_warning) in
+    ap (λ (l : List (List ℕ)). concat (take most (l ++ (if warns then all_warnings style file text else []))) ++ last_rows file (fault_count text) (asked_warnings text warns) most) faults
+    ∙ ap (λ (l : List (List ℕ)). concat (take most l) ++ last_rows file (fault_count text) (asked_warnings text warns) most) warnings
+    ∙ ap (λ (l : List (List ℕ)). concat l ++ last_rows file (fault_count text) (asked_warnings text warns) most) (take_nil most)
+    ∙ ap (λ n. last_rows file n (asked_warnings text warns) most) no_fault
+    ∙ ap (λ n. last_rows file 0 n most) no_warning

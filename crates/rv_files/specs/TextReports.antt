@@ -1,12 +1,14 @@
--- The reports of a text: that of each fault of each line, the first of which are shown, and how many there are.
-use Rattle.std.specs.Prelude.{ℕ, ◌+◌, ◌/◌, min, max, List, ◌++◌, length, map, take, Result, Ok, Err}
+-- The reports of a text: those of the faults of all lines, and then of the warnings about them. The first ones are shown, and how
+-- many there are.
+use Rattle.std.specs.Prelude.{ℕ, ◌+◌, ◌/◌, min, max, Bool, List, [], ◌∷◌, ◌++◌, length, map, take, Option, Some, None, Result, Ok, Err, if◌then◌else◌}
 use Rattle.std.specs.List.{concat}
 use Rattle.rv_fix.specs.Values.{operand_values_of}
 use Rattle.rv_list.specs.Faults.{faults_of, fault_rows}
-use Rattle.rv_list.specs.Shown.{ShownLine, from_lines}
+use Rattle.rv_list.specs.Shown.{Shown, ShownLine, from_lines}
 use Rattle.rv_report.specs.declared.reports.Style.{Style}
 use Rattle.rv_report.specs.Lines.{Line}
-use Rattle.rv_report.specs.Reports.{count_of_faults, report_of}
+use Rattle.rv_report.specs.Reports.{last_rows, report_of, warning_report_of}
+use Rattle.rv_report.specs.Warnings.{Warning, warning_of}
 use Rattle.rv_store.specs.LinesOfTexts.{names_from}
 use Rattle.rv_store.specs.Shown.{shown_of}
 use Rattle.rv_store.specs.Text.{Text}
@@ -47,11 +49,44 @@ searched_symbols text shown = map (λ s. s.name) (take (searched shown) (symbols
 abbrev pub fault_count : Text → ℕ
 fault_count text = length (fault_rows (shown_of text))
 
+-- Warnings
+
+abbrev pub optional : {A : Type 0} → Option A → List A
+optional None = []
+optional (Some x) = x ∷ []
+
+-- the warning about a line, if there is one
+abbrev pub warnings_about : Shown → ShownLine → List Warning
+warnings_about shown line = optional (warning_of shown line.stmt.body)
+
+-- its report
+unfoldable pub warning_reports : Style → (file : List ℕ) → Shown → (number : ℕ) → ShownLine → List (List ℕ)
+warning_reports style file shown number line =
+    map (warning_report_of style file number line.text) (warnings_about shown line)
+
+-- that of each warning about a text
+abbrev pub all_warnings : Style → (file : List ℕ) → Text → List (List ℕ)
+all_warnings style file text = from_lines (shown_of text) (warning_reports style file (shown_of text))
+
+abbrev pub warning_count : Text → ℕ
+warning_count text = length (from_lines (shown_of text) (λ number line. warnings_about (shown_of text) line))
+
+-- All
+
+-- the reports of a text, where warnings are asked for or not
+abbrev pub reports : Style → (file : List ℕ) → Text → (symbols : List (List ℕ)) → (warns : Bool) → List (List ℕ)
+reports style file text symbols warns =
+    all_reports style file text symbols ++ (if warns then all_warnings style file text else [])
+
+-- how many warnings there are, where they are asked for
+abbrev pub asked_warnings : Text → (warns : Bool) → ℕ
+asked_warnings text warns = if warns then warning_count text else 0
+
 -- the first reports, and how many there are
-unfoldable pub text_reports : Style → (file : List ℕ) → Text → (most : ℕ) → List ℕ
-text_reports style file text most =
-    concat (take most (all_reports style file text (searched_symbols text (min (fault_count text) most))))
-    ++ count_of_faults file (fault_count text) most
+unfoldable pub text_reports : Style → (file : List ℕ) → Text → (most : ℕ) → (warns : Bool) → List ℕ
+text_reports style file text most warns =
+    concat (take most (reports style file text (searched_symbols text (min (fault_count text) most)) warns))
+    ++ last_rows file (fault_count text) (asked_warnings text warns) most
 
 -- how many calls of a writer have failed after its reports
 abbrev pub failures_by_report : {A : Type 0} → ℕ → Result A ReportError → ℕ

@@ -1,17 +1,31 @@
-//! How many faults a text has.
+//! How many faults a text has, and how many warnings there are about it.
 
-ghost use Rattle.std.specs.Prelude.{◌≡◌, length};
+ghost use Rattle.std.specs.Prelude.{◌≡◌, ◌+◌, ◌*◌, ◌^◌, ◌<◌, ◌≤◌, length};
 ghost use Rattle.rv_list.specs.Faults.{fault_rows};
+ghost use Rattle.rv_list.specs.Shown.{from_lines};
+ghost use Rattle.rv_report.specs.Warnings.{warning_of};
+ghost use Rattle.rv_files.specs.TextReports.{asked_warnings, fault_count, optional, warnings_about};
 
 use arrayvec::ArrayVec;
 use rv_list::{LineSource, MAX_FAULTS, TestedLines, View, find_faults};
+use rv_report::find_warning;
+use rv_stmt::Stmt;
+use rv_store::Store;
 use rv_text::Fault;
 
-/// How many faults a text has: those of all its lines.
-pub fn fault_count<V: View>(view: &V) -> u32
+/// How many faults a text has, and how many warnings there are about it.
+#[derive(Clone, Copy, Debug, PartialEq, Eq)]
+pub struct Counts {
+    pub faults: u32,
+    pub warnings: u32,
+}
+
+// How many faults there are: those of all lines.
+fn fault_count<V: View>(view: &V) -> u32
 where
     V::Lines: TestedLines,
-    ensures { result ≡ length (fault_rows (V.shown view.now)) }
+    ensures value { result ≡ length (fault_rows (V.shown view.now)) }
+    ensures few { result ≤ 1004 * 16384 }
 {
     let mut faults = ArrayVec::<Option<Fault>, MAX_FAULTS>::new();
     let mut count = 0;
@@ -25,4 +39,42 @@ where
         count += faults.len() as u32;
     }
     count
+}
+
+// How many warnings there are about a statement.
+fn warnings_on<V: View>(view: &V, stmt: &Stmt) -> u32
+    ensures value { result ≡ length (optional (warning_of (V.shown view.now) stmt.now.body)) }
+    ensures few { result ≤ 1 }
+{
+    match find_warning(view, stmt) {
+        Some(_) => 1,
+        None => 0,
+    }
+}
+
+// How many warnings there are: those about all lines.
+fn warning_count<V: View>(view: &V) -> u32
+    ensures value { result ≡ length (from_lines (V.shown view.now) (λ number line. warnings_about (V.shown view.now) line)) }
+    ensures few { result ≤ 16384 }
+{
+    let mut count = 0;
+    let mut lines = view.lines();
+    for _ in 0..view.line_count() {
+        lines.advance();
+        count += warnings_on(view, lines.line().stmt);
+    }
+    count
+}
+
+/// How many faults a text has, and how many warnings there are about it, if these are asked for, and else 0. Together they are fewer
+/// than 2^32.
+pub fn report_counts(store: &Store, warns: bool) -> Counts
+    ensures faults { result.faults ≡ fault_count store.now }
+    ensures warnings { result.warnings ≡ asked_warnings store.now warns }
+    ensures few { result.faults + result.warnings < 2 ^ 32 }
+{
+    Counts {
+        faults: fault_count(&store),
+        warnings: if warns { warning_count(&store) } else { 0 },
+    }
 }

@@ -19,7 +19,7 @@ mod segment;
 mod text_symbols;
 
 pub use bin::write_bin;
-pub use counting::fault_count;
+pub use counting::{Counts, report_counts};
 pub use elf::{Elf, write_elf};
 pub use hex::write_hex;
 pub use laws::{
@@ -29,7 +29,7 @@ pub use limits::LoadError;
 pub use lines::Lines;
 pub use loading::load;
 pub use report_error::ReportError;
-pub use reporting::write_reports;
+pub use reporting::{Wanted, write_reports};
 pub use sections::segments;
 pub use segment::Segment;
 pub use text_symbols::{Symbol, symbols};

@@ -1,28 +1,40 @@
 //! The reports of a text.
 
-ghost use Rattle.std.specs.Prelude.{◌≡◌, ◌-◌, ◌^◌, ◌<◌, ◌≤◌, ◌++◌, length, map, take, Some, IfOk, OnOk};
+ghost use Rattle.std.specs.Prelude.{◌≡◌, ◌+◌, ◌-◌, ◌^◌, ◌<◌, ◌≤◌, ◌++◌, length, map, take, Some, IfOk, OnOk};
 ghost use Rattle.std.specs.List.{concat, flat_map};
-ghost use Rattle.rv_list.specs.Faults.{fault_rows, faults_of, found};
+ghost use Rattle.rv_list.specs.Faults.{faults_of, found};
 ghost use Rattle.rv_list.specs.Shown.{shown_line};
 ghost use Rattle.rv_report.specs.Lines.{line_of};
-ghost use Rattle.rv_report.specs.Reports.{count_of_faults, report_of};
+ghost use Rattle.rv_report.specs.Reports.{last_rows, report_of, warning_report_of};
+ghost use Rattle.rv_report.specs.Warnings.{warning_seen};
 ghost use Rattle.rv_store.specs.LinesOfTexts.{names_from};
 ghost use Rattle.rv_store.specs.Shown.{shown_of};
 ghost use Rattle.rv_text.specs.Streams.{Writes};
 ghost use Rattle.rv_files.specs.Symbols.{symbols_of};
-ghost use Rattle.rv_files.specs.TextReports.{all_reports, failures_by_report, line_reports, searched, text_reports};
+ghost use Rattle.rv_files.specs.TextReports.{all_reports, all_warnings, asked_warnings, failures_by_report, fault_count, line_reports, reports, searched, text_reports};
 
-use crate::counting::fault_count;
+use crate::counting::{Counts, report_counts};
 use crate::report_error::ReportError;
 use crate::text_symbols::{first_symbols, names};
 use arrayvec::ArrayVec;
 use rv_expr::Names;
 use rv_fix::operand_values;
 use rv_list::{LineSource, LineView, MAX_FAULTS, View, find_faults};
-use rv_report::{FaultyLine, Page, push_fault_count, report};
+use rv_report::{
+    FaultyLine, Page, Warning, find_warning, push_report_count, report, report_warning,
+};
 use rv_store::Store;
 use rv_text::{Fault, Sink, Tally, write_all};
 use std::alloc::{AllocError, Global};
+
+/// Which reports of a text are wanted.
+#[derive(Clone, Copy, Debug, PartialEq, Eq)]
+pub struct Wanted {
+    /// How many at most.
+    pub most: u32,
+    /// Whether those of warnings are.
+    pub warnings: bool,
+}
 
 // With how many symbols all the names that are not defined are compared together.
 const COMPARED: u32 = 100_000;
@@ -149,50 +161,138 @@ fn write_lines<W: Sink>(
     Ok(())
 }
 
+// Writes the report of a warning about a line.
+fn write_warning<W: Sink>(
+    sink: &mut W,
+    alloc: Global,
+    page: &Page<'_>,
+    store: &Store,
+    number: u32,
+    warning: &Warning<'_>,
+) -> Result<(), ReportError>
+    requires first { 1 ≤ number }
+    requires last { number ≤ length store.now.lines }
+    requires failures { W.failures sink.old < 2 ^ 64 - 1 }
+    ensures text { Writes (W.taken sink.old) (warning_report_of page.now.style page.now.file.now number ((shown_of store.now).line number).text (warning_seen warning.now)) result (W.taken sink.new) }
+    ensures count { W.failures sink.new ≡ failures_by_report (W.failures sink.old) result }
+{
+    let Some(line) = store.line(number) else {
+        unreachable!()
+    };
+    let mut text = Vec::new(alloc);
+    report_warning(&mut text, alloc, page, number, line, warning)?;
+    write_all(sink, text.as_slice())?;
+    Ok(())
+}
+
+// Writes the first reports of the warnings about all lines, at most so many.
+fn write_warnings<W: Sink>(
+    sink: &mut W,
+    alloc: Global,
+    page: &Page<'_>,
+    store: &Store,
+    most: u32,
+) -> Result<(), ReportError>
+    requires { W.failures sink.old < 2 ^ 64 - 1 }
+    ensures text { Writes (W.taken sink.old) (concat (take most (all_warnings page.now.style page.now.file.now store.now))) result (W.taken sink.new) }
+    ensures count { W.failures sink.new ≡ failures_by_report (W.failures sink.old) result }
+{
+    let view = &store;
+    let mut left = most;
+    let mut lines = view.lines();
+    for k in 0..view.line_count() {
+        if left == 0 {
+            return Ok(());
+        }
+        lines.advance();
+        let line = lines.line();
+        let Some(warning) = find_warning(view, line.stmt) else {
+            continue;
+        };
+        write_warning(sink, alloc, page, store, k + 1, &warning)?;
+        left -= 1;
+    }
+    Ok(())
+}
+
+// Writes the first reports of a text with so many faults, those of its warnings after those of its faults.
+fn write_first<W: Sink>(
+    sink: &mut W,
+    alloc: Global,
+    page: &Page<'_>,
+    store: &Store,
+    symbols: &[&[u8]],
+    faults: u32,
+    wanted: Wanted,
+) -> Result<(), ReportError>
+    requires faults { faults ≡ fault_count store.now }
+    requires failures { W.failures sink.old < 2 ^ 64 - 1 }
+    ensures text { Writes (W.taken sink.old) (concat (take wanted.most (reports page.now.style page.now.file.now store.now (map (λ s. s.now) symbols.now) wanted.warnings))) result (W.taken sink.new) }
+    ensures count { W.failures sink.new ≡ failures_by_report (W.failures sink.old) result }
+{
+    write_lines(sink, alloc, page, store, symbols, wanted.most)?;
+    if !wanted.warnings {
+        return Ok(());
+    }
+    let left = wanted.most.saturating_sub(faults);
+    write_warnings(sink, alloc, page, store, left)
+}
+
 // Writes the row that ends the reports of a file.
 fn write_count<W: Sink>(
     sink: &mut W,
     alloc: Global,
     file: &[u8],
-    count: u32,
+    counts: Counts,
     most: u32,
 ) -> Result<(), ReportError>
-    requires { W.failures sink.old < 2 ^ 64 - 1 }
-    ensures text { Writes (W.taken sink.old) (count_of_faults file.now count most) result (W.taken sink.new) }
+    requires counts { counts.faults + counts.warnings < 2 ^ 32 }
+    requires failures { W.failures sink.old < 2 ^ 64 - 1 }
+    ensures text { Writes (W.taken sink.old) (last_rows file.now counts.faults counts.warnings most) result (W.taken sink.new) }
     ensures count { W.failures sink.new ≡ failures_by_report (W.failures sink.old) result }
 {
     let mut row = Vec::new(alloc);
-    push_fault_count(&mut row, alloc, file, count, most)?;
+    push_report_count(&mut row, alloc, file, counts.faults, counts.warnings, most)?;
     write_all(sink, row.as_slice())?;
     Ok(())
 }
 
-// Writes the first reports of a text with so many faults, and how many there are.
+// Writes the first reports of a text with so many faults and warnings, and how many there are.
 #[tactic(auto, unfolding(crate::specs::TextReports::text_reports))]
 fn write_some<W: Sink>(
     sink: &mut W,
     alloc: Global,
     page: &Page<'_>,
     store: &Store,
-    count: u32,
-    most: u32,
+    counts: Counts,
+    wanted: Wanted,
 ) -> Result<(), ReportError>
-    requires count { count ≡ length (fault_rows (shown_of store.now)) }
+    requires faults { counts.faults ≡ fault_count store.now }
+    requires warnings { counts.warnings ≡ asked_warnings store.now wanted.warnings }
+    requires few { counts.faults + counts.warnings < 2 ^ 32 }
     requires failures { W.failures sink.old < 2 ^ 64 - 1 }
-    ensures text { Writes (W.taken sink.old) (text_reports page.now.style page.now.file.now store.now most) result (W.taken sink.new) }
+    ensures text { Writes (W.taken sink.old) (text_reports page.now.style page.now.file.now store.now wanted.most wanted.warnings) result (W.taken sink.new) }
     ensures count { W.failures sink.new ≡ failures_by_report (W.failures sink.old) result }
 {
-    let searched = (COMPARED / count.min(most).max(1)) as usize;
+    let searched = (COMPARED / counts.faults.min(wanted.most).max(1)) as usize;
     let symbols = first_symbols(alloc, &store, searched)?;
     let (first, _) = symbols.as_slice().split_at(symbols.len().min(searched));
     let names = names(alloc, first)?;
-    write_lines(sink, alloc, page, store, names.as_slice(), most)?;
-    write_count(sink, alloc, page.file, count, most)
+    write_first(
+        sink,
+        alloc,
+        page,
+        store,
+        names.as_slice(),
+        counts.faults,
+        wanted,
+    )?;
+    write_count(sink, alloc, page.file, counts, wanted.most)
 }
 
-/// Writes the reports of a text on a page: those of each fault, in the order of the lines and of the faults of a line, and how many
-/// there are. At most so many reports are shown, and then the last row says so. Returns how many faults there are. No
-/// more memory is taken than for the reports of one line, and for the symbols among which names are looked for that may be meant.
+/// Writes the reports of a text on a page, as many as are wanted: those of each fault, in the order of the lines and of the faults of
+/// a line, then those of each warning, and how many there are. Returns the counts. No more memory is taken than for the
+/// reports of one line, and for the symbols among which names are looked for that may be meant.
 ///
 /// # Errors
 ///
@@ -203,16 +303,18 @@ pub fn write_reports<W: Sink>(
     alloc: Global,
     page: &Page<'_>,
     store: &Store,
-    most: u32,
-) -> Result<u32, ReportError>
+    wanted: Wanted,
+) -> Result<Counts, ReportError>
     requires { W.failures sink.old < 2 ^ 64 - 1 }
-    ensures text { Writes (W.taken sink.old) (text_reports page.now.style page.now.file.now store.now most) result (W.taken sink.new) }
-    ensures faults { IfOk result (λ count. count ≡ length (fault_rows (shown_of store.now))) }
+    ensures text { Writes (W.taken sink.old) (text_reports page.now.style page.now.file.now store.now wanted.most wanted.warnings) result (W.taken sink.new) }
+    ensures faults { IfOk result (λ counts. counts.faults ≡ fault_count store.now) }
+    ensures few { IfOk result (λ counts. counts.faults + counts.warnings < 2 ^ 32) }
+    ensures warnings { IfOk result (λ counts. counts.warnings ≡ asked_warnings store.now wanted.warnings) }
     ensures count { W.failures sink.new ≡ failures_by_report (W.failures sink.old) result }
 {
-    let count = fault_count(&store);
-    if count > 0 {
-        write_some(sink, alloc, page, store, count, most)?;
+    let counts = report_counts(store, wanted.warnings);
+    if counts.faults + counts.warnings > 0 {
+        write_some(sink, alloc, page, store, counts, wanted)?;
     }
-    Ok(count)
+    Ok(counts)
 }

@@ -32,11 +32,12 @@ use Rattle.rv_report.specs.LexicalMessages.{bad_byte, bad_number, bad_string, nu
 use Rattle.rv_report.specs.Lines.{Line}
 use Rattle.rv_report.specs.Messages.{operand_count, register_range, undefined_name, later_equ, line_of_equ, faulty_equ_of, not_constant, no_partner, beyond_reach, out_of_range, not_multiple, odd_distance, odd_address, message_of}
 use Rattle.rv_report.specs.OperandMessages.{comment_help, missing_comma, no_operand, no_register, no_statement, separation_of}
-use Rattle.rv_report.specs.Reports.{count_of_faults, first_shown, line_row, margin, mark, mark_row, message_row, note_at, painted, rendition, report_of, shown_line}
+use Rattle.rv_report.specs.Reports.{amount_of, both_counts, first_shown, last_row, last_rows, line_row, margin, mark, mark_row, message_row, note_at, painted, rendition, report_of, shown_line, warning_report_of}
 use Rattle.rv_report.specs.Suggestions.{did_you_mean, suggestions}
 use Rattle.rv_report.specs.Texts.{about, quoted}
 use Rattle.rv_report.specs.UnknownNames.{missing_colon, replacement, unknown_name}
 use Rattle.rv_report.specs.Wanted.{register_given}
+use Rattle.rv_report.specs.Warnings.{warning_message}
 
 -- Characters
 
@@ -217,6 +218,10 @@ in_color : report_of Colored (codes "<stdin>") names nothing_shown (faulty 1 (co
 unfolding report_of message_row line_row mark_row painted rendition shown_line margin mark note_at quoted about message_of no_statement fault_name digits
 in_color = refl
 
-fault_counts : count_of_faults (codes "b.s") 0 1000 ∷ count_of_faults (codes "b.s") 1 1000 ∷ count_of_faults (codes "b.s") 2 2 ∷ count_of_faults (codes "b.s") 1001 1000 ∷ [] ≡ [] ∷ codes "b.s: 1 fault\n" ∷ codes "b.s: 2 faults\n" ∷ codes "b.s: 1001 faults; the first 1000 are shown, --all shows all\n" ∷ []
-unfolding count_of_faults first_shown digits
-fault_counts = refl
+a_warning : warning_report_of Plain (codes "b.s") 3 (codes "\tcsrr a0, mcycle") (record { span = record { from = 10; to = 16 }; label = codes "mcycle" }) ≡ codes "b.s:3:11: warning: 'mcycle' is a label: its address is taken as the number of the register; .equ gives such a number a name [label-as-register]\n    3 |         csrr a0, mcycle\n      |                  ^~~~~~\n"
+unfolding warning_report_of warning_message message_row line_row mark_row painted rendition shown_line margin mark quoted about digits
+a_warning = refl
+
+last_counts : last_rows (codes "b.s") 0 0 1000 ∷ last_rows (codes "b.s") 1 0 1000 ∷ last_rows (codes "b.s") 2 1 3 ∷ last_rows (codes "b.s") 0 2 1000 ∷ last_rows (codes "b.s") 1001 0 1000 ∷ [] ≡ [] ∷ codes "b.s: 1 fault\n" ∷ codes "b.s: 2 faults, 1 warning\n" ∷ codes "b.s: 2 warnings\n" ∷ codes "b.s: 1001 faults; the first 1000 are shown, --all shows all\n" ∷ []
+unfolding last_row both_counts amount_of first_shown digits
+last_counts = refl

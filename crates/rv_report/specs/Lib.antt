@@ -16,3 +16,4 @@ pub mod Suggestions
 pub mod Texts
 pub mod UnknownNames
 pub mod Wanted
+pub mod Warnings

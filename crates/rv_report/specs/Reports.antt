@@ -1,4 +1,4 @@
--- The rows that report a fault.
+-- The rows that report a fault or a warning.
 use Rattle.std.specs.Prelude.{ℕ, ◌+◌, ◌-◌, ◌==◌, nat_le, List, [], ◌∷◌, ◌++◌, length, take, replicate, codes, decimal, if◌then◌else◌}
 use Rattle.std.specs.Char.{is_ascii_whitespace}
 use Rattle.rv_text.specs.declared.faults.Fault.{Fault}
@@ -11,11 +11,14 @@ use Rattle.rv_list.specs.declared.view.DefinitionPlace.TheVariants.{Nowhere, Lab
 use Rattle.rv_list.specs.Faults.{fault_name}
 use Rattle.rv_list.specs.Rows.{right}
 use Rattle.rv_list.specs.Shown.{Shown}
+use Rattle.rv_report.specs.declared.reports.Gravity.{Gravity}
+use Rattle.rv_report.specs.declared.reports.Gravity.TheVariants as gravity
 use Rattle.rv_report.specs.declared.reports.Style.{Style}
 use Rattle.rv_report.specs.declared.reports.Style.TheVariants.{Plain, Colored}
 use Rattle.rv_report.specs.Characters.{column_of, shown_from, start}
 use Rattle.rv_report.specs.Lines.{Line, part}
 use Rattle.rv_report.specs.Messages.{message_of}
+use Rattle.rv_report.specs.Warnings.{Warning, warning_message}
 
 -- the sequence of ECMA-48, section 8.3.117, that selects how the characters after it are shown
 unfoldable pub rendition : List ℕ → List ℕ
@@ -32,11 +35,19 @@ red = codes "31"
 abbrev pub green : List ℕ
 green = codes "32"
 
--- the row of the message: columns are counted from 1
-unfoldable pub message_row : Style → (file : List ℕ) → (line : ℕ) → Fault → (message : List ℕ) → List ℕ
-message_row style file line fault message =
-    file ++ (codes ":" ++ (decimal line ++ (codes ":" ++ (decimal (fault.span.from + 1) ++ (codes ": "
-    ++ (painted style red (codes "error:") ++ (codes " " ++ (message ++ (codes " [" ++ (fault_name fault.number ++ codes "]\n"))))))))))
+abbrev pub magenta : List ℕ
+magenta = codes "35"
+
+-- how grave it is what a row says
+abbrev pub gravity_text : Style → Gravity → List ℕ
+gravity_text style gravity.Error = painted style red (codes "error:")
+gravity_text style gravity.Warning = painted style magenta (codes "warning:")
+
+-- the row of a message: columns are counted from 1
+unfoldable pub message_row : Style → (file : List ℕ) → (line from : ℕ) → Gravity → (message name : List ℕ) → List ℕ
+message_row style file line from grave message name =
+    file ++ (codes ":" ++ (decimal line ++ (codes ":" ++ (decimal (from + 1) ++ (codes ": "
+    ++ (gravity_text style grave ++ (codes " " ++ (message ++ (codes " [" ++ (name ++ codes "]\n"))))))))))
 
 -- the place behind the last byte that is no white space, after `at` bytes of which the last such one ends at `end`
 abbrev pub text_end : (at end : ℕ) → List ℕ → ℕ
@@ -77,22 +88,43 @@ note_by number file place = []
 -- the rows of a fault
 unfoldable pub report_of : Style → (file : List ℕ) → Environment → Shown → Line → Fault → List ℕ
 report_of style file given shown line fault =
-    message_row style file line.number fault (message_of given shown line fault)
+    message_row style file line.number fault.span.from gravity.Error (message_of given shown line fault) (fault_name fault.number)
     ++ (line_row line.number line.text
     ++ (mark_row style line.number line.text fault.span
     ++ note_by fault.number file (shown.definition (part line.text fault.span))))
 
--- the row that ends the reports of a file
-abbrev pub faults_word : ℕ → List ℕ
-faults_word count = if count == 1 then codes " fault" else codes " faults"
+-- the rows of a warning about a line
+unfoldable pub warning_report_of : Style → (file : List ℕ) → (number : ℕ) → (text : List ℕ) → Warning → List ℕ
+warning_report_of style file number text warning =
+    message_row style file number warning.span.from gravity.Warning (warning_message warning.label) (codes "label-as-register")
+    ++ (line_row number text ++ mark_row style number text warning.span)
 
--- of more faults than are shown, which ones are
+-- Counts
+
+-- so many, with the word for one of them
+unfoldable pub amount_of : (word : List ℕ) → (count : ℕ) → List ℕ
+amount_of word count = decimal count ++ (codes " " ++ (word ++ (if count == 1 then [] else codes "s")))
+
+unfoldable pub both_counts : (faults warnings : ℕ) → List ℕ
+both_counts faults warnings = amount_of (codes "fault") faults ++ (codes ", " ++ amount_of (codes "warning") warnings)
+
+abbrev pub counts_text : (faults warnings : ℕ) → List ℕ
+counts_text faults warnings =
+    if warnings == 0 then amount_of (codes "fault") faults
+    else if faults == 0 then amount_of (codes "warning") warnings
+    else both_counts faults warnings
+
+-- of more reports than are shown, which ones are
 unfoldable pub first_shown : (most : ℕ) → List ℕ
 first_shown most = codes "; the first " ++ (decimal most ++ codes " are shown, --all shows all")
 
 abbrev pub part_shown : (count most : ℕ) → List ℕ
 part_shown count most = if nat_le count most then [] else first_shown most
 
-unfoldable pub count_of_faults : (file : List ℕ) → (count most : ℕ) → List ℕ
-count_of_faults file count most =
-    if count == 0 then [] else file ++ (codes ": " ++ (decimal count ++ (faults_word count ++ (part_shown count most ++ codes "\n"))))
+-- the row that ends the reports of a file
+unfoldable pub last_row : (file : List ℕ) → (faults warnings most : ℕ) → List ℕ
+last_row file faults warnings most =
+    file ++ (codes ": " ++ (counts_text faults warnings ++ (part_shown (faults + warnings) most ++ codes "\n")))
+
+abbrev pub last_rows : (file : List ℕ) → (faults warnings most : ℕ) → List ℕ
+last_rows file faults warnings most = if faults + warnings == 0 then [] else last_row file faults warnings most

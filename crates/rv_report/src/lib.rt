@@ -26,9 +26,11 @@ mod text;
 mod unknown_names;
 mod value_messages;
 mod wanted;
+mod warnings;
 
 pub use characters::is_visible;
 pub use faulty_line::FaultyLine;
 pub use laws::limits_are_those_of_range;
 pub use messages::message;
-pub use reports::{Page, Style, push_fault_count, report};
+pub use reports::{Gravity, Page, Style, push_report_count, report, report_warning};
+pub use warnings::{Warning, find_warning};

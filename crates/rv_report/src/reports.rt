@@ -1,15 +1,17 @@
-//! The report of a fault.
+//! The reports of faults and warnings.
 
-ghost use Rattle.std.specs.Prelude.{◌≡◌, ◌≤◌, ◌++◌, length, OnOk, OnErr};
+ghost use Rattle.std.specs.Prelude.{◌≡◌, ◌+◌, ◌^◌, ◌<◌, ◌≤◌, ◌++◌, length, OnOk, OnErr};
 ghost use Rattle.rv_report.specs.Lines.{line_of};
-ghost use Rattle.rv_report.specs.Reports.{count_of_faults, report_of};
+ghost use Rattle.rv_report.specs.Reports.{last_rows, report_of, warning_report_of};
+ghost use Rattle.rv_report.specs.Warnings.{warning_seen};
 
 use crate::faulty_line::{FaultyLine, part};
 use crate::messages::push_message;
-use crate::rows::{push_count, push_line_row, push_mark_row, push_message_row, push_note};
+use crate::rows::{push_last_rows, push_line_row, push_mark_row, push_message_row, push_note};
 use crate::text::Text;
+use crate::warnings::{Warning, push_warning_message};
 use rv_expr::Names;
-use rv_list::View;
+use rv_list::{View, fault_name};
 use rv_text::Fault;
 use std::alloc::{AllocError, Global};
 
@@ -20,6 +22,15 @@ pub enum Style {
     Plain,
     /// `error:` is red, and the mark green.
     Colored,
+}
+
+/// How grave it is what a report says.
+#[derive(Clone, Copy, Debug, PartialEq, Eq)]
+pub enum Gravity {
+    /// The line has a fault.
+    Error,
+    /// The line may not be what was meant.
+    Warning,
 }
 
 /// Where the reports of a file go to, and how: its name, and their style.
@@ -47,13 +58,15 @@ fn push_report<N: Names, V: View>(
 {
     let mut message = Text::new(alloc);
     push_message(&mut message, alloc, line, names, view, fault)?;
+    let name = fault_name(fault.number).as_bytes();
     push_message_row(
         out,
-        page.style,
-        page.file,
+        page,
         line.number,
-        fault,
+        fault.span.from,
+        Gravity::Error,
         message.bytes(),
+        name,
     )?;
     push_line_row(out, line.number, line.text)?;
     push_mark_row(out, alloc, page.style, line.number, line.text, fault.span)?;
@@ -86,23 +99,76 @@ pub fn report<N: Names, V: View>(
     out.extend_from_slice(text.bytes())
 }
 
-/// Appends the row that ends the reports of a file: how many faults it has, and which are shown, where at most so many are. There
-/// is none where it has no fault.
+// Appends the rows of a warning to a text.
+#[tactic(auto, unfolding(crate::specs::Reports::warning_report_of))]
+fn push_warning(
+    out: &mut Text,
+    alloc: Global,
+    page: &Page<'_>,
+    number: u32,
+    text: &[u8],
+    warning: &Warning<'_>,
+) -> Result<(), AllocError>
+    requires { length text.now ≤ 1000 }
+    ensures { OnOk result (out.new ≡ out.old ++ warning_report_of page.now.style page.now.file.now number text.now (warning_seen warning.now)) }
+{
+    let mut message = Text::new(alloc);
+    push_warning_message(&mut message, warning.label)?;
+    push_message_row(
+        out,
+        page,
+        number,
+        warning.span.from,
+        Gravity::Warning,
+        message.bytes(),
+        b"label-as-register",
+    )?;
+    push_line_row(out, number, text)?;
+    push_mark_row(out, alloc, page.style, number, text, warning.span)
+}
+
+/// Appends the rows of a warning about a line, by its number and its bytes, to a list of bytes: what it says, the line, and a mark under
+/// the operand.
+///
+/// # Errors
+///
+/// `AllocError` if there is no memory for them. The list is then as before.
+pub fn report_warning(
+    out: &mut Vec<u8>,
+    alloc: Global,
+    page: &Page<'_>,
+    number: u32,
+    text: &[u8],
+    warning: &Warning<'_>,
+) -> Result<(), AllocError>
+    requires { length text.now ≤ 1000 }
+    ensures appended { OnOk result (out.new.items ≡ out.old.items ++ warning_report_of page.now.style page.now.file.now number text.now (warning_seen warning.now)) }
+    ensures refused { OnErr result (out.new.items ≡ out.old.items) }
+{
+    let mut rows = Text::new(alloc);
+    push_warning(&mut rows, alloc, page, number, text, warning)?;
+    out.extend_from_slice(rows.bytes())
+}
+
+/// Appends the row that ends the reports of a file: how many faults and warnings it has, and which are shown, where at most so many
+/// are. There is none where it has neither.
 ///
 /// # Errors
 ///
 /// `AllocError` if there is no memory for it. The list is then as before.
-pub fn push_fault_count(
+pub fn push_report_count(
     out: &mut Vec<u8>,
     alloc: Global,
     file: &[u8],
-    count: u32,
+    faults: u32,
+    warnings: u32,
     most: u32,
 ) -> Result<(), AllocError>
-    ensures appended { OnOk result (out.new.items ≡ out.old.items ++ count_of_faults file.now count most) }
+    requires { faults + warnings < 2 ^ 32 }
+    ensures appended { OnOk result (out.new.items ≡ out.old.items ++ last_rows file.now faults warnings most) }
     ensures refused { OnErr result (out.new.items ≡ out.old.items) }
 {
     let mut text = Text::new(alloc);
-    push_count(&mut text, file, count, most)?;
+    push_last_rows(&mut text, file, faults, warnings, most)?;
     out.extend_from_slice(text.bytes())
 }

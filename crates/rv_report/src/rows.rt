@@ -1,14 +1,14 @@
 //! The rows of a report.
 
-ghost use Rattle.std.specs.Prelude.{◌≡◌, ◌+◌, ◌≤◌, ◌++◌, codes, decimal, length, OnOk};
-ghost use Rattle.rv_report.specs.Reports.{count_of_faults, faults_word, first_shown, line_row, margin, mark, mark_row, message_row, note_at, note_by, painted, part_shown, rendition, shown_line, text_end};
+ghost use Rattle.std.specs.Prelude.{◌≡◌, ◌+◌, ◌^◌, ◌<◌, ◌≤◌, ◌++◌, codes, decimal, length, OnOk};
+ghost use Rattle.rv_report.specs.Reports.{amount_of, both_counts, counts_text, first_shown, gravity_text, last_row, last_rows, line_row, margin, mark, mark_row, message_row, note_at, note_by, painted, part_shown, rendition, shown_line, text_end};
 
 use crate::characters::{column_of, push_shown};
-use crate::reports::Style;
+use crate::reports::{Gravity, Page, Style};
 use crate::text::Text;
 use itoa::Buffer;
-use rv_list::{DefinitionPlace, fault_name};
-use rv_text::{Fault, FaultNumber, Span};
+use rv_list::DefinitionPlace;
+use rv_text::{FaultNumber, Span};
 use std::alloc::{AllocError, Global};
 
 // How many columns the numbers of lines take.
@@ -56,27 +56,38 @@ fn push_column(out: &mut Text, from: u32) -> Result<(), AllocError>
     out.push_number(u64::from(from) + 1)
 }
 
-/// Appends the row of a message.
+// Appends how grave it is what a row says.
+fn push_gravity(out: &mut Text, style: Style, gravity: Gravity) -> Result<(), AllocError>
+    ensures { OnOk result (out.new ≡ out.old ++ gravity_text style gravity) }
+{
+    match gravity {
+        Gravity::Error => push_painted(out, style, b"31", b"error:"),
+        Gravity::Warning => push_painted(out, style, b"35", b"warning:"),
+    }
+}
+
+/// Appends the row of a message about the bytes of a line from a place on.
 #[tactic(auto, unfolding(crate::specs::Reports::message_row))]
 pub fn push_message_row(
     out: &mut Text,
-    style: Style,
-    file: &[u8],
+    page: &Page<'_>,
     line: u32,
-    fault: Fault,
+    from: u32,
+    gravity: Gravity,
     message: &[u8],
+    name: &[u8],
 ) -> Result<(), AllocError>
-    ensures { OnOk result (out.new ≡ out.old ++ message_row style file.now line fault message.now) }
+    ensures { OnOk result (out.new ≡ out.old ++ message_row page.now.style page.now.file.now line from gravity message.now name.now) }
 {
-    push_place(out, file, line)?;
+    push_place(out, page.file, line)?;
     out.push(b":")?;
-    push_column(out, fault.span.from)?;
+    push_column(out, from)?;
     out.push(b": ")?;
-    push_painted(out, style, b"31", b"error:")?;
+    push_gravity(out, page.style, gravity)?;
     out.push(b" ")?;
     out.push(message)?;
     out.push(b" [")?;
-    out.push(fault_name(fault.number).as_bytes())?;
+    out.push(name)?;
     out.push(b"]\n")
 }
 
@@ -201,7 +212,7 @@ pub fn push_note(
     }
 }
 
-// Appends that only the first faults are shown.
+// Appends that only the first reports are shown.
 #[tactic(auto, unfolding(crate::specs::Reports::first_shown))]
 fn push_first_shown(out: &mut Text, most: u32) -> Result<(), AllocError>
     ensures { OnOk result (out.new ≡ out.old ++ first_shown most) }
@@ -211,7 +222,7 @@ fn push_first_shown(out: &mut Text, most: u32) -> Result<(), AllocError>
     out.push(b" are shown, --all shows all")
 }
 
-// Appends which faults are shown, where not all are.
+// Appends which reports are shown, where not all are.
 fn push_part_shown(out: &mut Text, count: u32, most: u32) -> Result<(), AllocError>
     ensures { OnOk result (out.new ≡ out.old ++ part_shown count most) }
 {
@@ -222,25 +233,72 @@ fn push_part_shown(out: &mut Text, count: u32, most: u32) -> Result<(), AllocErr
     }
 }
 
-/// Appends the row that ends the reports of a file, of which at most so many are shown.
-#[tactic(auto, unfolding(crate::specs::Reports::count_of_faults))]
-pub fn push_count(out: &mut Text, file: &[u8], count: u32, most: u32) -> Result<(), AllocError>
-    ensures { OnOk result (out.new ≡ out.old ++ count_of_faults file.now count most) }
+// Appends how many there are of something, by its word.
+#[tactic(auto, unfolding(crate::specs::Reports::amount_of))]
+fn push_amount(out: &mut Text, word: &[u8], count: u32) -> Result<(), AllocError>
+    ensures { OnOk result (out.new ≡ out.old ++ amount_of word.now count) }
 {
-    if count == 0 {
-        return Ok(());
+    out.push_number(count)?;
+    out.push(b" ")?;
+    out.push(word)?;
+    out.push(if count == 1 { b"" } else { b"s" })
+}
+
+// Appends how many faults and warnings there are, where there are both.
+#[tactic(auto, unfolding(crate::specs::Reports::both_counts))]
+fn push_both_counts(out: &mut Text, faults: u32, warnings: u32) -> Result<(), AllocError>
+    ensures { OnOk result (out.new ≡ out.old ++ both_counts faults warnings) }
+{
+    push_amount(out, b"fault", faults)?;
+    out.push(b", ")?;
+    push_amount(out, b"warning", warnings)
+}
+
+// Appends how many faults and warnings there are.
+fn push_counts(out: &mut Text, faults: u32, warnings: u32) -> Result<(), AllocError>
+    ensures { OnOk result (out.new ≡ out.old ++ counts_text faults warnings) }
+{
+    if warnings == 0 {
+        push_amount(out, b"fault", faults)
+    } else if faults == 0 {
+        push_amount(out, b"warning", warnings)
+    } else {
+        push_both_counts(out, faults, warnings)
     }
+}
+
+// Appends the row that ends the reports of a file.
+#[tactic(auto, unfolding(crate::specs::Reports::last_row))]
+fn push_last_row(
+    out: &mut Text,
+    file: &[u8],
+    faults: u32,
+    warnings: u32,
+    most: u32,
+) -> Result<(), AllocError>
+    requires { faults + warnings < 2 ^ 32 }
+    ensures { OnOk result (out.new ≡ out.old ++ last_row file.now faults warnings most) }
+{
     out.push(file)?;
     out.push(b": ")?;
-    out.push_number(count)?;
-    out.push(faults_word(count))?;
-    push_part_shown(out, count, most)?;
+    push_counts(out, faults, warnings)?;
+    push_part_shown(out, faults + warnings, most)?;
     out.push(b"\n")
 }
 
-// What is counted.
-fn faults_word(count: u32) -> &'static [u8]
-    ensures { result.now ≡ faults_word count }
+/// Appends the row that ends the reports of a file, of which at most so many are shown, if there are any.
+pub fn push_last_rows(
+    out: &mut Text,
+    file: &[u8],
+    faults: u32,
+    warnings: u32,
+    most: u32,
+) -> Result<(), AllocError>
+    requires { faults + warnings < 2 ^ 32 }
+    ensures { OnOk result (out.new ≡ out.old ++ last_rows file.now faults warnings most) }
 {
-    if count == 1 { b" fault" } else { b" faults" }
+    if faults + warnings == 0 {
+        return Ok(());
+    }
+    push_last_row(out, file, faults, warnings, most)
 }

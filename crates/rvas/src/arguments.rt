@@ -70,9 +70,15 @@ pub struct Arguments<'a> {
     pub color: Color,
     /// Whether all reports of a file are shown.
     pub all: bool,
+    /// Whether there are warnings.
+    pub warnings: bool,
+    /// Whether a text with a warning is taken for wrong.
+    pub werror: bool,
 }
 
 const COLORS: [&str; 3] = ["always", "never", "auto"];
+
+const SWITCH: [&str; 2] = ["off", "on"];
 
 // The file of a command.
 fn file_argument<'a>(alloc: Global) -> Arg<'a> {
@@ -115,13 +121,31 @@ fn color_option<'a>(alloc: Global) -> Arg<'a> {
 fn all_option<'a>(alloc: Global) -> Arg<'a> {
     Arg::new(alloc, "all")
         .long("all")
-        .help("Show the reports of all faults, not only of the first 1000")
+        .help("Show all reports, not only the first 1000")
         .action(ArgAction::SetTrue)
+}
+
+// Whether there are warnings, and what they change.
+fn with_warnings<'a>(alloc: Global, command: Command<'a>) -> Result<Command<'a>, AllocError> {
+    let warnings = Arg::new(alloc, "warnings")
+        .short('W')
+        .long("warnings")
+        .value_name("WHEN")
+        .help("Whether there are warnings")
+        .value_parser(SWITCH.as_slice())
+        .default_value("on")
+        .action(ArgAction::Set);
+    let werror = Arg::new(alloc, "werror")
+        .long("werror")
+        .help("Take a file with a warning for wrong")
+        .action(ArgAction::SetTrue);
+    command.arg(warnings)?.arg(werror)
 }
 
 // How reports are shown.
 fn with_reports<'a>(alloc: Global, command: Command<'a>) -> Result<Command<'a>, AllocError> {
-    command.arg(color_option(alloc))?.arg(all_option(alloc))
+    let command = command.arg(color_option(alloc))?.arg(all_option(alloc))?;
+    with_warnings(alloc, command)
 }
 
 // Where the bytes go to, and in which format.
@@ -315,6 +339,8 @@ fn arguments_of<'a>(
         force: matches.get_flag("force"),
         color: color_named(matches.get_str("color")),
         all: matches.get_flag("all"),
+        warnings: matches.get_str("warnings") != Some("off"),
+        werror: matches.get_flag("werror"),
     })
 }
 

@@ -1,8 +1,7 @@
 //! What the program does.
 
-ghost use Rattle.std.specs.Prelude.{◌≡◌, length, IfOk};
-ghost use Rattle.rv_list.specs.Faults.{fault_rows};
-ghost use Rattle.rv_store.specs.Shown.{shown_of};
+ghost use Rattle.std.specs.Prelude.{◌≡◌, ◌+◌, ◌^◌, ◌<◌, if◌then◌else◌, IfOk};
+ghost use Rattle.rv_files.specs.TextReports.{asked_warnings, fault_count};
 
 use crate::arguments::{Arguments, Color};
 use crate::explain::explain;
@@ -14,7 +13,7 @@ use crate::noting::{Noting, unless_closed};
 use crate::output::Output;
 use crate::sums::Sums;
 use rv_dis::{DisRow, first_row};
-use rv_files::{ReportError, fault_count, write_reports};
+use rv_files::{Counts, ReportError, Wanted, report_counts, write_reports};
 use rv_list::write_listing;
 use rv_report::{Page, Style};
 use rv_store::Store;
@@ -57,31 +56,54 @@ fn style_of(rt: &HostRuntime, color: Color) -> Style {
     }
 }
 
-// Writes the reports of a text to standard error, and says how many faults it has. Where they cannot be written, they are lost.
-fn report_faults(
+// Writes the reports of a text to standard error, and counts the faults and warnings. Where they cannot be written, they are lost.
+fn report(
     rt: &HostRuntime,
     arguments: &Arguments<'_>,
     name: &str,
     store: &Store,
-) -> Result<u32, Failure>
-    ensures { IfOk result (λ count. count ≡ length (fault_rows (shown_of store.now))) }
+) -> Result<Counts, Failure>
+    ensures faults { IfOk result (λ counts. counts.faults ≡ fault_count store.now) }
+    ensures few { IfOk result (λ counts. counts.faults + counts.warnings < 2 ^ 32) }
+    ensures warnings { IfOk result (λ counts. counts.warnings ≡ asked_warnings store.now arguments.now.warnings) }
 {
     let file = format!(in rt.alloc(); "{}", shown_file(name))?;
     let page = Page {
         file: file.as_bytes(),
         style: style_of(rt, arguments.color),
     };
-    let most = if arguments.all {
-        u32::MAX
-    } else {
-        MOST_REPORTS
+    let wanted = Wanted {
+        most: if arguments.all {
+            u32::MAX
+        } else {
+            MOST_REPORTS
+        },
+        warnings: arguments.warnings,
     };
     let mut sink = StdSink::new(rt.stderr());
-    match write_reports(&mut sink, rt.alloc(), &page, store, most) {
-        Ok(count) => Ok(count),
-        Err(ReportError::Write) => Ok(fault_count(&store)),
+    match write_reports(&mut sink, rt.alloc(), &page, store, wanted) {
+        Ok(counts) => Ok(counts),
+        Err(ReportError::Write) => Ok(report_counts(store, wanted.warnings)),
         Err(ReportError::Memory) => Err(Failure::Memory),
     }
+}
+
+// Reports the faults of a text and the warnings about it, and says how many of them make it wrong: warnings only if that is asked for.
+fn report_faults(
+    rt: &HostRuntime,
+    arguments: &Arguments<'_>,
+    name: &str,
+    store: &Store,
+) -> Result<u32, Failure>
+    ensures { IfOk result (λ count. count ≡ fault_count store.now + (if arguments.now.werror then asked_warnings store.now arguments.now.warnings else 0)) }
+{
+    let counts = report(rt, arguments, name, store)?;
+    let warnings = if arguments.werror {
+        counts.warnings
+    } else {
+        0
+    };
+    Ok(counts.faults + warnings)
 }
 
 // Says that something was not done with a file, and why, where that is known.

@@ -5,7 +5,7 @@ use Rattle.rv_report.proofs.rows.push_message_row.Goals as goal
 pub returns : goal.returns
 unfolding message_row
 returns c =
-    let first = rw (c.in_ok-push-2.ensures, c.in_ok-push_column.ensures, c.in_ok-push.ensures) at c.in_ok-push_painted.ensures in
+    let first = rw (c.in_ok-push-2.ensures, c.in_ok-push_column.ensures, c.in_ok-push.ensures) at c.in_ok-push_gravity.ensures in
     let message = rw (c.in_ok-push-4.ensures, c.in_ok-push-3.ensures, first, c.in_ok-push_place.ensures) at c.in_ok-push-5.ensures in
-    let sum = rw (c.in_ok-push-6.ensures, c.as_bytes.ensures.value, c.fault_name.ensures.name, message) at c.push-7.ensures in
+    let sum = rw (c.in_ok-push-6.ensures, message) at c.push-7.ensures in
     simp append_assoc at sum
