@@ -3,22 +3,19 @@ use Rattle.std.specs.Prelude.{ℕ, Bool, true, false, List, [], ◌∷◌, ◌++
 use Rattle.std.specs.Option.{option_map}
 use Rattle.rv_text.specs.declared.lexeme.Span.{Span}
 use Rattle.rv_expr.specs.Tree.{Tree, Number, Symbol, Local, Here, Unary, Binary}
-use Rattle.rv_ops.specs.declared.op.Shape.{Shape}
-use Rattle.rv_ops.specs.declared.op.Shape.TheVariants.{Csr, CsrImmediate}
-use Rattle.rv_ops.specs.Table.{shape_of}
 use Rattle.rv_stmt.specs.declared.operand.Operand.{Operand}
 use Rattle.rv_stmt.specs.declared.operand.OperandValue.{OperandValue}
 use Rattle.rv_stmt.specs.declared.operand.OperandValue.TheVariants.{Plain}
 use Rattle.rv_stmt.specs.declared.operand.Role.{Role}
 use Rattle.rv_stmt.specs.declared.operand.Role.TheVariants.{Immediate}
 use Rattle.rv_stmt.specs.declared.statement.Body.{Body}
-use Rattle.rv_stmt.specs.declared.statement.Body.TheVariants.{Instr, Pseudo}
 use Rattle.rv_stmt.specs.Statement.{operands_of}
 use Rattle.rv_list.specs.declared.view.DefinitionPlace.{DefinitionPlace}
 use Rattle.rv_list.specs.declared.view.DefinitionPlace.TheVariants.{Label}
 use Rattle.rv_list.specs.Shown.{Shown}
 use Rattle.rv_report.specs.declared.warnings.Warning.{Warning as Borrowed}
 use Rattle.rv_report.specs.Texts.{about}
+use Rattle.rv_report.specs.Wanted.{takes_csr}
 
 -- a label that gives the number of a register, and the operand that uses it
 pub record Warning : Type 0 where
@@ -50,17 +47,6 @@ label_in shown (Binary op a b) = first_of (label_in shown a) (label_in shown b)
 
 -- Numbers of registers
 
--- whether the immediate of an instruction is the number of a control and status register
-abbrev pub counts_registers : Shape → Bool
-counts_registers Csr = true
-counts_registers CsrImmediate = true
-counts_registers shape = false
-
-abbrev pub takes_register : Body → Bool
-takes_register (Instr i) = counts_registers (shape_of i.op)
-takes_register (Pseudo i) = counts_registers (shape_of i.op)
-takes_register body = false
-
 -- the label in an operand, if it is an immediate
 abbrev pub label_of_operand : Shown → Role → OperandValue → Option (List ℕ)
 label_of_operand shown Immediate (Plain e) = label_in shown e
@@ -75,7 +61,7 @@ first_warning shown (o ∷ os) = first_of (warning_about shown o) (first_warning
 
 -- the warning about a line, by its body
 abbrev pub warning_of : Shown → Body → Option Warning
-warning_of shown body = if takes_register body then first_warning shown (operands_of body) else None
+warning_of shown body = if takes_csr body then first_warning shown (operands_of body) else None
 
 -- what it says
 unfoldable pub warning_message : (label : List ℕ) → List ℕ

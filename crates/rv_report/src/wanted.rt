@@ -24,14 +24,14 @@ pub enum Wanted {
 }
 
 // Whether the value of an operation is the number of a control and status register.
-fn takes_csr_number(op: Op) -> bool
+pub fn takes_csr_number(op: Op) -> bool
     ensures { result ≡ is_csr_shape (shape_of op) }
 {
     matches!(shape(op), Shape::Csr | Shape::CsrImmediate)
 }
 
-// Whether the value of a body's operation is the number of a control and status register.
-fn takes_csr(body: &Body) -> bool
+/// Whether the value of a body's operation is the number of a control and status register.
+pub fn takes_csr(body: &Body) -> bool
     ensures { result ≡ takes_csr body.now }
 {
     match body {

@@ -1,13 +1,13 @@
 //! Warnings: what a line may do that its writer did not mean.
 
 ghost use Rattle.std.specs.Prelude.{◌≡◌, [], ◌++◌, option_map, OnOk};
-ghost use Rattle.rv_report.specs.Warnings.{counts_registers, first_warning, is_label, label_in, label_of_operand, takes_register, warning_about, warning_message, warning_of, warning_seen};
+ghost use Rattle.rv_report.specs.Warnings.{first_warning, is_label, label_in, label_of_operand, warning_about, warning_message, warning_of, warning_seen};
 
 use crate::text::Text;
+use crate::wanted::takes_csr;
 use rv_expr::{Expr, Node};
 use rv_list::{DefinitionPlace, View};
-use rv_ops::{Shape, shape};
-use rv_stmt::{Body, Operand, OperandValue, Role, Stmt};
+use rv_stmt::{Operand, OperandValue, Role, Stmt};
 use rv_text::Span;
 use std::alloc::AllocError;
 
@@ -48,27 +48,6 @@ fn label_in<'a, V: View>(expression: &'a Expr, view: &V) -> Option<&'a [u8]>
             Some(label) => Some(label),
             None => label_in(right, view),
         },
-    }
-}
-
-// Whether the immediate of an instruction of a shape is the number of a control and status register.
-fn counts_registers(shape: Shape) -> bool
-    ensures { result ≡ counts_registers shape }
-{
-    match shape {
-        Shape::Csr | Shape::CsrImmediate => true,
-        _ => false,
-    }
-}
-
-// Whether it is that in a body.
-fn takes_register(body: &Body) -> bool
-    ensures { result ≡ takes_register body.now }
-{
-    match body {
-        Body::Instr(instruction) => counts_registers(shape(instruction.op)),
-        Body::Pseudo(instruction) => counts_registers(shape(instruction.op)),
-        _ => false,
     }
 }
 
@@ -114,7 +93,7 @@ fn first_warning<'a, V: View>(mut operands: &'a [Operand], view: &V) -> Option<W
 pub fn find_warning<'a, V: View>(view: &V, stmt: &'a Stmt) -> Option<Warning<'a>>
     ensures { option_map warning_seen result ≡ warning_of (V.shown view.now) stmt.now.body }
 {
-    if takes_register(&stmt.body) {
+    if takes_csr(&stmt.body) {
         first_warning(stmt.body.operands(), view)
     } else {
         None
