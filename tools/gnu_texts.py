@@ -309,7 +309,9 @@ class Text:
         names = [label.name for label in self.labels if not label.name.isdigit()]
         if names:
             name = self.random.choice(names)
-            lines += [f"{directive} {name}" for directive in (".globl", ".global", ".local", ".hidden")]
+            # ld finds no entry that is local.
+            directives = (".globl", ".global") if name == "_start" else (".globl", ".global", ".local", ".hidden")
+            lines += [f"{directive} {name}" for directive in directives]
             lines += [f".type {name}, @object", f".size {name}, 4"]
         line = self.random.choice(lines)
         self.add_row(lambda: line)

@@ -40,7 +40,7 @@ all_reports style file text symbols = from_lines (shown_of text) (line_reports s
 
 -- among how many symbols a name is looked for that may be meant, where so many reports are shown
 abbrev pub searched : (shown : ℕ) → ℕ
-searched shown = 100000 / max 1 shown
+searched shown = 50000 / max 1 shown
 
 -- their names, those of the first ones of a text
 abbrev pub searched_symbols : Text → (shown : ℕ) → List (List ℕ)

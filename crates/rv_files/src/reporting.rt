@@ -37,7 +37,7 @@ pub struct Wanted {
 }
 
 // With how many symbols all the names that are not defined are compared together.
-const COMPARED: u32 = 100_000;
+const COMPARED: u32 = 50_000;
 
 // Appends the reports of some faults of a line.
 fn push_faults<N: Names, V: View>(

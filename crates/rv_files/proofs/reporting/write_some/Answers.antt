@@ -18,9 +18,9 @@ returns-in_err-write_first-clause-text g c =
     let store = c.args.store.now in
     let wanted = c.args.wanted in
     let least : c.max.result ≡ max 1 (min (fault_count store) wanted.most) = omega (arith, c.max.ensures, c.min.ensures, c.requires.faults) in
-    let count : c.min-2.result ≡ min (100000 / c.max.result) (length c.in_ok-symbols.symbols.items) = omega (arith, c.min-2.ensures, c.len.ensures) in
+    let count : c.min-2.result ≡ min (50000 / c.max.result) (length c.in_ok-symbols.symbols.items) = omega (arith, c.min-2.ensures, c.len.ensures) in
     let front = c.split_at.ensures.front ∙ ap (take c.min-2.result) c.as_slice.ensures.value in
-    let first = first_of_more (100000 / c.max.result) c.min-2.result _ _ _ c.in_ok-symbols.ensures.first count front in
+    let first = first_of_more (50000 / c.max.result) c.min-2.result _ _ _ c.in_ok-symbols.ensures.first count front in
     let named : map (λ s. s.now) c.as_slice-2.result.now ≡ searched_symbols store (min (fault_count store) wanted.most) =
     ap (map (λ s. s.now)) c.as_slice-2.ensures.value ∙ c.in_ok-names.ensures ∙ ap (map (λ s. s.name)) (rw least at first) in
     let lost = rw named at c.in_err-write_first.ensures.text in
@@ -32,9 +32,9 @@ returns-clause-text g c =
     let store = c.args.store.now in
     let wanted = c.args.wanted in
     let least : c.max.result ≡ max 1 (min (fault_count store) wanted.most) = omega (arith, c.max.ensures, c.min.ensures, c.requires.faults) in
-    let count : c.min-2.result ≡ min (100000 / c.max.result) (length c.in_ok-symbols.symbols.items) = omega (arith, c.min-2.ensures, c.len.ensures) in
+    let count : c.min-2.result ≡ min (50000 / c.max.result) (length c.in_ok-symbols.symbols.items) = omega (arith, c.min-2.ensures, c.len.ensures) in
     let front = c.split_at.ensures.front ∙ ap (take c.min-2.result) c.as_slice.ensures.value in
-    let first = first_of_more (100000 / c.max.result) c.min-2.result _ _ _ c.in_ok-symbols.ensures.first count front in
+    let first = first_of_more (50000 / c.max.result) c.min-2.result _ _ _ c.in_ok-symbols.ensures.first count front in
     let named : map (λ s. s.now) c.as_slice-2.result.now ≡ searched_symbols store (min (fault_count store) wanted.most) =
     ap (map (λ s. s.now)) c.as_slice-2.ensures.value ∙ c.in_ok-names.ensures ∙ ap (map (λ s. s.name)) (rw least at first) in
     let reports = rw named at c.in_ok-write_first.ensures.text in
