@@ -31,7 +31,7 @@ use Rattle.rv_report.specs.Csrs.{counter_number, its_number, standard_number, un
 use Rattle.rv_report.specs.LexicalMessages.{bad_byte, bad_number, bad_string, number_wrong}
 use Rattle.rv_report.specs.Lines.{Line}
 use Rattle.rv_report.specs.Messages.{operand_count, register_range, undefined_name, later_equ, line_of_equ, faulty_equ_of, not_constant, no_partner, beyond_reach, out_of_range, not_multiple, odd_distance, odd_address, message_of}
-use Rattle.rv_report.specs.OperandMessages.{comment_help, missing_comma, no_operand, no_register, no_statement, separation_of}
+use Rattle.rv_report.specs.OperandMessages.{comment_help, expected, missing_comma, no_operand, no_register, no_statement, parentheses_of, separation_of}
 use Rattle.rv_report.specs.Reports.{amount_of, both_counts, first_shown, last_row, last_rows, line_row, margin, mark, mark_row, message_row, note_at, painted, rendition, report_of, shown_line, warning_report_of}
 use Rattle.rv_report.specs.Suggestions.{did_you_mean, suggestions}
 use Rattle.rv_report.specs.Texts.{about, quoted}
@@ -137,7 +137,7 @@ unfolding message_of advice separation_of no_register quoted about did_you_mean 
 small_register = refl
 
 missing_register : message (codes "addi a0, , 1") [] (fault_at fault.BadRegister 8 8) ≡ codes "a register is expected here"
-unfolding message_of advice separation_of no_register quoted about did_you_mean suggestions some_numbers from_to gap_text limits_text operand_count register_range undefined_name later_equ line_of_equ faulty_equ_of no_partner beyond_reach out_of_range not_multiple odd_distance odd_address
+unfolding message_of expected advice separation_of no_register quoted about did_you_mean suggestions some_numbers from_to gap_text limits_text operand_count register_range undefined_name later_equ line_of_equ faulty_equ_of no_partner beyond_reach out_of_range not_multiple odd_distance odd_address
 missing_register = refl
 
 undefined_symbol : message (codes "bnez a0, far + lop") [] (fault_at fault.Undefined 9 18) ≡ codes "'lop' is not defined; did you mean 'loop'?"
@@ -181,11 +181,23 @@ unfolding message_of separation_of missing_comma operand_count some_numbers quot
 no_comma = refl
 
 number_for_register : message (codes "add a0, a0, 5") [] (fault_at fault.BadRegister 12 13) ≡ codes "'5' is not a register; did you mean 'addi'?"
-unfolding message_of separation_of no_register advice quoted about digits operation_named operation_names row_of layout_of register_named register_names csr_named csr_names other_forms slots_of set_named set_names modifier_named modifier_names directive_named directive_names section_named section_names
+unfolding message_of separation_of parentheses_of no_register advice quoted about digits operation_named operation_names row_of layout_of register_named register_names csr_named csr_names other_forms slots_of set_named set_names modifier_named modifier_names directive_named directive_names section_named section_names
 number_for_register = refl
 
+number_in_comment : message (codes "addi a0, a0, #1") [] (fault_at fault.BadOperand 12 12) ≡ codes "an operand is expected here; '#' begins a comment, and a number has none before it"
+unfolding message_of expected
+number_in_comment = refl
+
+no_such_base : message (codes "lw a0, 4(a9)") [] (fault_at fault.BadOperand 7 12) ≡ codes "'a9' is not a register; there are 'a0' to 'a7'"
+unfolding message_of separation_of parentheses_of no_register no_operand advice quoted about digits operation_named operation_names row_of layout_of register_named register_names csr_named csr_names other_forms slots_of set_named set_names modifier_named modifier_names directive_named directive_names section_named section_names
+no_such_base = refl
+
+no_closing : message (codes "sw a0, 4(a1") [] (fault_at fault.BadRegister 7 11) ≡ codes "a ')' is missing"
+unfolding message_of separation_of parentheses_of no_register no_operand advice quoted about digits operation_named operation_names row_of layout_of register_named register_names csr_named csr_names other_forms slots_of set_named set_names modifier_named modifier_names directive_named directive_names section_named section_names
+no_closing = refl
+
 other_section : message (codes ".section .vectors") [] (fault_at fault.BadOperand 9 17) ≡ codes "'.vectors' is not an operand that '.section' takes here; the sections are .text.init, .text, .rodata, .data, .sdata and .bss"
-unfolding message_of separation_of no_operand advice quoted about digits operation_named operation_names row_of layout_of register_named register_names csr_named csr_names other_forms slots_of set_named set_names modifier_named modifier_names directive_named directive_names section_named section_names
+unfolding message_of separation_of parentheses_of no_operand advice quoted about digits operation_named operation_names row_of layout_of register_named register_names csr_named csr_names other_forms slots_of set_named set_names modifier_named modifier_names directive_named directive_names section_named section_names
 other_section = refl
 
 directive_elsewhere : message (codes "x: .EQV n, 4") [] (fault_at fault.UnknownName 3 7) ≡ codes "no instruction or directive is called '.EQV'; write '.equ'"

@@ -43,6 +43,25 @@ separation line (t ∷ ts) =
 unfoldable pub separation_of : List ℕ → List ℕ
 separation_of text = separation text (lexed_line text).tokens
 
+-- Empty operands
+
+abbrev pub begins_number : List ℕ → Bool
+begins_number [] = false
+begins_number (b ∷ bs) = is_ascii_digit b || b == 0x2D
+
+-- a '#' with a number behind it comes next
+abbrev pub is_hash_number : List ℕ → Bool
+is_hash_number [] = false
+is_hash_number (b ∷ bs) =
+    if b == 0x23 then begins_number bs else (if b == 0x20 || b == 9 then is_hash_number bs else false)
+
+abbrev pub hash_help : List ℕ → List ℕ
+hash_help rest = if is_hash_number rest then codes "; '#' begins a comment, and a number has none before it" else []
+
+-- what is missing before the rest of a line
+unfoldable pub expected : (what rest : List ℕ) → List ℕ
+expected what rest = what ++ hash_help rest
+
 -- Registers
 
 -- the registers whose names begin like a word: with its letter, and then a digit
@@ -52,10 +71,6 @@ registers_like word = if is_ascii_digit (slice_index word 1) then advice Registe
 abbrev pub has_parenthesis : List ℕ → Bool
 has_parenthesis [] = false
 has_parenthesis (b ∷ bs) = if b == 0x28 then true else has_parenthesis bs
-
-abbrev pub begins_number : List ℕ → Bool
-begins_number [] = false
-begins_number (b ∷ bs) = is_ascii_digit b || b == 0x2D
 
 -- a name that is like no register is meant for an address
 abbrev pub name_help : (statement text : List ℕ) → List ℕ
@@ -74,21 +89,52 @@ no_base text = about [] text (codes " does not end with a register in parenthese
 unfoldable pub no_register : (text help : List ℕ) → List ℕ
 no_register text help = about [] text (codes " is not a register") ++ help
 
+-- Parentheses
+
+-- a word is one of some tokens
+abbrev pub has_word : (word line : List ℕ) → List Token → Bool
+has_word word line [] = false
+has_word word line (t ∷ ts) = if bytes_eq (part line t.span) word then true else has_word word line ts
+
+-- the word in parentheses that ends some tokens without a modifier
+abbrev pub base_in : (line : List ℕ) → List Token → List ℕ
+base_in line [] = []
+base_in line (t ∷ ts) =
+    if bytes_eq (part line t.span) (codes "(") && length ts == 2 then first_word line ts
+    else (if bytes_eq (part line t.span) (codes "%") then [] else base_in line ts)
+
+-- a word that is like a register, and is none
+abbrev pub base_message : List ℕ → List ℕ
+base_message word =
+    if is_some (register_named word) || length (registers_like word) == 0 then [] else no_register word (registers_like word)
+
+abbrev pub parenthesis_message : (line : List ℕ) → List Token → List ℕ
+parenthesis_message line ts =
+    if has_word (codes "(") line ts && not (has_word (codes ")") line ts) then codes "a ')' is missing"
+    else base_message (base_in line ts)
+
+-- what is wrong with parentheses and what stands in them
+unfoldable pub parentheses_of : List ℕ → List ℕ
+parentheses_of text = parenthesis_message text (lexed_line text).tokens
+
 -- a register where an address in one is wanted
 unfoldable pub no_parentheses : List ℕ → List ℕ
 no_parentheses text = about [] text (codes " has to stand in parentheses here")
 
-abbrev pub register_message : (statement text separation : List ℕ) → (first : Bool) → List ℕ
-register_message statement text separation first =
-    if length separation == 0
-    then (if has_parenthesis text then no_base text else no_register text (register_help statement text first))
-    else no_register text separation
+abbrev pub register_message : (statement text parentheses : List ℕ) → (first : Bool) → List ℕ
+register_message statement text parentheses first =
+    if not (length parentheses == 0) then parentheses
+    else (if has_parenthesis text then no_base text else no_register text (register_help statement text first))
 
-abbrev pub bad_register : (statement text : List ℕ) → (first : Bool) → List ℕ
-bad_register statement text first =
-    if length text == 0 then codes "a register is expected here"
+abbrev pub separated_register_message : (statement text separation parentheses : List ℕ) → (first : Bool) → List ℕ
+separated_register_message statement text separation parentheses first =
+    if length separation == 0 then register_message statement text parentheses first else no_register text separation
+
+abbrev pub bad_register : (statement text rest : List ℕ) → (first : Bool) → List ℕ
+bad_register statement text rest first =
+    if length text == 0 then expected (codes "a register is expected here") rest
     else (if is_some (register_named text) then no_parentheses text
-    else register_message statement text (separation_of text) first)
+    else separated_register_message statement text (separation_of text) (parentheses_of text) first)
 
 -- Other operands
 
@@ -100,10 +146,15 @@ unfoldable pub no_operand : (statement text help : List ℕ) → List ℕ
 no_operand statement text help =
     about [] text (codes " is not an operand that ") ++ (about [] statement (codes " takes here") ++ help)
 
-abbrev pub bad_operand : (statement text : List ℕ) → List ℕ
-bad_operand statement text =
-    if length text == 0 then codes "an operand is expected here"
-    else no_operand statement text (operand_help statement (separation_of text))
+abbrev pub operand_message : (statement text separation parentheses : List ℕ) → List ℕ
+operand_message statement text separation parentheses =
+    if length separation == 0 && not (length parentheses == 0) then parentheses
+    else no_operand statement text (operand_help statement separation)
+
+abbrev pub bad_operand : (statement text rest : List ℕ) → List ℕ
+bad_operand statement text rest =
+    if length text == 0 then expected (codes "an operand is expected here") rest
+    else operand_message statement text (separation_of text) (parentheses_of text)
 
 -- Lines without a statement
 

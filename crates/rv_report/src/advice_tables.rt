@@ -188,7 +188,7 @@ pub const NUMBER_GIVEN: [AdviceRow; 23] = [
 pub const NAME_GIVEN: [AdviceRow; 2] = [
     (
         &["sb", "sh", "sw"],
-        "; write OFFSET(REGISTER), or a register behind the address",
+        "; a store to a name takes a third operand, a scratch register, as in 'NAME, t0'",
     ),
     (
         &[

@@ -17,6 +17,7 @@ mod messages;
 mod name_messages;
 mod operand_messages;
 mod operands;
+mod parentheses;
 mod reports;
 mod rows;
 mod statement_messages;

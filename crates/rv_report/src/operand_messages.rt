@@ -1,21 +1,22 @@
 //! The messages of operands that a statement does not take.
 
-ghost use Rattle.std.specs.Prelude.{◌≡◌, ◌≤◌, ◌++◌, bytes_eq, length, IfOk, OnOk};
+ghost use Rattle.std.specs.Prelude.{◌≡◌, ◌≤◌, ◌++◌, bytes_eq, drop, length, IfOk, OnOk};
 ghost use Rattle.rv_stmt.specs.Tokens.{is_punctuation_kind};
 ghost use Rattle.rv_report.specs.Lines.{line_of, part};
 ghost use Rattle.rv_report.specs.Messages.{name_of_statement, word_after_name};
-ghost use Rattle.rv_report.specs.OperandMessages.{bad_operand, bad_register, begins_number, comment_help, first_word, has_parenthesis, is_beside_next, is_foreign, missing_comma, name_help, no_base, no_operand, no_parentheses, no_register, no_statement, operand_help, register_help, register_message, registers_like, separation, separation_of};
+ghost use Rattle.rv_report.specs.OperandMessages.{bad_operand, bad_register, begins_number, comment_help, expected, first_word, has_parenthesis, hash_help, is_beside_next, is_foreign, is_hash_number, missing_comma, name_help, no_base, no_operand, no_parentheses, no_register, no_statement, operand_help, operand_message, parentheses_of, register_help, register_message, registers_like, separated_register_message, separation, separation_of};
 
 use crate::advice::{Topic, advice};
-use crate::faulty_line::{FaultyLine, byte_at, first_bytes, part};
+use crate::faulty_line::{FaultyLine, byte_at, bytes_from, first_bytes, part};
+use crate::parentheses::parentheses_of;
 use crate::statement_words::{name_of_statement, word_after_name};
 use crate::text::Text;
 use rv_ops::reg_by_name;
 use rv_text::{Span, Token, TokenKind, tokens};
 use std::alloc::{AllocError, Global};
 
-// The first of some tokens.
-fn first_word<'a>(line: &'a [u8], tokens: &[Token]) -> &'a [u8]
+/// The first of some tokens.
+pub fn first_word<'a>(line: &'a [u8], tokens: &[Token]) -> &'a [u8]
     ensures { result.now ≡ first_word line.now tokens.now }
 {
     match tokens {
@@ -95,8 +96,53 @@ pub fn separation_of(alloc: Global, text: &[u8]) -> Result<Text, AllocError>
     Ok(found)
 }
 
-// The registers whose names begin like a word: with its letter, and then a digit.
-fn registers_like(word: &[u8]) -> &'static [u8]
+// Whether a text begins like a number.
+fn begins_number(text: &[u8]) -> bool
+    ensures { result ≡ begins_number text.now }
+{
+    match text {
+        [byte, ..] => byte.is_ascii_digit() || *byte == b'-',
+        [] => false,
+    }
+}
+
+// Whether a `#` with a number behind it comes next.
+fn is_hash_number(mut rest: &[u8]) -> bool
+    ensures { result ≡ is_hash_number rest.entry.now }
+{
+    'bytes: while let [byte, more @ ..] = rest {
+        if *byte == b'#' {
+            return begins_number(more);
+        }
+        if *byte != b' ' && *byte != b'\t' {
+            return false;
+        }
+        rest = more;
+    }
+    false
+}
+
+// What helps where a comment begins in the place of an operand.
+fn hash_help(rest: &[u8]) -> &'static [u8]
+    ensures { result.now ≡ hash_help rest.now }
+{
+    if is_hash_number(rest) {
+        return b"; '#' begins a comment, and a number has none before it";
+    }
+    b""
+}
+
+// Appends what is missing before the rest of a line.
+#[tactic(auto, unfolding(crate::specs::OperandMessages::expected))]
+fn push_expected(out: &mut Text, what: &[u8], rest: &[u8]) -> Result<(), AllocError>
+    ensures { OnOk result (out.new ≡ out.old ++ expected what.now rest.now) }
+{
+    out.push(what)?;
+    out.push(hash_help(rest))
+}
+
+/// The registers whose names begin like a word: with its letter, and then a digit.
+pub fn registers_like(word: &[u8]) -> &'static [u8]
     ensures { result.now ≡ registers_like word.now }
 {
     if byte_at(word, 1).is_ascii_digit() {
@@ -116,16 +162,6 @@ fn has_parenthesis(mut text: &[u8]) -> bool
         text = rest;
     }
     false
-}
-
-// Whether a text begins like a number.
-fn begins_number(text: &[u8]) -> bool
-    ensures { result ≡ begins_number text.now }
-{
-    match text {
-        [byte, ..] => byte.is_ascii_digit() || *byte == b'-',
-        [] => false,
-    }
 }
 
 // What helps where a name is no register.
@@ -168,32 +204,49 @@ fn push_no_parentheses(out: &mut Text, text: &[u8]) -> Result<(), AllocError>
     out.push_about(b"", text, b" has to stand in parentheses here")
 }
 
-// Appends that an operand is no register.
+/// Appends that an operand is no register.
 #[tactic(auto, unfolding(crate::specs::OperandMessages::no_register))]
-fn push_no_register(out: &mut Text, text: &[u8], help: &[u8]) -> Result<(), AllocError>
+pub fn push_no_register(out: &mut Text, text: &[u8], help: &[u8]) -> Result<(), AllocError>
     ensures { OnOk result (out.new ≡ out.old ++ no_register text.now help.now) }
 {
     out.push_about(b"", text, b" is not a register")?;
     out.push(help)
 }
 
-// Appends what is wrong with an operand that is no register.
+// Appends what is wrong with an operand that is no register, and in which nothing is to be separated.
 fn push_register_message(
     out: &mut Text,
     statement: &[u8],
     text: &[u8],
-    separation: &[u8],
+    parentheses: &[u8],
     first: bool,
 ) -> Result<(), AllocError>
-    ensures { OnOk result (out.new ≡ out.old ++ register_message statement.now text.now separation.now first) }
+    ensures { OnOk result (out.new ≡ out.old ++ register_message statement.now text.now parentheses.now first) }
 {
-    if !separation.is_empty() {
-        return push_no_register(out, text, separation);
+    if !parentheses.is_empty() {
+        return out.push(parentheses);
     }
     if has_parenthesis(text) {
         return push_no_base(out, text);
     }
     push_no_register(out, text, register_help(statement, text, first))
+}
+
+// Appends what is wrong with an operand that is no register.
+fn push_separated(
+    out: &mut Text,
+    statement: &[u8],
+    text: &[u8],
+    separation: &[u8],
+    parentheses: &[u8],
+    first: bool,
+) -> Result<(), AllocError>
+    ensures { OnOk result (out.new ≡ out.old ++ separated_register_message statement.now text.now separation.now parentheses.now first) }
+{
+    if separation.is_empty() {
+        return push_register_message(out, statement, text, parentheses, first);
+    }
+    push_no_register(out, text, separation)
 }
 
 /// An operand that is no register, at a span of a line.
@@ -205,19 +258,28 @@ pub fn push_bad_register(
 ) -> Result<(), AllocError>
     requires labels { length line.now.stmt.now.labels ≤ 1000 }
     requires text { length line.now.text.now ≤ 1000 }
-    ensures { OnOk result (out.new ≡ out.old ++ bad_register (name_of_statement (line_of line.now)) (part line.now.text.now span) (bytes_eq (word_after_name (line_of line.now)) (part line.now.text.now span))) }
+    ensures { OnOk result (out.new ≡ out.old ++ bad_register (name_of_statement (line_of line.now)) (part line.now.text.now span) (drop span.to line.now.text.now) (bytes_eq (word_after_name (line_of line.now)) (part line.now.text.now span))) }
 {
     let text = part(line.text, span);
     if text.is_empty() {
-        return out.push(b"a register is expected here");
+        let rest = bytes_from(line.text, span.to as usize);
+        return push_expected(out, b"a register is expected here", rest);
     }
     if reg_by_name(text).is_some() {
         return push_no_parentheses(out, text);
     }
     let statement = name_of_statement(alloc, line)?;
-    let first = word_after_name(alloc, line)?;
+    let first = word_after_name(alloc, line)? == text;
     let separation = separation_of(alloc, text)?;
-    push_register_message(out, statement, text, separation.bytes(), first == text)
+    let parentheses = parentheses_of(alloc, text)?;
+    push_separated(
+        out,
+        statement,
+        text,
+        separation.bytes(),
+        parentheses.bytes(),
+        first,
+    )
 }
 
 // What helps where an operand is none that a statement takes.
@@ -245,6 +307,22 @@ fn push_no_operand(
     out.push(help)
 }
 
+// Appends what is wrong with an operand that a statement does not take.
+fn push_operand_message(
+    out: &mut Text,
+    statement: &[u8],
+    text: &[u8],
+    separation: &[u8],
+    parentheses: &[u8],
+) -> Result<(), AllocError>
+    ensures { OnOk result (out.new ≡ out.old ++ operand_message statement.now text.now separation.now parentheses.now) }
+{
+    if separation.is_empty() && !parentheses.is_empty() {
+        return out.push(parentheses);
+    }
+    push_no_operand(out, statement, text, operand_help(statement, separation))
+}
+
 /// An operand that a line's statement does not take, at a span.
 pub fn push_bad_operand(
     out: &mut Text,
@@ -254,19 +332,22 @@ pub fn push_bad_operand(
 ) -> Result<(), AllocError>
     requires labels { length line.now.stmt.now.labels ≤ 1000 }
     requires text { length line.now.text.now ≤ 1000 }
-    ensures { OnOk result (out.new ≡ out.old ++ bad_operand (name_of_statement (line_of line.now)) (part line.now.text.now span)) }
+    ensures { OnOk result (out.new ≡ out.old ++ bad_operand (name_of_statement (line_of line.now)) (part line.now.text.now span) (drop span.to line.now.text.now)) }
 {
     let text = part(line.text, span);
     if text.is_empty() {
-        return out.push(b"an operand is expected here");
+        let rest = bytes_from(line.text, span.to as usize);
+        return push_expected(out, b"an operand is expected here", rest);
     }
     let statement = name_of_statement(alloc, line)?;
     let separation = separation_of(alloc, text)?;
-    push_no_operand(
+    let parentheses = parentheses_of(alloc, text)?;
+    push_operand_message(
         out,
         statement,
         text,
-        operand_help(statement, separation.bytes()),
+        separation.bytes(),
+        parentheses.bytes(),
     )
 }
 
