@@ -1,5 +1,5 @@
 -- The messages of faults.
-use Rattle.std.specs.Prelude.{ℕ, ℤ, pos, ◌+◌, ◌*◌, int_lt, unsigned_abs, bytes_eq, is_some, List, [], ◌++◌, length, drop, slice_index, Option, Some, None, codes, decimal, if◌then◌else◌}
+use Rattle.std.specs.Prelude.{ℕ, ℤ, pos, ◌+◌, ◌*◌, int_lt, unsigned_abs, bytes_eq, is_some, nat_lt, Bool, true, false, List, [], ◌++◌, length, drop, slice_index, Option, Some, None, codes, decimal, if◌then◌else◌}
 use Rattle.std.specs.Fmt.{signed_decimal}
 use Rattle.rv_text.specs.declared.faults.Fault.{Fault}
 use Rattle.rv_text.specs.declared.faults.FaultNumber.{FaultNumber}
@@ -9,11 +9,15 @@ use Rattle.rv_text.specs.Lexing.{lexed_line}
 use Rattle.rv_text.specs.Rows.{hex}
 use Rattle.rv_expr.specs.declared.tree.LabelReference.{LabelReference}
 use Rattle.rv_expr.specs.declared.tree.LabelReference.TheVariants.{Symbol, Local, Here}
+use Rattle.rv_expr.specs.Tree.{Tree}
+use Rattle.rv_expr.specs.Tree as tree
 use Rattle.rv_expr.specs.Value.{Environment}
 use Rattle.rv_ops.specs.Registers.{register_named}
 use Rattle.rv_ops.specs.declared.value_limits.Limits.{Limits}
 use Rattle.rv_stmt.specs.declared.operand.AlignmentUnit.TheVariants.{Bytes, Exponent}
 use Rattle.rv_stmt.specs.declared.operand.Operand.{Operand}
+use Rattle.rv_stmt.specs.declared.operand.OperandValue.{OperandValue}
+use Rattle.rv_stmt.specs.declared.operand.OperandValue.TheVariants.{Plain}
 use Rattle.rv_stmt.specs.declared.operand.Role.{Role}
 use Rattle.rv_stmt.specs.declared.operand.Role.TheVariants.{Target, PairTarget, Alignment}
 use Rattle.rv_stmt.specs.declared.statement.Body.{Body}
@@ -98,19 +102,41 @@ faulty_equ shown text (Some name) = faulty_equ_of shown (name_text name)
 unfoldable pub not_constant : List ℕ → List ℕ
 not_constant text = about (codes "the size of a line needs a constant; ") text (codes " is none")
 
-abbrev pub label_help : (statement : List ℕ) → DefinitionPlace → List ℕ
-label_help statement (Label line index) = advice LabelGiven statement
-label_help statement place = []
+abbrev pub is_local_name : Tree → Bool
+is_local_name (tree.Local number direction) = true
+is_local_name e = false
+
+abbrev pub is_local_value : OperandValue → Bool
+is_local_value (Plain e) = is_local_name e
+is_local_value value = false
+
+-- a reference to a local label alone
+abbrev pub is_local_label : Option Operand → Bool
+is_local_label None = false
+is_local_label (Some o) = is_local_value o.value
+
+unfoldable pub later_line : ℕ → List ℕ
+later_line line = codes "; its .equ is on line " ++ (decimal line ++ codes ", and has to stand before this line")
+
+-- what helps on a line where something stands that has its definition at a place
+abbrev pub place_help : (statement : List ℕ) → (number : ℕ) → DefinitionPlace → List ℕ
+place_help statement number Nowhere = []
+place_help statement number (Label line index) = advice LabelGiven statement
+place_help statement number (Equ line) = if nat_lt number line then later_line line else []
+
+abbrev pub constant_help : (statement : List ℕ) → Shown → (number : ℕ) → Option Operand → (text : List ℕ) → List ℕ
+constant_help statement shown number operand text =
+    if is_local_label operand then advice LabelGiven statement else place_help statement number (shown.definition text)
 
 -- an operand whose names have values, or no values for other reasons
-abbrev pub operand_not_constant : (statement : List ℕ) → Shown → (text : List ℕ) → List ℕ
-operand_not_constant statement shown text = not_constant text ++ label_help statement (shown.definition text)
+abbrev pub operand_not_constant : (statement : List ℕ) → Shown → (number : ℕ) → Option Operand → (text : List ℕ) → List ℕ
+operand_not_constant statement shown number operand text = not_constant text ++ constant_help statement shown number operand text
 
-unfoldable pub undefined_constant : (symbols : List (List ℕ)) → (name : List ℕ) → List ℕ
-undefined_constant symbols name = codes "the size of a line needs a constant; " ++ undefined_name symbols (Symbol name)
+unfoldable pub undefined_constant : (symbols : List (List ℕ)) → LabelReference → List ℕ
+undefined_constant symbols name = codes "the size of a line needs a constant; " ++ undefined_name symbols name
 
 abbrev pub name_not_constant : DefinitionPlace → (symbols : List (List ℕ)) → (text name : List ℕ) → List ℕ
-name_not_constant Nowhere symbols text name = undefined_constant symbols name
+name_not_constant Nowhere symbols text name = undefined_constant symbols (Symbol name)
 name_not_constant place symbols text name = not_constant text
 
 abbrev pub symbol_not_constant : (statement : List ℕ) → Shown → (symbols : List (List ℕ)) → (text name : List ℕ) → List ℕ
@@ -118,14 +144,12 @@ symbol_not_constant statement shown symbols text name =
     if is_some (register_named name) then register_given statement Number name
     else name_not_constant (shown.definition name) symbols text name
 
-abbrev pub reference_not_constant : (statement : List ℕ) → Shown → (symbols : List (List ℕ)) → (text : List ℕ) → LabelReference → List ℕ
-reference_not_constant statement shown symbols text (Symbol name) = symbol_not_constant statement shown symbols text name
-reference_not_constant statement shown symbols text name = operand_not_constant statement shown text
-
 -- the first name without a value tells why an operand is no constant
-abbrev pub why_not_constant : (statement : List ℕ) → Shown → (symbols : List (List ℕ)) → (text : List ℕ) → Option LabelReference → List ℕ
-why_not_constant statement shown symbols text None = operand_not_constant statement shown text
-why_not_constant statement shown symbols text (Some name) = reference_not_constant statement shown symbols text name
+abbrev pub why_not_constant : (statement : List ℕ) → Shown → (symbols : List (List ℕ)) → (number : ℕ) → Option Operand → (text : List ℕ) → Option LabelReference → List ℕ
+why_not_constant statement shown symbols number operand text (Some (Symbol name)) = symbol_not_constant statement shown symbols text name
+why_not_constant statement shown symbols number operand text (Some (Local label direction)) = undefined_constant symbols (Local label direction)
+why_not_constant statement shown symbols number operand text (Some Here) = operand_not_constant statement shown number operand text
+why_not_constant statement shown symbols number operand text None = operand_not_constant statement shown number operand text
 
 unfoldable pub no_partner : List ℕ → List ℕ
 no_partner label = about (codes "no 'auipc .., %pcrel_hi(..)' stands at ") label []
@@ -208,7 +232,7 @@ message_by faults.BadRegister given shown line span = bad_register (name_of_stat
 message_by faults.RegisterRange given shown line span = register_range (name_of_statement line) (part line.text span)
 message_by faults.BadOperand given shown line span = bad_operand (name_of_statement line) (part line.text span) (drop span.to line.text)
 message_by faults.TooDeep given shown line span = codes "more than 64 open parentheses"
-message_by faults.NotConstant given shown line span = why_not_constant (name_of_statement line) shown line.symbols (part line.text span) (faulty_name_of given (operand_of_line line span))
+message_by faults.NotConstant given shown line span = why_not_constant (name_of_statement line) shown line.symbols line.number (operand_of_line line span) (part line.text span) (faulty_name_of given (operand_of_line line span))
 message_by faults.Undefined given shown line span = undefined (name_of_statement line) (wanted_of line.stmt.body (operand_of_line line span)) line.symbols (part line.text span) (faulty_name_of given (operand_of_line line span))
 message_by faults.LaterEqu given shown line span = later_equ (name_or (part line.text span) (faulty_name_of given (operand_of_line line span)))
 message_by faults.FaultyEqu given shown line span = faulty_equ shown (part line.text span) (faulty_name_of given (operand_of_line line span))

@@ -1,20 +1,21 @@
 //! The messages of operands that have to be constants, and are none.
 
-ghost use Rattle.std.specs.Prelude.{◌≡◌, ◌≤◌, ◌++◌, length, map, OnOk};
-ghost use Rattle.rv_report.specs.FaultyNames.{faulty_name_of};
+ghost use Rattle.std.specs.Prelude.{◌≡◌, ◌≤◌, ◌++◌, length, map, option_map, OnOk};
+ghost use Rattle.rv_report.specs.FaultyNames.{faulty_name_of, name_used};
 ghost use Rattle.rv_report.specs.Lines.{line_of, part};
-ghost use Rattle.rv_report.specs.Messages.{label_help, name_not_constant, name_of_statement, not_constant, operand_not_constant, operand_of_line, symbol_not_constant, undefined_constant, why_not_constant};
+ghost use Rattle.rv_report.specs.Messages.{constant_help, is_local_label, is_local_name, is_local_value, later_line, name_not_constant, name_of_statement, not_constant, operand_not_constant, operand_of_line, place_help, symbol_not_constant, undefined_constant, why_not_constant};
 
 use crate::advice::{Topic, advice};
-use crate::faulty_line::{FaultyLine, part};
+use crate::faulty_line::{FaultyLine, operand_in, part};
 use crate::faulty_names::UsedName;
 use crate::name_messages::{faulty_name_at, push_undefined_name};
 use crate::statement_words::name_of_statement;
 use crate::text::Text;
 use crate::wanted::{Wanted, push_register_given};
-use rv_expr::Names;
+use rv_expr::{Expr, Names, Node};
 use rv_list::{DefinitionPlace, View};
 use rv_ops::reg_by_name;
+use rv_stmt::{Operand, OperandValue};
 use rv_text::Span;
 use std::alloc::{AllocError, Global};
 
@@ -26,17 +27,53 @@ fn push_no_constant(out: &mut Text, text: &[u8]) -> Result<(), AllocError>
     out.push_about(b"the size of a line needs a constant; ", text, b" is none")
 }
 
-// Appends what takes a label in the place of a statement that does not.
-fn push_label_help(
+// Whether an expression is a reference to a local label.
+fn is_local_name(expression: &Expr) -> bool
+    ensures { result ≡ is_local_name expression.now }
+{
+    match &expression.node {
+        Node::Local(_, _) => true,
+        _ => false,
+    }
+}
+
+// Whether an operand is a reference to a local label.
+fn is_local_label(operand: Option<&Operand>) -> bool
+    ensures { result ≡ is_local_label (option_map (λ o. o.now) operand.entry) }
+{
+    match operand {
+        Some(operand) => match &operand.value {
+            OperandValue::Plain(expression) => is_local_name(expression),
+            _ => false,
+        },
+        None => false,
+    }
+}
+
+// Appends that an `.equ` has to stand earlier.
+#[tactic(auto, unfolding(crate::specs::Messages::later_line))]
+fn push_later_line(out: &mut Text, line: u32) -> Result<(), AllocError>
+    ensures { OnOk result (out.new ≡ out.old ++ later_line line) }
+{
+    out.push(b"; its .equ is on line ")?;
+    out.push_number(line)?;
+    out.push(b", and has to stand before this line")
+}
+
+// Appends what helps on a line where something stands that has its definition at a place.
+fn push_place_help(
     out: &mut Text,
     statement: &[u8],
+    number: u32,
     place: DefinitionPlace,
 ) -> Result<(), AllocError>
-    ensures { OnOk result (out.new ≡ out.old ++ label_help statement.now place) }
+    ensures { OnOk result (out.new ≡ out.old ++ place_help statement.now number place) }
 {
     match place {
+        DefinitionPlace::Nowhere => Ok(()),
         DefinitionPlace::Label(_, _) => out.push(advice(Topic::LabelGiven, statement)),
-        _ => Ok(()),
+        DefinitionPlace::Equ(line) if number < line => push_later_line(out, line),
+        DefinitionPlace::Equ(_) => Ok(()),
     }
 }
 
@@ -44,13 +81,18 @@ fn push_label_help(
 fn push_operand<V: View>(
     out: &mut Text,
     view: &V,
+    line: &FaultyLine<'_>,
     statement: &[u8],
-    text: &[u8],
+    span: Span,
 ) -> Result<(), AllocError>
-    ensures { OnOk result (out.new ≡ out.old ++ operand_not_constant statement.now (V.shown view.now) text.now) }
+    ensures { OnOk result (out.new ≡ out.old ++ operand_not_constant statement.now (V.shown view.now) line.now.number (operand_of_line (line_of line.now) span) (part line.now.text.now span)) }
 {
+    let text = part(line.text, span);
     push_no_constant(out, text)?;
-    push_label_help(out, statement, view.definition(text))
+    if is_local_label(operand_in(line, span)) {
+        return out.push(advice(Topic::LabelGiven, statement));
+    }
+    push_place_help(out, statement, line.number, view.definition(text))
 }
 
 // Appends that a name has no definition.
@@ -59,12 +101,12 @@ fn push_undefined_constant(
     out: &mut Text,
     alloc: Global,
     symbols: &[&[u8]],
-    name: &[u8],
+    name: UsedName<'_>,
 ) -> Result<(), AllocError>
-    ensures { OnOk result (out.new ≡ out.old ++ undefined_constant (map (λ s. s.now) symbols.now) name.now) }
+    ensures { OnOk result (out.new ≡ out.old ++ undefined_constant (map (λ s. s.now) symbols.now) (name_used name.entry)) }
 {
     out.push(b"the size of a line needs a constant; ")?;
-    push_undefined_name(out, alloc, symbols, UsedName::Symbol(name))
+    push_undefined_name(out, alloc, symbols, name)
 }
 
 // Appends that a name has no definition, or is no constant.
@@ -79,7 +121,9 @@ fn push_name(
     ensures { OnOk result (out.new ≡ out.old ++ name_not_constant place (map (λ s. s.now) symbols.now) text.now name.now) }
 {
     match place {
-        DefinitionPlace::Nowhere => push_undefined_constant(out, alloc, symbols, name),
+        DefinitionPlace::Nowhere => {
+            push_undefined_constant(out, alloc, symbols, UsedName::Symbol(name))
+        }
         _ => push_no_constant(out, text),
     }
 }
@@ -113,14 +157,19 @@ pub fn push_not_constant<N: Names, V: View>(
 ) -> Result<(), AllocError>
     requires labels { length line.now.stmt.now.labels ≤ 1000 }
     requires text { length line.now.text.now ≤ 1000 }
-    ensures { OnOk result (out.new ≡ out.old ++ why_not_constant (name_of_statement (line_of line.now)) (V.shown view.now) (line_of line.now).symbols (part line.now.text.now span) (faulty_name_of (N.environment names.now line.now.address) (operand_of_line (line_of line.now) span))) }
+    ensures { OnOk result (out.new ≡ out.old ++ why_not_constant (name_of_statement (line_of line.now)) (V.shown view.now) (line_of line.now).symbols line.now.number (operand_of_line (line_of line.now) span) (part line.now.text.now span) (faulty_name_of (N.environment names.now line.now.address) (operand_of_line (line_of line.now) span))) }
 {
-    let text = part(line.text, span);
     let statement = name_of_statement(alloc, line)?;
     match faulty_name_at(line, names, span) {
         Some(UsedName::Symbol(name)) => {
+            let text = part(line.text, span);
             push_symbol(out, alloc, view, statement, line.symbols, text, name)
         }
-        _ => push_operand(out, view, statement, text),
+        Some(UsedName::Local(number, direction)) => {
+            let name = UsedName::Local(number, direction);
+            push_undefined_constant(out, alloc, line.symbols, name)
+        }
+        Some(UsedName::Here) => push_operand(out, view, line, statement, span),
+        None => push_operand(out, view, line, statement, span),
     }
 }
