@@ -30,7 +30,7 @@ use Rattle.rv_report.specs.Counts.{numbers_text, some_numbers}
 use Rattle.rv_report.specs.Csrs.{counter_number, its_number, standard_number, unknown_csr}
 use Rattle.rv_report.specs.LexicalMessages.{bad_byte, bad_number, bad_string, number_wrong}
 use Rattle.rv_report.specs.Lines.{Line}
-use Rattle.rv_report.specs.Messages.{operand_count, register_range, undefined_name, later_equ, line_of_equ, faulty_equ_of, not_constant, no_partner, beyond_reach, out_of_range, not_multiple, odd_distance, odd_address, message_of}
+use Rattle.rv_report.specs.Messages.{operand_count, register_range, undefined_name, later_equ, line_of_equ, faulty_equ_of, later_line, not_constant, no_partner, beyond_reach, out_of_range, not_multiple, odd_distance, odd_address, message_of}
 use Rattle.rv_report.specs.OperandMessages.{comment_help, expected, missing_comma, no_operand, no_register, no_statement, parentheses_of, separation_of}
 use Rattle.rv_report.specs.Reports.{amount_of, both_counts, first_shown, last_row, last_rows, line_row, margin, mark, mark_row, message_row, note_at, painted, rendition, report_of, shown_line, warning_report_of}
 use Rattle.rv_report.specs.Suggestions.{did_you_mean, suggestions}
@@ -84,13 +84,13 @@ nothing_shown = record {
   count = 0;
   line = λ i. record { text = []; stmt = statement_of []; place = record { section = section.Text; address = 0; size = 0 }; code = record { payload = []; fault = None } };
   section = λ t. record { base = 0; size = 0 };
-  definition = λ name. if bytes_eq name (codes "n") then Equ 3 else (if bytes_eq name (codes "table") then Label 18 0 else Nowhere);
+  definition = λ name. if bytes_eq name (codes "n") then Equ 3 else (if bytes_eq name (codes "table") then Label 18 0 else (if bytes_eq name (codes "late") then Equ 30 else Nowhere));
   value = λ name. None;
 }
 
 abbrev names : Environment
 names = record {
-  symbol = λ name. if bytes_eq name (codes "n") then Err value.FaultyEqu else (if bytes_eq name (codes "far") || bytes_eq name (codes "table") then Ok (pos 5000) else Err value.Undefined);
+  symbol = λ name. if bytes_eq name (codes "n") then Err value.FaultyEqu else (if bytes_eq name (codes "far") || (bytes_eq name (codes "table") || bytes_eq name (codes "late")) then Ok (pos 5000) else Err value.Undefined);
   local = λ number direction. Err value.Undefined;
   here = Ok (pos 0);
   paired_high = λ label. Err value.NoPartner;
@@ -219,6 +219,10 @@ register_with_number = refl
 label_for_constant : message (codes "li a0, table") [] (fault_at fault.NotConstant 7 12) ≡ codes "the size of a line needs a constant; 'table' is none; write 'la' for the address of a label"
 unfolding message_of not_constant advice quoted about digits operation_named operation_names row_of layout_of register_named register_names csr_named csr_names other_forms slots_of set_named set_names modifier_named modifier_names directive_named directive_names section_named section_names
 label_for_constant = refl
+
+later_constant : message (codes "li a0, late") [] (fault_at fault.NotConstant 7 11) ≡ codes "the size of a line needs a constant; 'late' is none; its .equ is on line 30, and has to stand before this line"
+unfolding message_of not_constant later_line advice quoted about digits operation_named operation_names row_of layout_of register_named register_names csr_named csr_names other_forms slots_of set_named set_names modifier_named modifier_names directive_named directive_names section_named section_names
+later_constant = refl
 
 -- Reports
 
