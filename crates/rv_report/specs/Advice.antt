@@ -2,8 +2,8 @@
 use Rattle.std.specs.Prelude.{ℕ, Bool, true, false, List, [], ◌∷◌, map, if◌then◌else◌}
 use Rattle.std.specs.Str.{str_eq_ignore_ascii_case}
 use Rattle.rv_report.specs.declared.advice.Topic.{Topic}
-use Rattle.rv_report.specs.declared.advice.Topic.TheVariants.{OtherDirective, OtherMnemonic, RegisterGiven, LabelGiven, NumberGiven, NameGiven, OperandGiven, RegisterLetter, RangeExceeded, Character}
-use Rattle.rv_report.specs.declared.advice_tables.TheConstants.{CHARACTERS, LABEL_GIVEN, NAME_GIVEN, NUMBER_GIVEN, OPERAND_GIVEN, OTHER_DIRECTIVES, OTHER_MNEMONICS, RANGE_EXCEEDED, REGISTER_GIVEN, REGISTER_LETTERS}
+use Rattle.rv_report.specs.declared.advice.Topic.TheVariants.{OtherDirective, OtherMnemonic, Rv64Mnemonic, RegisterGiven, LabelGiven, NumberGiven, NameGiven, OperandGiven, RegisterLetter, RangeExceeded, Character}
+use Rattle.rv_report.specs.declared.advice_tables.TheConstants.{CHARACTERS, LABEL_GIVEN, NAME_GIVEN, NUMBER_GIVEN, OPERAND_GIVEN, OTHER_DIRECTIVES, OTHER_MNEMONICS, RANGE_EXCEEDED, REGISTER_GIVEN, REGISTER_LETTERS, RV64_MNEMONICS}
 
 -- a name is one of some, in either letter case
 abbrev pub is_any : List (List ℕ) → List ℕ → Bool
@@ -19,6 +19,7 @@ advice_in (row ∷ rows) name = if is_any row.0 name then row.1 else advice_in r
 unfoldable pub advice : Topic → List ℕ → List ℕ
 advice OtherDirective name = advice_in (map (λ row. (map (λ n. n.now) row.0.now, row.1.now)) OTHER_DIRECTIVES) name
 advice OtherMnemonic name = advice_in (map (λ row. (map (λ n. n.now) row.0.now, row.1.now)) OTHER_MNEMONICS) name
+advice Rv64Mnemonic name = advice_in (map (λ row. (map (λ n. n.now) row.0.now, row.1.now)) RV64_MNEMONICS) name
 advice RegisterGiven name = advice_in (map (λ row. (map (λ n. n.now) row.0.now, row.1.now)) REGISTER_GIVEN) name
 advice LabelGiven name = advice_in (map (λ row. (map (λ n. n.now) row.0.now, row.1.now)) LABEL_GIVEN) name
 advice NumberGiven name = advice_in (map (λ row. (map (λ n. n.now) row.0.now, row.1.now)) NUMBER_GIVEN) name

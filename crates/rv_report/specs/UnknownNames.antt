@@ -6,7 +6,7 @@ use Rattle.rv_text.specs.declared.faults.FaultNumber.TheVariants.{UnknownName}
 use Rattle.rv_stmt.specs.Directives.{directive_named}
 use Rattle.rv_stmt.specs.Forms.{Form, form_of}
 use Rattle.rv_stmt.specs.Statement.{is_directive_name}
-use Rattle.rv_report.specs.declared.advice.Topic.TheVariants.{OtherDirective, OtherMnemonic}
+use Rattle.rv_report.specs.declared.advice.Topic.TheVariants.{OtherDirective, OtherMnemonic, Rv64Mnemonic}
 use Rattle.rv_report.specs.Advice.{advice}
 use Rattle.rv_report.specs.Characters.{excerpt}
 use Rattle.rv_report.specs.LanguageNames.{names_like}
@@ -53,9 +53,13 @@ by_what_follows name next behind =
     else (if is_before_statement name next then missing_colon
     else by_names next (near_names name))))
 
+abbrev pub other_mnemonic : List ℕ → List ℕ
+other_mnemonic name =
+    if length (advice OtherMnemonic name) == 0 then advice Rv64Mnemonic name else advice OtherMnemonic name
+
 -- what is written in the place of a name that other assemblers have
 unfoldable pub replacement : List ℕ → List ℕ
-replacement name = if is_directive_name name then advice OtherDirective name else advice OtherMnemonic name
+replacement name = if is_directive_name name then advice OtherDirective name else other_mnemonic name
 
 abbrev pub help_with_name : (name next : List ℕ) → (behind : ℕ) → List ℕ
 help_with_name name next behind =

@@ -6,6 +6,7 @@ ghost use Rattle.rv_report.specs.Advice.{advice, advice_in, is_any};
 use crate::advice_tables::{
     AdviceRow, CHARACTERS, LABEL_GIVEN, NAME_GIVEN, NUMBER_GIVEN, OPERAND_GIVEN, OTHER_DIRECTIVES,
     OTHER_MNEMONICS, RANGE_EXCEEDED, REGISTER_GIVEN, REGISTER_LETTERS,
+    RV64_MNEMONICS,
 };
 use rv_ops::is_name;
 
@@ -16,6 +17,8 @@ pub enum Topic {
     OtherDirective,
     /// An instruction that other assemblers or processors have.
     OtherMnemonic,
+    /// An instruction of RV64.
+    Rv64Mnemonic,
     /// A statement that takes a number or an address, where a register stands.
     RegisterGiven,
     /// A statement that takes a constant, where a label stands.
@@ -68,6 +71,7 @@ pub fn advice(topic: Topic, name: &[u8]) -> &'static [u8]
     match topic {
         Topic::OtherDirective => advice_in(&OTHER_DIRECTIVES, name),
         Topic::OtherMnemonic => advice_in(&OTHER_MNEMONICS, name),
+        Topic::Rv64Mnemonic => advice_in(&RV64_MNEMONICS, name),
         Topic::RegisterGiven => advice_in(&REGISTER_GIVEN, name),
         Topic::LabelGiven => advice_in(&LABEL_GIVEN, name),
         Topic::NumberGiven => advice_in(&NUMBER_GIVEN, name),

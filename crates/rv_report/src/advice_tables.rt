@@ -4,7 +4,7 @@
 pub type AdviceRow = (&'static [&'static str], &'static str);
 
 /// The directives of GNU as, section 7, and of other assemblers that are none here, and what is written in their place.
-pub const OTHER_DIRECTIVES: [AdviceRow; 14] = [
+pub const OTHER_DIRECTIVES: [AdviceRow; 15] = [
     (
         &[".comm", ".lcomm"],
         "; write '.bss', the label with '.zero' and its size, and then the section before",
@@ -13,6 +13,7 @@ pub const OTHER_DIRECTIVES: [AdviceRow; 14] = [
         &[".quad", ".dword", ".8byte"],
         "; write two '.word', the lower first",
     ),
+    (&[".octa"], "; write four '.word', the lowest first"),
     (
         &[".float", ".double", ".insn"],
         "; write '.word' with the encoding",
@@ -45,8 +46,8 @@ pub const OTHER_DIRECTIVES: [AdviceRow; 14] = [
     (&[".asciiz"], "; write '.asciz'"),
 ];
 
-/// The instructions of RV64, of extensions and of other processors that are none here, and what is written in their place.
-pub const OTHER_MNEMONICS: [AdviceRow; 25] = [
+/// The instructions of extensions and of other processors that are none here, and what is written in their place.
+pub const OTHER_MNEMONICS: [AdviceRow; 24] = [
     (
         &["move", "mov"],
         "; write 'mv' for a register, or 'li' for a number",
@@ -99,16 +100,36 @@ pub const OTHER_MNEMONICS: [AdviceRow; 25] = [
     (&["pause"], "; write '.word 0x0100000F'"),
     (
         &[
+            "flw", "fsw", "fld", "fsd", "fadd.s", "fsub.s", "fmul.s", "fdiv.s",
+        ],
+        "; there is no floating point",
+    ),
+];
+
+/// The instructions of RV64 that RV32 does not have: RISC-V Unprivileged ISA 20191213, chapter 24, and their aliases.
+pub const RV64_MNEMONICS: [AdviceRow; 2] = [
+    (
+        &[
             "ld", "sd", "lwu", "addw", "subw", "addiw", "sllw", "srlw", "sraw", "slliw", "srliw",
-            "sraiw", "mulw", "sext.w", "lr.d", "sc.d",
+            "sraiw", "mulw", "divw", "divuw", "remw", "remuw", "sext.w", "negw",
         ],
         "; it belongs to RV64, and this is RV32",
     ),
     (
         &[
-            "flw", "fsw", "fld", "fsd", "fadd.s", "fsub.s", "fmul.s", "fdiv.s",
+            "lr.d",
+            "sc.d",
+            "amoswap.d",
+            "amoadd.d",
+            "amoxor.d",
+            "amoand.d",
+            "amoor.d",
+            "amomin.d",
+            "amomax.d",
+            "amominu.d",
+            "amomaxu.d",
         ],
-        "; there is no floating point",
+        "; it belongs to RV64, and this is RV32: write it with '.w'",
     ),
 ];
 

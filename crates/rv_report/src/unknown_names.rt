@@ -4,7 +4,7 @@ ghost use Rattle.std.specs.Prelude.{◌≡◌, ◌≤◌, ◌∷◌, ◌++◌, i
 ghost use Rattle.rv_stmt.specs.Directives.{directive_named};
 ghost use Rattle.rv_report.specs.Lines.{line_of, part};
 ghost use Rattle.rv_report.specs.Messages.{word_after_name};
-ghost use Rattle.rv_report.specs.UnknownNames.{begins_statement, by_names, by_what_follows, definition_of, help_with_name, is_before_statement, missing_colon, missing_point, near_names, replacement, unknown_name};
+ghost use Rattle.rv_report.specs.UnknownNames.{begins_statement, by_names, by_what_follows, definition_of, help_with_name, is_before_statement, missing_colon, missing_point, near_names, other_mnemonic, replacement, unknown_name};
 
 use crate::advice::{Topic, advice};
 use crate::characters::push_excerpt;
@@ -127,6 +127,17 @@ fn push_by_what_follows(
     push_by_names(out, next, question.bytes())
 }
 
+// What is written in the place of an instruction that is none here.
+fn other_mnemonic(name: &[u8]) -> &'static [u8]
+    ensures { result.now ≡ other_mnemonic name.now }
+{
+    let replacement = advice(Topic::OtherMnemonic, name);
+    if replacement.is_empty() {
+        return advice(Topic::Rv64Mnemonic, name);
+    }
+    replacement
+}
+
 // What is written in the place of a name that other assemblers have.
 #[tactic(auto, unfolding(crate::specs::UnknownNames::replacement))]
 fn replacement(name: &[u8]) -> &'static [u8]
@@ -135,7 +146,7 @@ fn replacement(name: &[u8]) -> &'static [u8]
     if is_directive_name(name) {
         return advice(Topic::OtherDirective, name);
     }
-    advice(Topic::OtherMnemonic, name)
+    other_mnemonic(name)
 }
 
 // Appends what helps with a name.
