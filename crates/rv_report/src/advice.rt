@@ -5,8 +5,7 @@ ghost use Rattle.rv_report.specs.Advice.{advice, advice_in, is_any};
 
 use crate::advice_tables::{
     AdviceRow, CHARACTERS, LABEL_GIVEN, NAME_GIVEN, NUMBER_GIVEN, OPERAND_GIVEN, OTHER_DIRECTIVES,
-    OTHER_MNEMONICS, RANGE_EXCEEDED, REGISTER_GIVEN, REGISTER_LETTERS,
-    RV64_MNEMONICS,
+    OTHER_MNEMONICS, RANGE_EXCEEDED, REGISTER_GIVEN, REGISTER_LETTERS, RV64_MNEMONICS,
 };
 use rv_ops::is_name;
 
