@@ -7,6 +7,7 @@ use Rattle.rv_files.specs.Elf.{elf_file, elf_bytes, elf_header, program_header, 
 use Rattle.rv_files.specs.ElfLoading.{elf_cells}
 use Rattle.rv_files.specs.Hex.{hex_text, row_text, hex_records}
 use Rattle.rv_files.specs.HexLoading.{loaded, start_of}
+use Rattle.rv_files.specs.LineMarks.{marks_from}
 use Rattle.rv_files.specs.Lines.{lines_of}
 use Rattle.rv_files.specs.Bin.{bin_bytes}
 use Rattle.rv_files.specs.Segments.{Segment}
@@ -31,6 +32,17 @@ one_empty_line = refl
 
 two_lines : lines_of (codes "a\n\nb") ≡ codes "a" ∷ [] ∷ codes "b" ∷ []
 two_lines = refl
+
+-- Line marks, as the manual of the GNU C preprocessor has them ("Preprocessor Output")
+
+two_marks : marks_from 1 (codes "# 1 \"main.S\"" ∷ codes "nop" ∷ codes "# 17 \"inc/a b.h\" 1 3" ∷ []) ≡ record { on = 1; line = 1; file = codes "main.S" } ∷ record { on = 3; line = 17; file = codes "inc/a b.h" } ∷ []
+two_marks = refl
+
+blanks_and_zeros : marks_from 7 (codes "#\t 04294967295\t\"\"behind" ∷ []) ≡ record { on = 7; line = 4294967295; file = [] } ∷ []
+blanks_and_zeros = refl
+
+comments_alone : marks_from 1 (codes "" ∷ codes "#" ∷ codes "# 1" ∷ codes "# 1 main.S" ∷ codes "# 1 \"main.S" ∷ codes "# -1 \"a\"" ∷ codes "# 1 2 \"a\"" ∷ codes " # 1 \"a\"" ∷ codes "nop # 1 \"a\"" ∷ codes "# 4294967296 \"a\"" ∷ []) ≡ []
+comments_alone = refl
 
 -- Two instructions
 

@@ -11,6 +11,7 @@ use Rattle.rv_list.specs.Faults.{fault_row, faults_of}
 use Rattle.rv_list.specs.Joined.{joined}
 use Rattle.rv_list.specs.Shown.{Shown, ShownLine}
 use Rattle.rv_report.specs.declared.reports.Style.{Style}
+use Rattle.rv_report.specs.Origins.{Source}
 use Rattle.rv_report.specs.Reports.{last_rows, report_of, warning_report_of}
 use Rattle.rv_report.specs.Warnings.{Warning, warning_of}
 use Rattle.rv_store.specs.LinesOfTexts.{names_from}
@@ -99,12 +100,12 @@ first_lost f most k n old now new within before lost =
 -- Reports
 
 -- a line has a report for each of its faults
-pub found_reports : (style : Style) (file : List ℕ) (text : Text) (symbols : List (List ℕ)) (number : ℕ) (line : ShownLine) (found : List (Option Fault)) → found ≡ map (λ f. Some f) (faults_of (shown_of text) number line) → length found ≡ length (line_reports style file text symbols number line)
+pub found_reports : (style : Style) (source : Source) (text : Text) (symbols : List (List ℕ)) (number : ℕ) (line : ShownLine) (found : List (Option Fault)) → found ≡ map (λ f. Some f) (faults_of (shown_of text) number line) → length found ≡ length (line_reports style source text symbols number line)
 unfolding line_reports
-found_reports style file text symbols number line found is =
+found_reports style source text symbols number line found is =
     ap length is
     ∙ length-map (faults_of (shown_of text) number line) (λ f. Some f)
-    ∙ sym (length-map (faults_of (shown_of text) number line) (report_of style file (names_from (record { text = text; line = number }) line.place.address) (shown_of text) (reported_line text symbols number line)))
+    ∙ sym (length-map (faults_of (shown_of text) number line) (report_of style source (names_from (record { text = text; line = number }) line.place.address) (shown_of text) (reported_line text symbols number line)))
 
 -- as many of them as there are faults among the first
 pub as_many : {A : Type 0} (xs : List A) (n left : ℕ) → n ≡ min left (length xs) → take n xs ≡ take left xs
@@ -114,48 +115,48 @@ as_many xs n left is = ap (λ c. take c xs) is ∙ take_min left xs
 pub first_of_more : {A : Type 0} (most n : ℕ) (all first symbols : List A) → take most all ≡ take most symbols → n ≡ min most (length all) → first ≡ take n all → first ≡ take most symbols
 first_of_more most n all first symbols same count is = is ∙ as_many all n most count ∙ same
 
-line_count : (style : Style) (file : List ℕ) (text : Text) (symbols : List (List ℕ)) (number : ℕ) (line : ShownLine) → length (line_reports style file text symbols number line) ≡ length (map (fault_row number) (faults_of (shown_of text) number line))
-line_count style file text symbols number line =
-    sym (found_reports style file text symbols number line (map (λ f. Some f) (faults_of (shown_of text) number line)) refl)
+line_count : (style : Style) (source : Source) (text : Text) (symbols : List (List ℕ)) (number : ℕ) (line : ShownLine) → length (line_reports style source text symbols number line) ≡ length (map (fault_row number) (faults_of (shown_of text) number line))
+line_count style source text symbols number line =
+    sym (found_reports style source text symbols number line (map (λ f. Some f) (faults_of (shown_of text) number line)) refl)
     ∙ length-map (faults_of (shown_of text) number line) (λ f. Some f)
     ∙ sym (length-map (faults_of (shown_of text) number line) (fault_row number))
 
 -- a text has a report for each of its faults
-pub all_counted : (style : Style) (file : List ℕ) (text : Text) (symbols : List (List ℕ)) → length (all_reports style file text symbols) ≡ fault_count text
-all_counted style file text symbols =
+pub all_counted : (style : Style) (source : Source) (text : Text) (symbols : List (List ℕ)) → length (all_reports style source text symbols) ≡ fault_count text
+all_counted style source text symbols =
     same_lengths
-    (λ k. line_reports style file text symbols (k + 1) ((shown_of text).line (k + 1)))
+    (λ k. line_reports style source text symbols (k + 1) ((shown_of text).line (k + 1)))
     (λ k. map (fault_row (k + 1)) (faults_of (shown_of text) (k + 1) ((shown_of text).line (k + 1))))
     (shown_of text).count
-    (λ k. line_count style file text symbols (k + 1) ((shown_of text).line (k + 1)))
+    (λ k. line_count style source text symbols (k + 1) ((shown_of text).line (k + 1)))
 
 -- Warnings
 
 -- there is a report of each
-warnings_counted : (style : Style) (file : List ℕ) (text : Text) → length (all_warnings style file text) ≡ warning_count text
+warnings_counted : (style : Style) (source : Source) (text : Text) → length (all_warnings style source text) ≡ warning_count text
 unfolding warning_reports
-warnings_counted style file text =
+warnings_counted style source text =
     same_lengths
-    (λ k. warning_reports style file (shown_of text) (k + 1) ((shown_of text).line (k + 1)))
+    (λ k. warning_reports style source (shown_of text) (k + 1) ((shown_of text).line (k + 1)))
     (λ k. warnings_about (shown_of text) ((shown_of text).line (k + 1)))
     (shown_of text).count
-    (λ k. length-map (warnings_about (shown_of text) ((shown_of text).line (k + 1))) (warning_report_of style file (k + 1) ((shown_of text).line (k + 1)).text))
+    (λ k. length-map (warnings_about (shown_of text) ((shown_of text).line (k + 1))) (warning_report_of style source (k + 1) ((shown_of text).line (k + 1)).text))
 
-asked_counted : (style : Style) (file : List ℕ) (text : Text) (warns : Bool) → length (if warns then all_warnings style file text else []) ≡ asked_warnings text warns
-asked_counted style file text true = warnings_counted style file text
-asked_counted style file text false = refl
+asked_counted : (style : Style) (source : Source) (text : Text) (warns : Bool) → length (if warns then all_warnings style source text else []) ≡ asked_warnings text warns
+asked_counted style source text true = warnings_counted style source text
+asked_counted style source text false = refl
 
 -- a line without a warning has no report of one
-pub no_warning_here : (style : Style) (file : List ℕ) (shown : Shown) (number : ℕ) (line : ShownLine) → warning_of shown line.stmt.body ≡ None → warning_reports style file shown number line ≡ []
+pub no_warning_here : (style : Style) (source : Source) (shown : Shown) (number : ℕ) (line : ShownLine) → warning_of shown line.stmt.body ≡ None → warning_reports style source shown number line ≡ []
 unfolding warning_reports
-no_warning_here style file shown number line none =
-    ap (λ w. map (warning_report_of style file number line.text) (optional w)) none
+no_warning_here style source shown number line none =
+    ap (λ w. map (warning_report_of style source number line.text) (optional w)) none
 
 -- a line with one has its report
-pub warning_here : (style : Style) (file : List ℕ) (shown : Shown) (number : ℕ) (line : ShownLine) (warning : Warning) → warning_of shown line.stmt.body ≡ Some warning → warning_reports style file shown number line ≡ warning_report_of style file number line.text warning ∷ []
+pub warning_here : (style : Style) (source : Source) (shown : Shown) (number : ℕ) (line : ShownLine) (warning : Warning) → warning_of shown line.stmt.body ≡ Some warning → warning_reports style source shown number line ≡ warning_report_of style source number line.text warning ∷ []
 unfolding warning_reports
-warning_here style file shown number line warning one =
-    ap (λ w. map (warning_report_of style file number line.text) (optional w)) one
+warning_here style source shown number line warning one =
+    ap (λ w. map (warning_report_of style source number line.text) (optional w)) one
 
 -- the first of one report
 pub first_one : (x : List ℕ) (left : ℕ) → 0 < left → concat (take left (x ∷ [])) ≡ x
@@ -174,14 +175,14 @@ first_of_both most count xs ys is =
     ∙ ap (λ n. concat (take most xs) ++ concat (take (most - n) ys)) is
 
 -- a text without faults and warnings has none
-pub none_reported : (style : Style) (file : List ℕ) (text : Text) (most : ℕ) (warns : Bool) → fault_count text ≡ 0 → asked_warnings text warns ≡ 0 → text_reports style file text most warns ≡ []
+pub none_reported : (style : Style) (source : Source) (text : Text) (most : ℕ) (warns : Bool) → fault_count text ≡ 0 → asked_warnings text warns ≡ 0 → text_reports style source text most warns ≡ []
 unfolding text_reports
-none_reported style file text most warns no_fault no_warning =
+none_reported style source text most warns no_fault no_warning =
     let symbols = searched_symbols text (min (fault_count text) most) in
-    let faults : all_reports style file text symbols ≡ [] = nil_from_length (all_reports style file text symbols) (all_counted style file text symbols ∙ no_fault) in
-    let warnings : (if warns then all_warnings style file text else []) ≡ [] = nil_from_length (if warns then all_warnings style file text else []) (asked_counted style file text warns ∙ no_warning) in
-    ap (λ (l : List (List ℕ)). concat (take most (l ++ (if warns then all_warnings style file text else []))) ++ last_rows file (fault_count text) (asked_warnings text warns) most) faults
-    ∙ ap (λ (l : List (List ℕ)). concat (take most l) ++ last_rows file (fault_count text) (asked_warnings text warns) most) warnings
-    ∙ ap (λ (l : List (List ℕ)). concat l ++ last_rows file (fault_count text) (asked_warnings text warns) most) (take_nil most)
-    ∙ ap (λ n. last_rows file n (asked_warnings text warns) most) no_fault
-    ∙ ap (λ n. last_rows file 0 n most) no_warning
+    let faults : all_reports style source text symbols ≡ [] = nil_from_length (all_reports style source text symbols) (all_counted style source text symbols ∙ no_fault) in
+    let warnings : (if warns then all_warnings style source text else []) ≡ [] = nil_from_length (if warns then all_warnings style source text else []) (asked_counted style source text warns ∙ no_warning) in
+    ap (λ (l : List (List ℕ)). concat (take most (l ++ (if warns then all_warnings style source text else []))) ++ last_rows source.file (fault_count text) (asked_warnings text warns) most) faults
+    ∙ ap (λ (l : List (List ℕ)). concat (take most l) ++ last_rows source.file (fault_count text) (asked_warnings text warns) most) warnings
+    ∙ ap (λ (l : List (List ℕ)). concat l ++ last_rows source.file (fault_count text) (asked_warnings text warns) most) (take_nil most)
+    ∙ ap (λ n. last_rows source.file n (asked_warnings text warns) most) no_fault
+    ∙ ap (λ n. last_rows source.file 0 n most) no_warning

@@ -13,3 +13,4 @@ pub mod Partly
 pub mod BinLaw
 pub mod BinSteps
 pub mod Reports
+pub mod LineMarks

@@ -10,6 +10,7 @@ use Rattle.rv_list.specs.Faults.{faults_of, found}
 use Rattle.rv_list.specs.FoundFaults.{all_found}
 use Rattle.rv_list.specs.Shown.{ShownLine}
 use Rattle.rv_report.specs.declared.reports.Style.{Style}
+use Rattle.rv_report.specs.Origins.{Source}
 use Rattle.rv_report.specs.Reports.{report_of}
 use Rattle.rv_store.specs.LinesOfTexts.{LineOfText, names_from}
 use Rattle.rv_store.specs.Shown.{shown_of}
@@ -45,12 +46,12 @@ bytes_of_line lines k text e = at (k == 0) e
 in_order : {X : Type 0} (f : X → List ℕ) (n : ℕ) (xs : List X) → flat_map f (take n xs) ≡ concat (take n (map f xs))
 in_order f n xs = sym (ap concat (take-map f n xs) ∙ concat_is (map f (take n xs)) ∙ flat_map-map (λ x. x) f (take n xs))
 
-pub line_reports-are : (style : Style) (file : List ℕ) (text : Text) (symbols : List (List ℕ)) (number count : ℕ) (shown : ShownLine) (names : LineOfText) (bytes : List ℕ) (values : List Entry) (faults : List (Option Fault)) → names ≡ record { text = text; line = number } → bytes ≡ shown.text → values ≡ operand_values_of (names_from names shown.place.address) shown.place.address shown.stmt.body → faults ≡ map (λ f. Some f) (take count (faults_of (shown_of text) number shown)) → flat_map (report_of style file (names_from names shown.place.address) (shown_of text) (record { number = number; text = bytes; stmt = shown.stmt; address = shown.place.address; values = values; symbols = symbols })) (found faults) ≡ concat (take count (line_reports style file text symbols number shown))
+pub line_reports-are : (style : Style) (source : Source) (text : Text) (symbols : List (List ℕ)) (number count : ℕ) (shown : ShownLine) (names : LineOfText) (bytes : List ℕ) (values : List Entry) (faults : List (Option Fault)) → names ≡ record { text = text; line = number } → bytes ≡ shown.text → values ≡ operand_values_of (names_from names shown.place.address) shown.place.address shown.stmt.body → faults ≡ map (λ f. Some f) (take count (faults_of (shown_of text) number shown)) → flat_map (report_of style source (names_from names shown.place.address) (shown_of text) (record { number = number; text = bytes; stmt = shown.stmt; address = shown.place.address; values = values; symbols = symbols })) (found faults) ≡ concat (take count (line_reports style source text symbols number shown))
 unfolding line_reports
-line_reports-are style file text symbols number count shown names bytes values faults named same valued faulty =
-    ap (λ v. flat_map (report_of style file (names_from names shown.place.address) (shown_of text) (record { number = number; text = bytes; stmt = shown.stmt; address = shown.place.address; values = v; symbols = symbols })) (found faults)) valued
-    ∙ ap (λ (n : LineOfText). flat_map (report_of style file (names_from n shown.place.address) (shown_of text) (record { number = number; text = bytes; stmt = shown.stmt; address = shown.place.address; values = operand_values_of (names_from n shown.place.address) shown.place.address shown.stmt.body; symbols = symbols })) (found faults)) named
-    ∙ ap (λ b. flat_map (report_of style file (names_from (record { text = text; line = number }) shown.place.address) (shown_of text) (record { number = number; text = b; stmt = shown.stmt; address = shown.place.address; values = operand_values_of (names_from (record { text = text; line = number }) shown.place.address) shown.place.address shown.stmt.body; symbols = symbols })) (found faults)) same
-    ∙ ap (λ f. flat_map (report_of style file (names_from (record { text = text; line = number }) shown.place.address) (shown_of text) (reported_line text symbols number shown)) (found f)) faulty
-    ∙ ap (flat_map (report_of style file (names_from (record { text = text; line = number }) shown.place.address) (shown_of text) (reported_line text symbols number shown))) (all_found (take count (faults_of (shown_of text) number shown)))
-    ∙ in_order (report_of style file (names_from (record { text = text; line = number }) shown.place.address) (shown_of text) (reported_line text symbols number shown)) count (faults_of (shown_of text) number shown)
+line_reports-are style source text symbols number count shown names bytes values faults named same valued faulty =
+    ap (λ v. flat_map (report_of style source (names_from names shown.place.address) (shown_of text) (record { number = number; text = bytes; stmt = shown.stmt; address = shown.place.address; values = v; symbols = symbols })) (found faults)) valued
+    ∙ ap (λ (n : LineOfText). flat_map (report_of style source (names_from n shown.place.address) (shown_of text) (record { number = number; text = bytes; stmt = shown.stmt; address = shown.place.address; values = operand_values_of (names_from n shown.place.address) shown.place.address shown.stmt.body; symbols = symbols })) (found faults)) named
+    ∙ ap (λ b. flat_map (report_of style source (names_from (record { text = text; line = number }) shown.place.address) (shown_of text) (record { number = number; text = b; stmt = shown.stmt; address = shown.place.address; values = operand_values_of (names_from (record { text = text; line = number }) shown.place.address) shown.place.address shown.stmt.body; symbols = symbols })) (found faults)) same
+    ∙ ap (λ f. flat_map (report_of style source (names_from (record { text = text; line = number }) shown.place.address) (shown_of text) (reported_line text symbols number shown)) (found f)) faulty
+    ∙ ap (flat_map (report_of style source (names_from (record { text = text; line = number }) shown.place.address) (shown_of text) (reported_line text symbols number shown))) (all_found (take count (faults_of (shown_of text) number shown)))
+    ∙ in_order (report_of style source (names_from (record { text = text; line = number }) shown.place.address) (shown_of text) (reported_line text symbols number shown)) count (faults_of (shown_of text) number shown)

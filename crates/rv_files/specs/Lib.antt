@@ -4,6 +4,7 @@ pub mod Elf
 pub mod ElfLoading
 pub mod Hex
 pub mod HexLoading
+pub mod LineMarks
 pub mod Lines
 pub mod Loading
 pub mod Segments

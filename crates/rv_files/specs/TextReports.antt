@@ -7,6 +7,7 @@ use Rattle.rv_list.specs.Faults.{faults_of, fault_rows}
 use Rattle.rv_list.specs.Shown.{Shown, ShownLine, from_lines}
 use Rattle.rv_report.specs.declared.reports.Style.{Style}
 use Rattle.rv_report.specs.Lines.{Line}
+use Rattle.rv_report.specs.Origins.{Source}
 use Rattle.rv_report.specs.Reports.{last_rows, report_of, warning_report_of}
 use Rattle.rv_report.specs.Warnings.{Warning, warning_of}
 use Rattle.rv_store.specs.LinesOfTexts.{names_from}
@@ -28,15 +29,15 @@ reported_line text symbols number line = record {
 }
 
 -- the report of each fault of a line
-unfoldable pub line_reports : Style → (file : List ℕ) → Text → (symbols : List (List ℕ)) → (number : ℕ) → ShownLine → List (List ℕ)
-line_reports style file text symbols number line =
+unfoldable pub line_reports : Style → Source → Text → (symbols : List (List ℕ)) → (number : ℕ) → ShownLine → List (List ℕ)
+line_reports style source text symbols number line =
     map
-    (report_of style file (names_from (record { text = text; line = number }) line.place.address) (shown_of text) (reported_line text symbols number line))
+    (report_of style source (names_from (record { text = text; line = number }) line.place.address) (shown_of text) (reported_line text symbols number line))
     (faults_of (shown_of text) number line)
 
 -- that of each fault of a text
-abbrev pub all_reports : Style → (file : List ℕ) → Text → (symbols : List (List ℕ)) → List (List ℕ)
-all_reports style file text symbols = from_lines (shown_of text) (line_reports style file text symbols)
+abbrev pub all_reports : Style → Source → Text → (symbols : List (List ℕ)) → List (List ℕ)
+all_reports style source text symbols = from_lines (shown_of text) (line_reports style source text symbols)
 
 -- among how many symbols a name is looked for that may be meant, where so many reports are shown
 abbrev pub searched : (shown : ℕ) → ℕ
@@ -60,13 +61,13 @@ abbrev pub warnings_about : Shown → ShownLine → List Warning
 warnings_about shown line = optional (warning_of shown line.stmt.body)
 
 -- its report
-unfoldable pub warning_reports : Style → (file : List ℕ) → Shown → (number : ℕ) → ShownLine → List (List ℕ)
-warning_reports style file shown number line =
-    map (warning_report_of style file number line.text) (warnings_about shown line)
+unfoldable pub warning_reports : Style → Source → Shown → (number : ℕ) → ShownLine → List (List ℕ)
+warning_reports style source shown number line =
+    map (warning_report_of style source number line.text) (warnings_about shown line)
 
 -- that of each warning about a text
-abbrev pub all_warnings : Style → (file : List ℕ) → Text → List (List ℕ)
-all_warnings style file text = from_lines (shown_of text) (warning_reports style file (shown_of text))
+abbrev pub all_warnings : Style → Source → Text → List (List ℕ)
+all_warnings style source text = from_lines (shown_of text) (warning_reports style source (shown_of text))
 
 abbrev pub warning_count : Text → ℕ
 warning_count text = length (from_lines (shown_of text) (λ number line. warnings_about (shown_of text) line))
@@ -74,19 +75,19 @@ warning_count text = length (from_lines (shown_of text) (λ number line. warning
 -- All
 
 -- the reports of a text, where warnings are asked for or not
-abbrev pub reports : Style → (file : List ℕ) → Text → (symbols : List (List ℕ)) → (warns : Bool) → List (List ℕ)
-reports style file text symbols warns =
-    all_reports style file text symbols ++ (if warns then all_warnings style file text else [])
+abbrev pub reports : Style → Source → Text → (symbols : List (List ℕ)) → (warns : Bool) → List (List ℕ)
+reports style source text symbols warns =
+    all_reports style source text symbols ++ (if warns then all_warnings style source text else [])
 
 -- how many warnings there are, where they are asked for
 abbrev pub asked_warnings : Text → (warns : Bool) → ℕ
 asked_warnings text warns = if warns then warning_count text else 0
 
 -- the first reports, and how many there are
-unfoldable pub text_reports : Style → (file : List ℕ) → Text → (most : ℕ) → (warns : Bool) → List ℕ
-text_reports style file text most warns =
-    concat (take most (reports style file text (searched_symbols text (min (fault_count text) most)) warns))
-    ++ last_rows file (fault_count text) (asked_warnings text warns) most
+unfoldable pub text_reports : Style → Source → Text → (most : ℕ) → (warns : Bool) → List ℕ
+text_reports style source text most warns =
+    concat (take most (reports style source text (searched_symbols text (min (fault_count text) most)) warns))
+    ++ last_rows source.file (fault_count text) (asked_warnings text warns) most
 
 -- how many calls of a writer have failed after its reports
 abbrev pub failures_by_report : {A : Type 0} → ℕ → Result A ReportError → ℕ

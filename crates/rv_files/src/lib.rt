@@ -11,6 +11,7 @@ mod laws;
 mod limits;
 mod lines;
 mod loading;
+mod marks;
 mod numbers;
 mod report_error;
 mod reporting;
@@ -28,6 +29,7 @@ pub use laws::{
 pub use limits::LoadError;
 pub use lines::Lines;
 pub use loading::load;
+pub use marks::line_marks;
 pub use report_error::ReportError;
 pub use reporting::{Wanted, write_reports};
 pub use sections::segments;

@@ -5,6 +5,7 @@ ghost use Rattle.std.specs.List.{concat, flat_map};
 ghost use Rattle.rv_list.specs.Faults.{faults_of, found};
 ghost use Rattle.rv_list.specs.Shown.{shown_line};
 ghost use Rattle.rv_report.specs.Lines.{line_of};
+ghost use Rattle.rv_report.specs.Origins.{source_of};
 ghost use Rattle.rv_report.specs.Reports.{last_rows, report_of, warning_report_of};
 ghost use Rattle.rv_report.specs.Warnings.{warning_seen};
 ghost use Rattle.rv_store.specs.LinesOfTexts.{names_from};
@@ -52,7 +53,7 @@ fn push_faults<N: Names, V: View>(
     requires labels { length line.now.stmt.now.labels ≤ 1000 }
     requires text { length line.now.text.now ≤ 1000 }
     ensures { OnOk result (out.new.items ≡ out.old.items
-        ++ flat_map (report_of page.now.style page.now.file.now (N.environment names.now line.now.address) (V.shown view.now) (line_of line.now)) (found faults.entry.now)) }
+        ++ flat_map (report_of page.now.style (source_of page.now) (N.environment names.now line.now.address) (V.shown view.now) (line_of line.now)) (found faults.entry.now)) }
 {
     'faults: while let [fault, later @ ..] = faults {
         if let Some(fault) = fault {
@@ -81,7 +82,7 @@ fn push_line(
     requires labels { length line.now.stmt.now.labels ≤ 1000 }
     requires faults { faults.now ≡ map Some (take (length faults.now) (faults_of (shown_of store.now) number (shown_line line.now))) }
     ensures { OnOk result (out.new.items ≡ out.old.items
-        ++ concat (take (length faults.now) (line_reports page.now.style page.now.file.now store.now (map (λ s. s.now) symbols.now) number ((shown_of store.now).line number)))) }
+        ++ concat (take (length faults.now) (line_reports page.now.style (source_of page.now) store.now (map (λ s. s.now) symbols.now) number ((shown_of store.now).line number)))) }
 {
     if faults.is_empty() {
         return Ok(());
@@ -121,7 +122,7 @@ fn write_line<W: Sink>(
     requires labels { length line.now.stmt.now.labels ≤ 1000 }
     requires faults { faults.now ≡ map Some (take (length faults.now) (faults_of (shown_of store.now) number (shown_line line.now))) }
     requires failures { W.failures sink.old < 2 ^ 64 - 1 }
-    ensures text { Writes (W.taken sink.old) (concat (take (length faults.now) (line_reports page.now.style page.now.file.now store.now (map (λ s. s.now) symbols.now) number ((shown_of store.now).line number)))) result (W.taken sink.new) }
+    ensures text { Writes (W.taken sink.old) (concat (take (length faults.now) (line_reports page.now.style (source_of page.now) store.now (map (λ s. s.now) symbols.now) number ((shown_of store.now).line number)))) result (W.taken sink.new) }
     ensures count { W.failures sink.new ≡ failures_by_report (W.failures sink.old) result }
 {
     let mut text = Vec::new(alloc);
@@ -140,7 +141,7 @@ fn write_lines<W: Sink>(
     most: u32,
 ) -> Result<(), ReportError>
     requires { W.failures sink.old < 2 ^ 64 - 1 }
-    ensures text { Writes (W.taken sink.old) (concat (take most (all_reports page.now.style page.now.file.now store.now (map (λ s. s.now) symbols.now)))) result (W.taken sink.new) }
+    ensures text { Writes (W.taken sink.old) (concat (take most (all_reports page.now.style (source_of page.now) store.now (map (λ s. s.now) symbols.now)))) result (W.taken sink.new) }
     ensures count { W.failures sink.new ≡ failures_by_report (W.failures sink.old) result }
 {
     let view = &store;
@@ -173,7 +174,7 @@ fn write_warning<W: Sink>(
     requires first { 1 ≤ number }
     requires last { number ≤ length store.now.lines }
     requires failures { W.failures sink.old < 2 ^ 64 - 1 }
-    ensures text { Writes (W.taken sink.old) (warning_report_of page.now.style page.now.file.now number ((shown_of store.now).line number).text (warning_seen warning.now)) result (W.taken sink.new) }
+    ensures text { Writes (W.taken sink.old) (warning_report_of page.now.style (source_of page.now) number ((shown_of store.now).line number).text (warning_seen warning.now)) result (W.taken sink.new) }
     ensures count { W.failures sink.new ≡ failures_by_report (W.failures sink.old) result }
 {
     let Some(line) = store.line(number) else {
@@ -194,7 +195,7 @@ fn write_warnings<W: Sink>(
     most: u32,
 ) -> Result<(), ReportError>
     requires { W.failures sink.old < 2 ^ 64 - 1 }
-    ensures text { Writes (W.taken sink.old) (concat (take most (all_warnings page.now.style page.now.file.now store.now))) result (W.taken sink.new) }
+    ensures text { Writes (W.taken sink.old) (concat (take most (all_warnings page.now.style (source_of page.now) store.now))) result (W.taken sink.new) }
     ensures count { W.failures sink.new ≡ failures_by_report (W.failures sink.old) result }
 {
     let view = &store;
@@ -227,7 +228,7 @@ fn write_first<W: Sink>(
 ) -> Result<(), ReportError>
     requires faults { faults ≡ fault_count store.now }
     requires failures { W.failures sink.old < 2 ^ 64 - 1 }
-    ensures text { Writes (W.taken sink.old) (concat (take wanted.most (reports page.now.style page.now.file.now store.now (map (λ s. s.now) symbols.now) wanted.warnings))) result (W.taken sink.new) }
+    ensures text { Writes (W.taken sink.old) (concat (take wanted.most (reports page.now.style (source_of page.now) store.now (map (λ s. s.now) symbols.now) wanted.warnings))) result (W.taken sink.new) }
     ensures count { W.failures sink.new ≡ failures_by_report (W.failures sink.old) result }
 {
     write_lines(sink, alloc, page, store, symbols, wanted.most)?;
@@ -271,7 +272,7 @@ fn write_some<W: Sink>(
     requires warnings { counts.warnings ≡ asked_warnings store.now wanted.warnings }
     requires few { counts.faults + counts.warnings < 2 ^ 32 }
     requires failures { W.failures sink.old < 2 ^ 64 - 1 }
-    ensures text { Writes (W.taken sink.old) (text_reports page.now.style page.now.file.now store.now wanted.most wanted.warnings) result (W.taken sink.new) }
+    ensures text { Writes (W.taken sink.old) (text_reports page.now.style (source_of page.now) store.now wanted.most wanted.warnings) result (W.taken sink.new) }
     ensures count { W.failures sink.new ≡ failures_by_report (W.failures sink.old) result }
 {
     let searched = (COMPARED / counts.faults.min(wanted.most).max(1)) as usize;
@@ -306,7 +307,7 @@ pub fn write_reports<W: Sink>(
     wanted: Wanted,
 ) -> Result<Counts, ReportError>
     requires { W.failures sink.old < 2 ^ 64 - 1 }
-    ensures text { Writes (W.taken sink.old) (text_reports page.now.style page.now.file.now store.now wanted.most wanted.warnings) result (W.taken sink.new) }
+    ensures text { Writes (W.taken sink.old) (text_reports page.now.style (source_of page.now) store.now wanted.most wanted.warnings) result (W.taken sink.new) }
     ensures faults { IfOk result (λ counts. counts.faults ≡ fault_count store.now) }
     ensures few { IfOk result (λ counts. counts.faults + counts.warnings < 2 ^ 32) }
     ensures warnings { IfOk result (λ counts. counts.warnings ≡ asked_warnings store.now wanted.warnings) }

@@ -226,15 +226,20 @@ later_constant = refl
 
 -- Reports
 
-second_definition : report_of Plain (codes "b.s") names nothing_shown (faulty 20 (codes "\ttable: nop\r") []) (fault_at fault.Duplicate 1 6) ≡ codes "b.s:20:2: error: 'table' is already defined [Duplicate]\n   20 |         table: nop\n      |         ^~~~~\nb.s:18: note: the first definition is here\n"
+second_definition : report_of Plain (record { file = codes "b.s"; marks = [] }) names nothing_shown (faulty 20 (codes "\ttable: nop\r") []) (fault_at fault.Duplicate 1 6) ≡ codes "b.s:20:2: error: 'table' is already defined [Duplicate]\n   20 |         table: nop\n      |         ^~~~~\nb.s:18: note: the first definition is here\n"
 unfolding report_of message_row line_row mark_row painted rendition shown_line margin mark note_at quoted about message_of fault_name digits
 second_definition = refl
 
-in_color : report_of Colored (codes "<stdin>") names nothing_shown (faulty 1 (codes "4") []) (fault_at fault.NoStatement 0 1) ≡ codes "<stdin>:1:1: " ++ (27 ∷ codes "[31merror:" ++ (27 ∷ codes "[0m an instruction or a directive is expected here [NoStatement]\n    1 | 4\n      | " ++ (27 ∷ codes "[32m^" ++ (27 ∷ codes "[0m\n"))))
+in_color : report_of Colored (record { file = codes "<stdin>"; marks = [] }) names nothing_shown (faulty 1 (codes "4") []) (fault_at fault.NoStatement 0 1) ≡ codes "<stdin>:1:1: " ++ (27 ∷ codes "[31merror:" ++ (27 ∷ codes "[0m an instruction or a directive is expected here [NoStatement]\n    1 | 4\n      | " ++ (27 ∷ codes "[32m^" ++ (27 ∷ codes "[0m\n"))))
 unfolding report_of message_row line_row mark_row painted rendition shown_line margin mark note_at quoted about message_of no_statement fault_name digits
 in_color = refl
 
-a_warning : warning_report_of Plain (codes "b.s") 3 (codes "\tcsrr a0, mcycle") (record { span = record { from = 10; to = 16 }; label = codes "mcycle" }) ≡ codes "b.s:3:11: warning: 'mcycle' is a label: its address is taken as the number of the register; .equ gives such a number a name [label-as-register]\n    3 |         csrr a0, mcycle\n      |                  ^~~~~~\n"
+-- line 18 is line 7 of a file, and line 20 is line 5 of another one
+marked : report_of Plain (record { file = codes "b.s"; marks = record { on = 17; line = 7; file = codes "c.h" } ∷ record { on = 18; line = 4; file = codes "\tc.c" } ∷ record { on = 20; line = 1; file = codes "d.c" } ∷ [] }) names nothing_shown (faulty 20 (codes "\ttable: nop\r") []) (fault_at fault.Duplicate 1 6) ≡ codes ".c.c:5:2: error: 'table' is already defined [Duplicate]\n    5 |         table: nop\n      |         ^~~~~\nc.h:7: note: the first definition is here\n"
+unfolding report_of message_row line_row mark_row painted rendition shown_line margin mark note_at quoted about message_of fault_name digits
+marked = refl
+
+a_warning : warning_report_of Plain (record { file = codes "b.s"; marks = [] }) 3 (codes "\tcsrr a0, mcycle") (record { span = record { from = 10; to = 16 }; label = codes "mcycle" }) ≡ codes "b.s:3:11: warning: 'mcycle' is a label: its address is taken as the number of the register; .equ gives such a number a name [label-as-register]\n    3 |         csrr a0, mcycle\n      |                  ^~~~~~\n"
 unfolding warning_report_of warning_message message_row line_row mark_row painted rendition shown_line margin mark quoted about digits
 a_warning = refl
 

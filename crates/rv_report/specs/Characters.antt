@@ -60,6 +60,16 @@ abbrev pub shown_from : Place → List ℕ → List ℕ
 shown_from place [] = []
 shown_from place (b ∷ bs) = cell place (b ∷ bs) ++ shown_from (next place (b ∷ bs)) bs
 
+-- the first of some bytes in the name of a file
+abbrev pub byte_in_name : (left : ℕ) → List ℕ → ℕ
+byte_in_name left [] = 46
+byte_in_name left (b ∷ bs) = if left == 0 then byte_or_dot (b ∷ bs) else b
+
+-- the name of a file as it is shown, where so many bytes of a character are left; what is shown stays when it is shown again
+abbrev pub shown_name : (left : ℕ) → List ℕ → List ℕ
+shown_name left [] = []
+shown_name left (b ∷ bs) = byte_in_name left (b ∷ bs) ∷ shown_name (left_after left (b ∷ bs)) bs
+
 -- the column behind so many bytes
 abbrev pub column_behind : Place → ℕ → List ℕ → ℕ
 column_behind place n [] = place.column

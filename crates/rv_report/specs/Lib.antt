@@ -11,6 +11,7 @@ pub mod Lines
 pub mod Messages
 pub mod OperandMessages
 pub mod Operands
+pub mod Origins
 pub mod Reports
 pub mod Suggestions
 pub mod Texts

@@ -15,9 +15,10 @@ use Rattle.rv_report.specs.declared.reports.Gravity.{Gravity}
 use Rattle.rv_report.specs.declared.reports.Gravity.TheVariants as gravity
 use Rattle.rv_report.specs.declared.reports.Style.{Style}
 use Rattle.rv_report.specs.declared.reports.Style.TheVariants.{Plain, Colored}
-use Rattle.rv_report.specs.Characters.{column_of, shown_from, start}
+use Rattle.rv_report.specs.Characters.{column_of, shown_from, shown_name, start}
 use Rattle.rv_report.specs.Lines.{Line, part}
 use Rattle.rv_report.specs.Messages.{message_of}
+use Rattle.rv_report.specs.Origins.{Origin, Source, origin_of}
 use Rattle.rv_report.specs.Warnings.{Warning, warning_message}
 
 -- the sequence of ECMA-48, section 8.3.117, that selects how the characters after it are shown
@@ -44,9 +45,9 @@ gravity_text style gravity.Error = painted style red (codes "error:")
 gravity_text style gravity.Warning = painted style magenta (codes "warning:")
 
 -- the row of a message: columns are counted from 1
-unfoldable pub message_row : Style → (file : List ℕ) → (line from : ℕ) → Gravity → (message name : List ℕ) → List ℕ
-message_row style file line from grave message name =
-    file ++ (codes ":" ++ (decimal line ++ (codes ":" ++ (decimal (from + 1) ++ (codes ": "
+unfoldable pub message_row : Style → Origin → (from : ℕ) → Gravity → (message name : List ℕ) → List ℕ
+message_row style origin from grave message name =
+    shown_name 0 origin.file ++ (codes ":" ++ (decimal origin.line ++ (codes ":" ++ (decimal (from + 1) ++ (codes ": "
     ++ (gravity_text style grave ++ (codes " " ++ (message ++ (codes " [" ++ (name ++ codes "]\n"))))))))))
 
 -- the place behind the last byte that is no white space, after `at` bytes of which the last such one ends at `end`
@@ -73,31 +74,34 @@ mark_row style line text span =
     ++ (painted style green (mark (column_of text span.to - column_of text span.from)) ++ codes "\n")))
 
 -- where the first definition of a name is
-unfoldable pub note_at : (file : List ℕ) → (line : ℕ) → List ℕ
-note_at file line = file ++ (codes ":" ++ (decimal line ++ codes ": note: the first definition is here\n"))
+unfoldable pub note_at : Origin → List ℕ
+note_at origin =
+    shown_name 0 origin.file ++ (codes ":" ++ (decimal origin.line ++ codes ": note: the first definition is here\n"))
 
-abbrev pub note_of : (file : List ℕ) → DefinitionPlace → List ℕ
-note_of file Nowhere = []
-note_of file (Label line index) = note_at file line
-note_of file (Equ line) = note_at file line
+abbrev pub note_of : Source → DefinitionPlace → List ℕ
+note_of source Nowhere = []
+note_of source (Label line index) = note_at (origin_of source line)
+note_of source (Equ line) = note_at (origin_of source line)
 
-abbrev pub note_by : FaultNumber → (file : List ℕ) → DefinitionPlace → List ℕ
-note_by faults.Duplicate file place = note_of file place
-note_by number file place = []
+abbrev pub note_by : FaultNumber → Source → DefinitionPlace → List ℕ
+note_by faults.Duplicate source place = note_of source place
+note_by number source place = []
 
--- the rows of a fault
-unfoldable pub report_of : Style → (file : List ℕ) → Environment → Shown → Line → Fault → List ℕ
-report_of style file given shown line fault =
-    message_row style file line.number fault.span.from gravity.Error (message_of given shown line fault) (fault_name fault.number)
-    ++ (line_row line.number line.text
-    ++ (mark_row style line.number line.text fault.span
-    ++ note_by fault.number file (shown.definition (part line.text fault.span))))
+-- the rows of a fault, with the place that its line comes from
+unfoldable pub report_of : Style → Source → Environment → Shown → Line → Fault → List ℕ
+report_of style source given shown line fault =
+    let origin = origin_of source line.number in
+    message_row style origin fault.span.from gravity.Error (message_of given shown line fault) (fault_name fault.number)
+    ++ (line_row origin.line line.text
+    ++ (mark_row style origin.line line.text fault.span
+    ++ note_by fault.number source (shown.definition (part line.text fault.span))))
 
 -- the rows of a warning about a line
-unfoldable pub warning_report_of : Style → (file : List ℕ) → (number : ℕ) → (text : List ℕ) → Warning → List ℕ
-warning_report_of style file number text warning =
-    message_row style file number warning.span.from gravity.Warning (warning_message warning.label) (codes "label-as-register")
-    ++ (line_row number text ++ mark_row style number text warning.span)
+unfoldable pub warning_report_of : Style → Source → (number : ℕ) → (text : List ℕ) → Warning → List ℕ
+warning_report_of style source number text warning =
+    let origin = origin_of source number in
+    message_row style origin warning.span.from gravity.Warning (warning_message warning.label) (codes "label-as-register")
+    ++ (line_row origin.line text ++ mark_row style origin.line text warning.span)
 
 -- Counts
 

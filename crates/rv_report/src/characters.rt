@@ -1,7 +1,7 @@
 //! How the bytes of a line are shown.
 
 ghost use Rattle.std.specs.Prelude.{◌≡◌, ◌+◌, ◌-◌, ◌==◌, ◌&&◌, ◌≤◌, ◌++◌, length, OnOk, if◌then◌else◌};
-ghost use Rattle.rv_report.specs.Characters.{byte_in_message, byte_or_dot, cell, column_after, column_of, excerpt, is_no_control, is_visible, left_after, next, shown_from, size_of_first, start, turns_text, width};
+ghost use Rattle.rv_report.specs.Characters.{byte_in_message, byte_in_name, byte_or_dot, cell, column_after, column_of, excerpt, is_no_control, is_visible, left_after, next, shown_from, shown_name, size_of_first, start, turns_text, width};
 
 use crate::text::Text;
 use bstr::decode_utf8;
@@ -152,6 +152,30 @@ pub fn push_shown(out: &mut Text, line: &[u8]) -> Result<(), AllocError>
     'bytes: while let [_, rest @ ..] = bytes {
         push_cell(out, place, bytes)?;
         place = place.next(bytes);
+        bytes = rest;
+    }
+    Ok(())
+}
+
+// The first of some bytes in the name of a file.
+fn byte_in_name(left: usize, bytes: &[u8]) -> u8
+    ensures { result ≡ byte_in_name left bytes.now }
+{
+    match bytes {
+        [byte, ..] if left != 0 => *byte,
+        _ => byte_or_dot(bytes),
+    }
+}
+
+/// Appends the name of a file as it is shown.
+pub fn push_name(out: &mut Text, name: &[u8]) -> Result<(), AllocError>
+    ensures { OnOk result (out.new ≡ out.old ++ shown_name 0 name.now) }
+{
+    let mut left = 0;
+    let mut bytes = name;
+    'bytes: while let [_, rest @ ..] = bytes {
+        out.push_byte(byte_in_name(left, bytes))?;
+        left = left_after(left, bytes);
         bytes = rest;
     }
     Ok(())

@@ -2,11 +2,13 @@
 
 ghost use Rattle.std.specs.Prelude.{◌≡◌, ◌+◌, ◌^◌, ◌<◌, ◌≤◌, ◌++◌, length, OnOk, OnErr};
 ghost use Rattle.rv_report.specs.Lines.{line_of};
+ghost use Rattle.rv_report.specs.Origins.{source_of};
 ghost use Rattle.rv_report.specs.Reports.{last_rows, report_of, warning_report_of};
 ghost use Rattle.rv_report.specs.Warnings.{warning_seen};
 
 use crate::faulty_line::{FaultyLine, part};
 use crate::messages::push_message;
+use crate::origins::{LineMark, origin_of};
 use crate::rows::{push_last_rows, push_line_row, push_mark_row, push_message_row, push_note};
 use crate::text::Text;
 use crate::warnings::{Warning, push_warning_message};
@@ -33,11 +35,13 @@ pub enum Gravity {
     Warning,
 }
 
-/// Where the reports of a file go to, and how: its name, and their style.
+/// Where the reports of a file go to, and how: its name, where its lines come from, and their style.
 #[derive(Clone, Copy)]
 pub struct Page<'a> {
     /// The name of the file, as it is shown.
     pub file: &'a [u8],
+    /// The marks on its lines, in the order of the lines. The lines above the first one are those of the file.
+    pub marks: &'a [LineMark<'a>],
     pub style: Style,
 }
 
@@ -54,24 +58,25 @@ fn push_report<N: Names, V: View>(
 ) -> Result<(), AllocError>
     requires labels { length line.now.stmt.now.labels ≤ 1000 }
     requires text { length line.now.text.now ≤ 1000 }
-    ensures { OnOk result (out.new ≡ out.old ++ report_of page.now.style page.now.file.now (N.environment names.now line.now.address) (V.shown view.now) (line_of line.now) fault) }
+    ensures { OnOk result (out.new ≡ out.old ++ report_of page.now.style (source_of page.now) (N.environment names.now line.now.address) (V.shown view.now) (line_of line.now) fault) }
 {
     let mut message = Text::new(alloc);
     push_message(&mut message, alloc, line, names, view, fault)?;
     let name = fault_name(fault.number).as_bytes();
+    let origin = origin_of(page, line.number);
     push_message_row(
         out,
-        page,
-        line.number,
+        page.style,
+        &origin,
         fault.span.from,
         Gravity::Error,
         message.bytes(),
         name,
     )?;
-    push_line_row(out, line.number, line.text)?;
-    push_mark_row(out, alloc, page.style, line.number, line.text, fault.span)?;
+    push_line_row(out, origin.line, line.text)?;
+    push_mark_row(out, alloc, page.style, origin.line, line.text, fault.span)?;
     let place = view.definition(part(line.text, fault.span));
-    push_note(out, page.file, fault.number, place)
+    push_note(out, page, fault.number, place)
 }
 
 /// Appends the rows of a fault to a list of bytes: its message, the line, and a mark under the bytes at fault. For a second
@@ -91,7 +96,7 @@ pub fn report<N: Names, V: View>(
 ) -> Result<(), AllocError>
     requires labels { length line.now.stmt.now.labels ≤ 1000 }
     requires text { length line.now.text.now ≤ 1000 }
-    ensures appended { OnOk result (out.new.items ≡ out.old.items ++ report_of page.now.style page.now.file.now (N.environment names.now line.now.address) (V.shown view.now) (line_of line.now) fault) }
+    ensures appended { OnOk result (out.new.items ≡ out.old.items ++ report_of page.now.style (source_of page.now) (N.environment names.now line.now.address) (V.shown view.now) (line_of line.now) fault) }
     ensures refused { OnErr result (out.new.items ≡ out.old.items) }
 {
     let mut text = Text::new(alloc);
@@ -110,21 +115,22 @@ fn push_warning(
     warning: &Warning<'_>,
 ) -> Result<(), AllocError>
     requires { length text.now ≤ 1000 }
-    ensures { OnOk result (out.new ≡ out.old ++ warning_report_of page.now.style page.now.file.now number text.now (warning_seen warning.now)) }
+    ensures { OnOk result (out.new ≡ out.old ++ warning_report_of page.now.style (source_of page.now) number text.now (warning_seen warning.now)) }
 {
     let mut message = Text::new(alloc);
     push_warning_message(&mut message, warning.label)?;
+    let origin = origin_of(page, number);
     push_message_row(
         out,
-        page,
-        number,
+        page.style,
+        &origin,
         warning.span.from,
         Gravity::Warning,
         message.bytes(),
         b"label-as-register",
     )?;
-    push_line_row(out, number, text)?;
-    push_mark_row(out, alloc, page.style, number, text, warning.span)
+    push_line_row(out, origin.line, text)?;
+    push_mark_row(out, alloc, page.style, origin.line, text, warning.span)
 }
 
 /// Appends the rows of a warning about a line, by its number and its bytes, to a list of bytes: what it says, the line, and a mark under
@@ -142,7 +148,7 @@ pub fn report_warning(
     warning: &Warning<'_>,
 ) -> Result<(), AllocError>
     requires { length text.now ≤ 1000 }
-    ensures appended { OnOk result (out.new.items ≡ out.old.items ++ warning_report_of page.now.style page.now.file.now number text.now (warning_seen warning.now)) }
+    ensures appended { OnOk result (out.new.items ≡ out.old.items ++ warning_report_of page.now.style (source_of page.now) number text.now (warning_seen warning.now)) }
     ensures refused { OnErr result (out.new.items ≡ out.old.items) }
 {
     let mut rows = Text::new(alloc);

@@ -1,9 +1,12 @@
 //! The rows of a report.
 
 ghost use Rattle.std.specs.Prelude.{◌≡◌, ◌+◌, ◌^◌, ◌<◌, ◌≤◌, ◌++◌, codes, decimal, length, OnOk};
+ghost use Rattle.rv_report.specs.Characters.{shown_name};
+ghost use Rattle.rv_report.specs.Origins.{origin_seen, source_of};
 ghost use Rattle.rv_report.specs.Reports.{amount_of, both_counts, counts_text, first_shown, gravity_text, last_row, last_rows, line_row, margin, mark, mark_row, message_row, note_at, note_by, painted, part_shown, rendition, shown_line, text_end};
 
-use crate::characters::{column_of, push_shown};
+use crate::characters::{column_of, push_name, push_shown};
+use crate::origins::{Origin, origin_of};
 use crate::reports::{Gravity, Page, Style};
 use crate::text::Text;
 use itoa::Buffer;
@@ -41,12 +44,12 @@ fn push_painted(out: &mut Text, style: Style, color: &[u8], text: &[u8]) -> Resu
 }
 
 // Appends a place: the file and the line.
-fn push_place(out: &mut Text, file: &[u8], line: u32) -> Result<(), AllocError>
-    ensures { OnOk result (out.new ≡ out.old ++ (file.now ++ (codes ":" ++ decimal line))) }
+fn push_place(out: &mut Text, origin: &Origin<'_>) -> Result<(), AllocError>
+    ensures { OnOk result (out.new ≡ out.old ++ (shown_name 0 origin.now.file.now ++ (codes ":" ++ decimal origin.now.line))) }
 {
-    out.push(file)?;
+    push_name(out, origin.file)?;
     out.push(b":")?;
-    out.push_number(line)
+    out.push_number(origin.line)
 }
 
 // Appends a column, counted from 1.
@@ -70,20 +73,20 @@ fn push_gravity(out: &mut Text, style: Style, gravity: Gravity) -> Result<(), Al
 #[tactic(auto, unfolding(crate::specs::Reports::message_row))]
 pub fn push_message_row(
     out: &mut Text,
-    page: &Page<'_>,
-    line: u32,
+    style: Style,
+    origin: &Origin<'_>,
     from: u32,
     gravity: Gravity,
     message: &[u8],
     name: &[u8],
 ) -> Result<(), AllocError>
-    ensures { OnOk result (out.new ≡ out.old ++ message_row page.now.style page.now.file.now line from gravity message.now name.now) }
+    ensures { OnOk result (out.new ≡ out.old ++ message_row style (origin_seen origin.now) from gravity message.now name.now) }
 {
-    push_place(out, page.file, line)?;
+    push_place(out, origin)?;
     out.push(b":")?;
     push_column(out, from)?;
     out.push(b": ")?;
-    push_gravity(out, page.style, gravity)?;
+    push_gravity(out, style, gravity)?;
     out.push(b" ")?;
     out.push(message)?;
     out.push(b" [")?;
@@ -121,7 +124,7 @@ fn push_shown_line(out: &mut Text, line: &[u8]) -> Result<(), AllocError>
 
 // Appends the number of a line at the right end of its columns.
 #[tactic(auto, unfolding(crate::specs::Reports::margin))]
-fn push_margin(out: &mut Text, line: u32) -> Result<(), AllocError>
+fn push_margin(out: &mut Text, line: u64) -> Result<(), AllocError>
     ensures { OnOk result (out.new ≡ out.old ++ margin line) }
 {
     let mut buffer = Buffer::new();
@@ -132,7 +135,7 @@ fn push_margin(out: &mut Text, line: u32) -> Result<(), AllocError>
 
 /// Appends the row that shows a line.
 #[tactic(auto, unfolding(crate::specs::Reports::line_row))]
-pub fn push_line_row(out: &mut Text, line: u32, text: &[u8]) -> Result<(), AllocError>
+pub fn push_line_row(out: &mut Text, line: u64, text: &[u8]) -> Result<(), AllocError>
     requires { length text.now ≤ 1000 }
     ensures { OnOk result (out.new ≡ out.old ++ line_row line text.now) }
 {
@@ -144,7 +147,7 @@ pub fn push_line_row(out: &mut Text, line: u32, text: &[u8]) -> Result<(), Alloc
 
 // How many columns the number of a line takes.
 #[tactic(auto, unfolding(crate::specs::Reports::margin))]
-fn margin_width(line: u32) -> usize
+fn margin_width(line: u64) -> usize
     ensures { result ≡ length (margin line) }
 {
     let mut buffer = Buffer::new();
@@ -166,7 +169,7 @@ pub fn push_mark_row(
     out: &mut Text,
     alloc: Global,
     style: Style,
-    line: u32,
+    line: u64,
     text: &[u8],
     span: Span,
 ) -> Result<(), AllocError>
@@ -186,29 +189,29 @@ pub fn push_mark_row(
 
 // Appends the row that says where the first definition of a name is.
 #[tactic(auto, unfolding(crate::specs::Reports::note_at))]
-fn push_note_at(out: &mut Text, file: &[u8], line: u32) -> Result<(), AllocError>
-    ensures { OnOk result (out.new ≡ out.old ++ note_at file.now line) }
+fn push_note_at(out: &mut Text, origin: &Origin<'_>) -> Result<(), AllocError>
+    ensures { OnOk result (out.new ≡ out.old ++ note_at (origin_seen origin.now)) }
 {
-    push_place(out, file, line)?;
+    push_place(out, origin)?;
     out.push(b": note: the first definition is here\n")
 }
 
 /// Appends the row that says where the first definition of a name is, for a fault that is about a later one.
 pub fn push_note(
     out: &mut Text,
-    file: &[u8],
+    page: &Page<'_>,
     number: FaultNumber,
     place: DefinitionPlace,
 ) -> Result<(), AllocError>
-    ensures { OnOk result (out.new ≡ out.old ++ note_by number file.now place) }
+    ensures { OnOk result (out.new ≡ out.old ++ note_by number (source_of page.now) place) }
 {
     if number != FaultNumber::Duplicate {
         return Ok(());
     }
     match place {
         DefinitionPlace::Nowhere => Ok(()),
-        DefinitionPlace::Label(line, _) => push_note_at(out, file, line),
-        DefinitionPlace::Equ(line) => push_note_at(out, file, line),
+        DefinitionPlace::Label(line, _) => push_note_at(out, &origin_of(page, line)),
+        DefinitionPlace::Equ(line) => push_note_at(out, &origin_of(page, line)),
     }
 }
 

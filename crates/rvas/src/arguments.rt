@@ -74,6 +74,8 @@ pub struct Arguments<'a> {
     pub warnings: bool,
     /// Whether a text with a warning is taken for wrong.
     pub werror: bool,
+    /// Whether reports give the lines of the file that was read, whatever marks it has.
+    pub has_own_lines: bool,
 }
 
 const COLORS: [&str; 3] = ["always", "never", "auto"];
@@ -125,6 +127,14 @@ fn all_option<'a>(alloc: Global) -> Arg<'a> {
         .action(ArgAction::SetTrue)
 }
 
+// Whether reports give the lines of the file that was read.
+fn no_line_marks_option<'a>(alloc: Global) -> Arg<'a> {
+    Arg::new(alloc, "no-line-marks")
+        .long("no-line-marks")
+        .help("Report the lines of FILE itself, not those that its line marks name")
+        .action(ArgAction::SetTrue)
+}
+
 // Whether there are warnings, and what they change.
 fn with_warnings<'a>(alloc: Global, command: Command<'a>) -> Result<Command<'a>, AllocError> {
     let warnings = Arg::new(alloc, "warnings")
@@ -144,7 +154,10 @@ fn with_warnings<'a>(alloc: Global, command: Command<'a>) -> Result<Command<'a>,
 
 // How reports are shown.
 fn with_reports<'a>(alloc: Global, command: Command<'a>) -> Result<Command<'a>, AllocError> {
-    let command = command.arg(color_option(alloc))?.arg(all_option(alloc))?;
+    let command = command
+        .arg(color_option(alloc))?
+        .arg(all_option(alloc))?
+        .arg(no_line_marks_option(alloc))?;
     with_warnings(alloc, command)
 }
 
@@ -341,6 +354,7 @@ fn arguments_of<'a>(
         all: matches.get_flag("all"),
         warnings: matches.get_str("warnings") != Some("off"),
         werror: matches.get_flag("werror"),
+        has_own_lines: matches.get_flag("no-line-marks"),
     })
 }
 

@@ -13,9 +13,9 @@ use crate::noting::{Noting, unless_closed};
 use crate::output::Output;
 use crate::sums::Sums;
 use rv_dis::{DisRow, first_row};
-use rv_files::{Counts, ReportError, Wanted, report_counts, write_reports};
+use rv_files::{Counts, ReportError, Wanted, line_marks, report_counts, write_reports};
 use rv_list::write_listing;
-use rv_report::{Page, Style};
+use rv_report::{LineMark, Page, Style};
 use rv_store::Store;
 use rv_text::StdSink;
 use std::env::{self, VarError};
@@ -56,6 +56,19 @@ fn style_of(rt: &HostRuntime, color: Color) -> Style {
     }
 }
 
+// The marks in a text that say where its lines come from, unless these are left aside.
+fn marks_in<'a>(
+    rt: &HostRuntime,
+    arguments: &Arguments<'_>,
+    store: &'a Store,
+) -> Result<Vec<LineMark<'a>>, Failure> {
+    if arguments.has_own_lines {
+        Ok(Vec::new(rt.alloc()))
+    } else {
+        Ok(line_marks(rt.alloc(), store)?)
+    }
+}
+
 // Writes the reports of a text to standard error, and counts the faults and warnings. Where they cannot be written, they are lost.
 fn report(
     rt: &HostRuntime,
@@ -68,8 +81,10 @@ fn report(
     ensures warnings { IfOk result (λ counts. counts.warnings ≡ asked_warnings store.now arguments.now.warnings) }
 {
     let file = format!(in rt.alloc(); "{}", shown_file(name))?;
+    let marks = marks_in(rt, arguments, store)?;
     let page = Page {
         file: file.as_bytes(),
+        marks: marks.as_slice(),
         style: style_of(rt, arguments.color),
     };
     let wanted = Wanted {

@@ -2,6 +2,7 @@ use Rattle.std.proofs.Common.{◌≡◌, ◌-◌, List, ℕ, [], map, take, true
 use Rattle.std.specs.List.{concat}
 use Rattle.std.proofs.lemmas.Result.{err_from_is_err_and}
 use Rattle.rv_text.specs.StreamLaws.{prefix_first, writes_then}
+use Rattle.rv_report.specs.Origins.{source_of}
 use Rattle.rv_files.specs.TextReports.{all_reports, all_warnings, fault_count}
 use Rattle.rv_files.proofs.FirstReports.{all_counted, first_of_both, is_on}
 use Rattle.rv_files.proofs.reporting.write_first.Goals as goal
@@ -11,24 +12,24 @@ returns-in_err-write_lines-clause-text g c =
     let p = err_from_is_err_and c.from_residual.result c.from_residual.ensures.1 in
     let store = c.args.store.now in
     let style = c.args.page.now.style in
-    let file = c.args.page.now.file.now in
+    let source = source_of c.args.page.now in
     let symbols = map (λ s. s.now) c.args.symbols.now in
     let most = c.args.wanted.most in
-    let faults = all_reports style file store symbols in
-    let warnings = if c.args.wanted.warnings then all_warnings style file store else [] in
-    let whole = first_of_both most (fault_count store) faults warnings (all_counted style file store symbols) in
+    let faults = all_reports style source store symbols in
+    let warnings = if c.args.wanted.warnings then all_warnings style source store else [] in
+    let whole = first_of_both most (fault_count store) faults warnings (all_counted style source store symbols) in
     rw p.1 (prefix_first _ _ (concat (take most faults)) (concat (take (most - fault_count store) warnings)) _ whole c.in_err-write_lines.ensures.text)
 
 pub returns-clause-text : goal.returns-clause-text
 returns-clause-text g c =
     let store = c.args.store.now in
     let style = c.args.page.now.style in
-    let file = c.args.page.now.file.now in
+    let source = source_of c.args.page.now in
     let symbols = map (λ s. s.now) c.args.symbols.now in
     let most = c.args.wanted.most in
-    let faults = all_reports style file store symbols in
-    let warnings = all_warnings style file store in
-    let whole = first_of_both most (fault_count store) faults warnings (all_counted style file store symbols) in
+    let faults = all_reports style source store symbols in
+    let warnings = all_warnings style source store in
+    let whole = first_of_both most (fault_count store) faults warnings (all_counted style source store symbols) in
     let on : c.args.wanted.warnings ≡ true = is_on c.args.wanted.warnings c.if-not-wanted.false in
     let left : c.saturating_sub-left.result ≡ most - fault_count store = omega (arith, c.saturating_sub-left.ensures, c.requires.faults) in
     let text = rw left at c.write_warnings.ensures.text in
