@@ -52,11 +52,7 @@ fn push_base_message(out: &mut Text, word: &[u8]) -> Result<(), AllocError>
 }
 
 // Appends what is wrong with the parentheses of some tokens.
-fn push_parenthesis_message(
-    out: &mut Text,
-    line: &[u8],
-    tokens: &[Token],
-) -> Result<(), AllocError>
+fn push_parenthesis_message(out: &mut Text, line: &[u8], tokens: &[Token]) -> Result<(), AllocError>
     ensures { OnOk result (out.new ≡ out.old ++ parenthesis_message line.now tokens.now) }
 {
     if has_word(b"(", line, tokens) && !has_word(b")", line, tokens) {

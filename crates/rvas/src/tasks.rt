@@ -113,11 +113,7 @@ fn report_faults(
     ensures { IfOk result (λ count. count ≡ fault_count store.now + (if arguments.now.werror then asked_warnings store.now arguments.now.warnings else 0)) }
 {
     let counts = report(rt, arguments, name, store)?;
-    let warnings = if arguments.werror {
-        counts.warnings
-    } else {
-        0
-    };
+    let warnings = if arguments.werror { counts.warnings } else { 0 };
     Ok(counts.faults + warnings)
 }
 
