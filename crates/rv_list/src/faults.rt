@@ -1,6 +1,6 @@
 //! The faults of a text.
 
-ghost use Rattle.std.specs.Prelude.{◌≡◌, ◌-◌, ◌^◌, ◌+◌, ◌<◌, ◌≤◌, ◌++◌, ◌==◌, not, length, map, Some};
+ghost use Rattle.std.specs.Prelude.{◌≡◌, ◌-◌, ◌^◌, ◌*◌, ◌+◌, ◌<◌, ◌≤◌, ◌++◌, ◌==◌, not, length, map, Some};
 ghost use Rattle.std.specs.List.{concat, list_any};
 ghost use Rattle.rv_text.specs.Blocks.{Gathers};
 ghost use Rattle.rv_text.specs.Streams.{failures_after, Writes};
@@ -179,11 +179,12 @@ pub fn find_faults<V: View>(
     push_at_name(faults, lost, FaultNumber::InBss, body.name());
 }
 
-// How many faults there are; `lines` are all lines of the view.
-fn count_faults<V: View, L: TestedLines>(view: &V, mut lines: L) -> u32
+/// How many faults a text has; `lines` are all lines of the view.
+pub fn count_faults<V: View, L: TestedLines>(view: &V, mut lines: L) -> u32
     requires text { L.shown lines ≡ V.shown view.now }
     requires first { L.passed lines ≡ 0 }
-    ensures { result ≡ length (fault_rows (V.shown view.now)) }
+    ensures value { result ≡ length (fault_rows (V.shown view.now)) }
+    ensures few { result ≤ 1004 * 16384 }
 {
     let mut faults = ArrayVec::new();
     let mut count = 0;

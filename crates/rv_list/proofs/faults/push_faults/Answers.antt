@@ -9,10 +9,10 @@ unfolding fault_text
 returns-in_err-push_count-clause-text g c =
     let p = err_from_is_err_and c.from_residual.result c.from_residual.ensures.1 in
     let rows = fault_rows (g.V.View.shown c.args.view.now) in
-    rw p.1 (lost_count _ rows _ _ _ _ (sym c.count_faults-count.ensures) c.in_err-push_count.ensures.text)
+    rw p.1 (lost_count _ rows _ _ _ _ (sym c.count_faults-count.ensures.value) c.in_err-push_count.ensures.text)
 
 pub returns-clause-text : goal.returns-clause-text
 unfolding fault_text
 returns-clause-text g c =
     let rows = fault_rows (g.V.View.shown c.args.view.now) in
-    gathers_counted _ rows _ _ _ _ _ _ _ _ (sym c.count_faults-count.ensures) c.in_ok-push_count.ensures.text c.push_fault_rows.ensures.text
+    gathers_counted _ rows _ _ _ _ _ _ _ _ (sym c.count_faults-count.ensures.value) c.in_ok-push_count.ensures.text c.push_fault_rows.ensures.text
