@@ -2,5 +2,6 @@ pub mod Columns
 pub mod Distances
 mod Examples
 pub mod Joining
+pub mod LastMarks
 pub mod RangeLimits
 pub mod Strings

@@ -1,7 +1,8 @@
 -- The messages of lexical faults.
-use Rattle.std.specs.Prelude.{ℕ, ◌==◌, ◌||◌, List, [], ◌∷◌, ◌++◌, length, take, drop, Option, Some, None, codes, if◌then◌else◌}
+use Rattle.std.specs.Prelude.{ℕ, zero, suc, ◌-◌, ◌==◌, ◌||◌, List, [], ◌∷◌, ◌++◌, length, take, drop, slice_index, codes, if◌then◌else◌}
 use Rattle.std.specs.Char.{is_digit}
-use Rattle.rv_text.specs.Strings.{escaped_at}
+use Rattle.std.specs.Option.{option_map_or}
+use Rattle.rv_text.specs.Strings.{spelled}
 use Rattle.rv_report.specs.declared.advice.Topic.TheVariants.{Character}
 use Rattle.rv_report.specs.Advice.{advice}
 use Rattle.rv_report.specs.Characters.{size_of_first}
@@ -61,21 +62,16 @@ bad_number text = about [] text (codes " is not a number") ++ number_wrong (base
 
 -- Strings
 
--- the place behind the byte or escape that begins at a place of a string or character, and 0 where none begins
-abbrev pub place_behind : Option (ℕ × ℕ) → ℕ
-place_behind None = 0
-place_behind (Some p) = p.1
+-- some bytes from the first place on at which neither a byte nor an escape begins; the first `taken` belong to the one before
+abbrev pub unspelled_after : (quote taken : ℕ) → List ℕ → List ℕ
+unspelled_after quote taken [] = []
+unspelled_after quote (suc taken) (b ∷ bs) = unspelled_after quote taken bs
+unspelled_after quote zero (b ∷ bs) =
+    if b == quote then b ∷ bs else option_map_or (λ s. unspelled_after quote (s.len - 1) bs) (spelled (b ∷ bs)) (b ∷ bs)
 
-abbrev pub next_place : List ℕ → (at : ℕ) → ℕ
-next_place text at = place_behind (escaped_at text at)
-
--- the place after one byte or escape for each of some bytes, or the first one at which there is none
-abbrev pub stop_after : (bytes text : List ℕ) → (at : ℕ) → ℕ
-stop_after [] text at = at
-stop_after (b ∷ bs) text at = if next_place text at == 0 then at else stop_after bs text (next_place text at)
-
-abbrev pub stop_of : List ℕ → ℕ
-stop_of text = stop_after text text 1
+-- the rest of a string or character from the first such place on, after the opening quotation mark
+abbrev pub unspelled : List ℕ → List ℕ
+unspelled text = unspelled_after (slice_index text 0) 0 (drop 1 text)
 
 -- what is wrong where neither a byte nor an escape begins
 abbrev pub string_stopped : List ℕ → List ℕ
@@ -85,4 +81,4 @@ string_stopped (b ∷ bs) =
     else codes "a character is one byte of ASCII; a string stands in double quotation marks"
 
 unfoldable pub bad_string : List ℕ → List ℕ
-bad_string text = string_stopped (drop (stop_of text) text)
+bad_string text = string_stopped (unspelled text)

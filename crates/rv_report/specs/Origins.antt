@@ -1,5 +1,7 @@
 -- Where the lines of a text come from: a preprocessor leaves marks that say it. (docs/FILES.md, Line marks)
-use Rattle.std.specs.Prelude.{ℕ, ◌+◌, ◌-◌, nat_lt, List, [], ◌∷◌, map, if◌then◌else◌}
+use Rattle.std.specs.Prelude.{ℕ, ◌+◌, ◌-◌, nat_lt, List, map, None}
+use Rattle.std.specs.List.{last_or, take_while}
+use Rattle.std.specs.Option.{option_map_or}
 use Rattle.rv_report.specs.declared.origins.LineMark.{LineMark}
 use Rattle.rv_report.specs.declared.origins.Origin as declared
 use Rattle.rv_report.specs.declared.reports.Page.{Page}
@@ -36,12 +38,11 @@ origin_seen origin = record { file = origin.file.now; line = origin.line }
 abbrev pub origin_by : Mark → (line : ℕ) → Origin
 origin_by mark line = record { file = mark.file; line = mark.line + (line - mark.on - 1) }
 
--- where a line comes from by the last of the marks above it, and as given where there is none
-abbrev pub origin_after : (given : Origin) → List Mark → (line : ℕ) → Origin
-origin_after given [] line = given
-origin_after given (mark ∷ later) line =
-    if nat_lt mark.on line then origin_after (origin_by mark line) later line else given
+-- the marks above a line, up to the first that is not
+abbrev pub marks_above : (line : ℕ) → List Mark → List Mark
+marks_above line marks = take_while (λ mark. nat_lt mark.on line) marks
 
--- where a line of a source comes from
+-- where a line of a source comes from: by the last mark above it, and from itself where there is none
 abbrev pub origin_of : Source → (line : ℕ) → Origin
-origin_of source line = origin_after (record { file = source.file; line = line }) source.marks line
+origin_of source line =
+    option_map_or (λ mark. origin_by mark line) (last_or None (marks_above line source.marks)) (record { file = source.file; line = line })

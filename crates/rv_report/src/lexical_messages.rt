@@ -1,7 +1,9 @@
 //! The messages of lexical faults.
 
-ghost use Rattle.std.specs.Prelude.{◌≡◌, ◌≤◌, ◌++◌, drop, slice_index, OnOk};
-ghost use Rattle.rv_report.specs.LexicalMessages.{bad_byte, bad_number, bad_string, base_of, byte_help, digits_of, from_first_wrong, next_place, no_digit, number_help, number_wrong, stop_of, string_stopped};
+ghost use Rattle.std.specs.Prelude.{◌≡◌, ◌<◌, ◌≤◌, ◌++◌, drop, slice_index, OnOk};
+ghost use Rattle.std.specs.Option.{option_map_or};
+ghost use Rattle.rv_text.specs.Strings.{escaped_at};
+ghost use Rattle.rv_report.specs.LexicalMessages.{bad_byte, bad_number, bad_string, base_of, byte_help, digits_of, from_first_wrong, no_digit, number_help, number_wrong, unspelled, string_stopped};
 
 use crate::advice::{Topic, advice};
 use crate::characters::size_of_first;
@@ -130,7 +132,8 @@ pub fn push_bad_number(out: &mut Text, text: &[u8]) -> Result<(), AllocError>
 
 // The place behind the byte or escape that begins at a place of a string or character, and 0 where none begins.
 fn next_place(text: &[u8], at: usize) -> usize
-    ensures { result ≡ next_place text.now at }
+    ensures value { result ≡ option_map_or (λ p. p.1) (escaped_at text.now at) 0 }
+    ensures rises { 0 < result → at < result }
 {
     match escaped(text, at) {
         Some((_, next)) => next,
@@ -140,7 +143,7 @@ fn next_place(text: &[u8], at: usize) -> usize
 
 // The first place of a string or character at which neither a byte nor an escape of it begins.
 fn stop_of(text: &[u8]) -> usize
-    ensures { result ≡ stop_of text.now }
+    ensures { drop result text.now ≡ unspelled text.now }
 {
     let mut at = 1;
     let mut bytes = text;

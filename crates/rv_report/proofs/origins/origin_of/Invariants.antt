@@ -1,5 +1,6 @@
 use Rattle.std.proofs.Common.{◌≡◌, length, map}
-use Rattle.rv_report.specs.Origins.{mark_of, origin_after, origin_of, origin_seen, source_of}
+use Rattle.rv_report.specs.Origins.{mark_of, origin_of, origin_seen, source_of}
+use Rattle.rv_report.proofs.LastMarks.{origin_after}
 use Rattle.rv_report.proofs.origins.origin_of.Given as goal
 
 -- the marks that are left decide
