@@ -1,5 +1,6 @@
 -- What messages advise, by the names that they are about.
-use Rattle.std.specs.Prelude.{ℕ, Bool, true, false, List, [], ◌∷◌, map, if◌then◌else◌}
+use Rattle.std.specs.Prelude.{ℕ, Bool, List, [], ◌∷◌, map, if◌then◌else◌}
+use Rattle.std.specs.List.{list_any}
 use Rattle.std.specs.Str.{str_eq_ignore_ascii_case}
 use Rattle.rv_report.specs.declared.advice.Topic.{Topic}
 use Rattle.rv_report.specs.declared.advice.Topic.TheVariants.{OtherDirective, OtherMnemonic, Rv64Mnemonic, RegisterGiven, LabelGiven, NumberGiven, NameGiven, OperandGiven, RegisterLetter, RangeExceeded, Character}
@@ -7,8 +8,7 @@ use Rattle.rv_report.specs.declared.advice_tables.TheConstants.{CHARACTERS, LABE
 
 -- a name is one of some, in either letter case
 abbrev pub is_any : List (List ℕ) → List ℕ → Bool
-is_any [] name = false
-is_any (n ∷ ns) name = if str_eq_ignore_ascii_case n name then true else is_any ns name
+is_any names name = list_any (λ n. str_eq_ignore_ascii_case n name) names
 
 -- the advice of the first row that has the name
 abbrev pub advice_in : List (List (List ℕ) × List ℕ) → List ℕ → List ℕ

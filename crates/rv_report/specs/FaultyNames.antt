@@ -1,5 +1,6 @@
 -- The name that an operand has no value for: the first one in the order of evaluation that has none itself.
 use Rattle.std.specs.Prelude.{ℕ, ℤ, is_err, List, ◌++◌, Option, Some, None, Result, codes, decimal, if◌then◌else◌}
+use Rattle.std.specs.Option.{option_or}
 use Rattle.rv_expr.specs.declared.faults.ValueFault.{ValueFault}
 use Rattle.rv_expr.specs.declared.tree.Direction.{Direction}
 use Rattle.rv_expr.specs.declared.tree.Direction.TheVariants.{Back, Forward}
@@ -23,17 +24,13 @@ name_used used.Here = labels.Here
 abbrev pub unless_valued : Result ℤ ValueFault → LabelReference → Option LabelReference
 unless_valued value name = if is_err value then Some name else None
 
-abbrev pub first_of : Option LabelReference → Option LabelReference → Option LabelReference
-first_of (Some name) other = Some name
-first_of None other = other
-
 abbrev pub faulty_name : Environment → Tree → Option LabelReference
 faulty_name given (Number n) = None
 faulty_name given (Symbol name) = unless_valued (given.symbol name) (labels.Symbol name)
 faulty_name given (Local number direction) = unless_valued (given.local number direction) (labels.Local number direction)
 faulty_name given Here = unless_valued given.here labels.Here
 faulty_name given (Unary op a) = faulty_name given a
-faulty_name given (Binary op a b) = first_of (faulty_name given a) (faulty_name given b)
+faulty_name given (Binary op a b) = option_or (faulty_name given a) (faulty_name given b)
 
 -- the label of a low half, if it has no definition; the place of a line is no label
 abbrev pub faulty_label : Environment → LabelReference → Option LabelReference

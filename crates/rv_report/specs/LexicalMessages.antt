@@ -1,6 +1,7 @@
 -- The messages of lexical faults.
 use Rattle.std.specs.Prelude.{ℕ, zero, suc, ◌-◌, ◌==◌, ◌||◌, List, [], ◌∷◌, ◌++◌, length, take, drop, slice_index, codes, if◌then◌else◌}
 use Rattle.std.specs.Char.{is_digit}
+use Rattle.std.specs.List.{prefix_len}
 use Rattle.std.specs.Option.{option_map_or}
 use Rattle.rv_text.specs.Strings.{spelled}
 use Rattle.rv_report.specs.declared.advice.Topic.TheVariants.{Character}
@@ -39,8 +40,7 @@ digits_of base text = if base == 16 || base == 2 then drop 2 text else text
 
 -- the first byte that is no digit of the base, and what follows it
 abbrev pub from_first_wrong : (base : ℕ) → List ℕ → List ℕ
-from_first_wrong base [] = []
-from_first_wrong base (c ∷ cs) = if is_digit c base then from_first_wrong base cs else c ∷ cs
+from_first_wrong base digits = drop (prefix_len (λ c. is_digit c base) digits) digits
 
 abbrev pub no_digit : (base : ℕ) → List ℕ
 no_digit base =

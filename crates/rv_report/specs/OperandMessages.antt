@@ -1,6 +1,7 @@
 -- The messages of operands that a statement does not take.
-use Rattle.std.specs.Prelude.{ℕ, Bool, true, false, ◌==◌, ◌||◌, ◌&&◌, not, bytes_eq, is_some, List, [], ◌∷◌, ◌++◌, length, take, slice_index, codes, if◌then◌else◌}
+use Rattle.std.specs.Prelude.{ℕ, Bool, false, ◌==◌, ◌||◌, ◌&&◌, not, bytes_eq, is_some, List, [], ◌∷◌, ◌++◌, length, take, slice_index, codes, if◌then◌else◌}
 use Rattle.std.specs.Char.{is_ascii_digit}
+use Rattle.std.specs.List.{list_any}
 use Rattle.rv_text.specs.declared.lexeme.Token.{Token}
 use Rattle.rv_text.specs.Lexing.{lexed_line}
 use Rattle.rv_ops.specs.Registers.{register_named}
@@ -69,8 +70,7 @@ abbrev pub registers_like : List ℕ → List ℕ
 registers_like word = if is_ascii_digit (slice_index word 1) then advice RegisterLetter (take 1 word) else []
 
 abbrev pub has_parenthesis : List ℕ → Bool
-has_parenthesis [] = false
-has_parenthesis (b ∷ bs) = if b == 0x28 then true else has_parenthesis bs
+has_parenthesis text = list_any (λ b. b == 0x28) text
 
 -- a name that is like no register is meant for an address
 abbrev pub name_help : (statement text : List ℕ) → List ℕ
@@ -93,8 +93,7 @@ no_register text help = about [] text (codes " is not a register") ++ help
 
 -- a word is one of some tokens
 abbrev pub has_word : (word line : List ℕ) → List Token → Bool
-has_word word line [] = false
-has_word word line (t ∷ ts) = if bytes_eq (part line t.span) word then true else has_word word line ts
+has_word word line ts = list_any (λ t. bytes_eq (part line t.span) word) ts
 
 -- the word in parentheses that ends some tokens without a modifier
 abbrev pub base_in : (line : List ℕ) → List Token → List ℕ

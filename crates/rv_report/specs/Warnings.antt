@@ -1,6 +1,6 @@
 -- What a line may do that its writer did not mean: the number of a control and status register is taken from a label.
 use Rattle.std.specs.Prelude.{ℕ, Bool, true, false, List, [], ◌∷◌, Option, Some, None, codes, if◌then◌else◌}
-use Rattle.std.specs.Option.{option_map}
+use Rattle.std.specs.Option.{option_map, option_or}
 use Rattle.rv_text.specs.declared.lexeme.Span.{Span}
 use Rattle.rv_expr.specs.Tree.{Tree, Number, Symbol, Local, Here, Unary, Binary}
 use Rattle.rv_stmt.specs.declared.operand.Operand.{Operand}
@@ -32,10 +32,6 @@ abbrev pub is_label : DefinitionPlace → Bool
 is_label (Label line index) = true
 is_label place = false
 
-abbrev pub first_of : {A : Type 0} → Option A → Option A → Option A
-first_of (Some x) other = Some x
-first_of None other = other
-
 -- the first label that an expression uses
 abbrev pub label_in : Shown → Tree → Option (List ℕ)
 label_in shown (Number n) = None
@@ -43,7 +39,7 @@ label_in shown (Symbol name) = if is_label (shown.definition name) then Some nam
 label_in shown (Local number direction) = None
 label_in shown Here = None
 label_in shown (Unary op a) = label_in shown a
-label_in shown (Binary op a b) = first_of (label_in shown a) (label_in shown b)
+label_in shown (Binary op a b) = option_or (label_in shown a) (label_in shown b)
 
 -- Numbers of registers
 
@@ -57,7 +53,7 @@ warning_about shown o = option_map (λ label. record { span = o.span; label = la
 
 abbrev pub first_warning : Shown → List Operand → Option Warning
 first_warning shown [] = None
-first_warning shown (o ∷ os) = first_of (warning_about shown o) (first_warning shown os)
+first_warning shown (o ∷ os) = option_or (warning_about shown o) (first_warning shown os)
 
 -- the warning about a line, by its body
 abbrev pub warning_of : Shown → Body → Option Warning
