@@ -31,6 +31,7 @@ use Rattle.rv_report.specs.Csrs.{counter_number, its_number, standard_number, un
 use Rattle.rv_report.specs.LexicalMessages.{bad_byte, bad_number, bad_string, number_wrong}
 use Rattle.rv_report.specs.Lines.{Line}
 use Rattle.rv_report.specs.Messages.{operand_count, register_range, undefined_name, later_equ, line_of_equ, faulty_equ_of, later_line, not_constant, no_partner, beyond_reach, out_of_range, not_multiple, odd_distance, odd_address, message_of}
+use Rattle.rv_report.specs.Numbers.{hexadecimal}
 use Rattle.rv_report.specs.OperandMessages.{comment_help, expected, missing_comma, no_operand, no_register, no_statement, parentheses_of, separation_of}
 use Rattle.rv_report.specs.Reports.{amount_of, both_counts, first_shown, last_row, last_rows, line_row, margin, mark, mark_row, message_row, note_at, painted, rendition, report_of, shown_line, warning_report_of}
 use Rattle.rv_report.specs.Suggestions.{did_you_mean, suggestions}
@@ -159,6 +160,10 @@ large_immediate = refl
 no_zero : message (codes "c.addi a0, 0") (Ok (pos 0) ∷ []) (fault_at fault.Range 11 12) ≡ codes "0 is out of range (-32 to 31, not 0); write the instruction without 'c.'"
 unfolding message_of advice separation_of no_register quoted about did_you_mean suggestions some_numbers from_to gap_text limits_text operand_count register_range undefined_name later_equ line_of_equ faulty_equ_of no_partner beyond_reach out_of_range not_multiple odd_distance odd_address digits operation_named operation_names row_of layout_of register_named register_names csr_named csr_names other_forms slots_of set_named set_names modifier_named modifier_names directive_named directive_names section_named section_names
 no_zero = refl
+
+upper_bits : message (codes "c.lui a0, 32") (Ok (pos 32) ∷ []) (fault_at fault.Range 10 12) ≡ codes "0x20 is out of range (1 to 0xFFFFF, not 0x20 to 0xFFFDF); write the instruction without 'c.'"
+unfolding message_of hexadecimal advice separation_of no_register quoted about did_you_mean suggestions some_numbers from_to gap_text limits_text operand_count register_range undefined_name later_equ line_of_equ faulty_equ_of no_partner beyond_reach out_of_range not_multiple odd_distance odd_address digits operation_named operation_names row_of layout_of register_named register_names csr_named csr_names other_forms slots_of set_named set_names modifier_named modifier_names directive_named directive_names section_named section_names
+upper_bits = refl
 
 far_branch : message (codes "beqz a0, far") (Ok (negsuc 4999) ∷ []) (fault_at fault.Range 9 12) ≡ codes "the target is 5000 bytes behind; the reach is -4096 to 4094; write the opposite branch over a 'j'"
 unfolding message_of advice separation_of no_register quoted about did_you_mean suggestions some_numbers from_to gap_text limits_text operand_count register_range undefined_name later_equ line_of_equ faulty_equ_of no_partner beyond_reach out_of_range not_multiple odd_distance odd_address digits operation_named operation_names row_of layout_of register_named register_names csr_named csr_names other_forms slots_of set_named set_names modifier_named modifier_names directive_named directive_names section_named section_names

@@ -1,6 +1,7 @@
 pub mod Columns
 pub mod Distances
 mod Examples
+pub mod HexadecimalDigits
 pub mod Joining
 pub mod LastMarks
 pub mod RangeLimits

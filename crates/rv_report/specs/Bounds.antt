@@ -1,14 +1,18 @@
 -- The values that an operand may have. (docs/LANGUAGE.md, Faults of values)
 use Rattle.std.specs.Prelude.{ℕ, ℤ, pos, negsuc, int_le, Bool, ◌&&◌, List, [], ◌++◌, codes, if◌then◌else◌}
-use Rattle.std.specs.Fmt.{signed_decimal}
 use Rattle.rv_ops.specs.declared.value_limits.Limits.{Limits}
 use Rattle.rv_ops.specs.Table.{limits_of, shape_of}
+use Rattle.rv_ops.specs.declared.op.Shape.{Shape}
+use Rattle.rv_ops.specs.declared.op.Shape.TheVariants as shape
 use Rattle.rv_stmt.specs.declared.operand.AlignmentUnit.TheVariants.{Bytes, Exponent}
 use Rattle.rv_stmt.specs.declared.operand.DataWidth.TheVariants.{Byte, Half, Word}
 use Rattle.rv_stmt.specs.declared.operand.Role.{Role}
 use Rattle.rv_stmt.specs.declared.operand.Role.TheVariants.{Immediate, SourceImmediate, Target, PairTarget, Constant, Data, Size, FillByte, Alignment, Definition}
 use Rattle.rv_stmt.specs.declared.statement.Body.{Body}
 use Rattle.rv_stmt.specs.declared.statement.Body.TheVariants.{Instr, Pseudo}
+use Rattle.rv_report.specs.declared.numbers.Notation.{Notation}
+use Rattle.rv_report.specs.declared.numbers.Notation.TheVariants.{Decimal, Hexadecimal}
+use Rattle.rv_report.specs.Numbers.{number_text}
 
 -- all values from one to another
 abbrev pub between : ℤ → ℤ → Limits
@@ -45,14 +49,32 @@ limits_in body Definition = word
 abbrev pub is_within : Limits → ℤ → Bool
 is_within l value = int_le l.least value && int_le value l.greatest
 
+-- How values are written
+
+-- the upper 20 bits of a number are written in hexadecimal
+abbrev pub notation_of : Shape → Notation
+notation_of shape.Upper = Hexadecimal
+notation_of shape.CUpper = Hexadecimal
+notation_of s = Decimal
+
+abbrev pub notation_of_body : Body → Notation
+notation_of_body (Instr i) = notation_of (shape_of i.op)
+notation_of_body (Pseudo i) = notation_of (shape_of i.op)
+notation_of_body body = Decimal
+
+-- how an operand's values are written, by its role
+abbrev pub notation_in : Body → Role → Notation
+notation_in body Immediate = notation_of_body body
+notation_in body role = Decimal
+
 -- from a value to another
-unfoldable pub from_to : ℤ → ℤ → List ℕ
-from_to first last = signed_decimal first ++ (codes " to " ++ signed_decimal last)
+unfoldable pub from_to : Notation → ℤ → ℤ → List ℕ
+from_to notation first last = number_text notation first ++ (codes " to " ++ number_text notation last)
 
 -- the values that are left out, if there are any
-unfoldable pub gap_text : ℤ → ℤ → List ℕ
-gap_text first last =
-    if int_le first last then codes ", not " ++ (if int_le last first then signed_decimal first else from_to first last) else []
+unfoldable pub gap_text : Notation → ℤ → ℤ → List ℕ
+gap_text notation first last =
+    if int_le first last then codes ", not " ++ (if int_le last first then number_text notation first else from_to notation first last) else []
 
-unfoldable pub limits_text : Limits → List ℕ
-limits_text l = from_to l.least l.greatest ++ gap_text l.gap_first l.gap_last
+unfoldable pub limits_text : Notation → Limits → List ℕ
+limits_text notation l = from_to notation l.least l.greatest ++ gap_text notation l.gap_first l.gap_last

@@ -9,6 +9,7 @@ pub mod LanguageNames
 pub mod LexicalMessages
 pub mod Lines
 pub mod Messages
+pub mod Numbers
 pub mod OperandMessages
 pub mod Operands
 pub mod Origins

@@ -1,6 +1,5 @@
 -- The messages of faults.
 use Rattle.std.specs.Prelude.{ℕ, ℤ, pos, ◌+◌, ◌*◌, int_lt, unsigned_abs, bytes_eq, is_some, nat_lt, Bool, true, false, List, [], ◌++◌, length, drop, slice_index, Option, Some, None, codes, decimal, if◌then◌else◌}
-use Rattle.std.specs.Fmt.{signed_decimal}
 use Rattle.rv_text.specs.declared.faults.Fault.{Fault}
 use Rattle.rv_text.specs.declared.faults.FaultNumber.{FaultNumber}
 use Rattle.rv_text.specs.declared.faults.FaultNumber.TheVariants as faults
@@ -26,15 +25,18 @@ use Rattle.rv_list.specs.declared.view.DefinitionPlace.{DefinitionPlace}
 use Rattle.rv_list.specs.declared.view.DefinitionPlace.TheVariants.{Nowhere, Label, Equ}
 use Rattle.rv_list.specs.Shown.{Shown}
 use Rattle.rv_report.specs.declared.advice.Topic.TheVariants.{LabelGiven, RangeExceeded}
+use Rattle.rv_report.specs.declared.numbers.Notation.{Notation}
+use Rattle.rv_report.specs.declared.numbers.Notation.TheVariants.{Decimal}
 use Rattle.rv_report.specs.declared.wanted.Wanted.{Wanted}
 use Rattle.rv_report.specs.declared.wanted.Wanted.TheVariants.{Number, Csr}
 use Rattle.rv_report.specs.Advice.{advice}
-use Rattle.rv_report.specs.Bounds.{limits_in, limits_text}
+use Rattle.rv_report.specs.Bounds.{limits_in, limits_text, notation_in}
 use Rattle.rv_report.specs.Counts.{numbers_text, operands_standing}
 use Rattle.rv_report.specs.Csrs.{unknown_csr}
 use Rattle.rv_report.specs.FaultyNames.{faulty_name_of, low_label_of, name_text}
 use Rattle.rv_report.specs.LexicalMessages.{bad_byte, bad_number, bad_string}
 use Rattle.rv_report.specs.Lines.{Line, part, name_after, word_at}
+use Rattle.rv_report.specs.Numbers.{number_text}
 use Rattle.rv_report.specs.OperandMessages.{bad_operand, bad_register, no_statement, separation_of}
 use Rattle.rv_report.specs.Operands.{operand_at, value_at}
 use Rattle.rv_report.specs.Suggestions.{did_you_mean, suggestions}
@@ -157,35 +159,35 @@ no_partner label = about (codes "no 'auipc .., %pcrel_hi(..)' stands at ") label
 -- Values
 
 -- a value, or the operand that should have one
-abbrev pub amount : (text : List ℕ) → Option ℤ → List ℕ
-amount text None = quoted text
-amount text (Some value) = signed_decimal value
+abbrev pub amount : Notation → (text : List ℕ) → Option ℤ → List ℕ
+amount notation text None = quoted text
+amount notation text (Some value) = number_text notation value
 
 abbrev pub side : ℤ → List ℕ
 side distance = if int_lt distance (pos 0) then codes " bytes behind" else codes " bytes ahead"
 
 unfoldable pub beyond_reach : ℤ → Limits → List ℕ
 beyond_reach distance limits =
-    codes "the target is " ++ (decimal (unsigned_abs distance) ++ (side distance ++ (codes "; the reach is " ++ limits_text limits)))
+    codes "the target is " ++ (decimal (unsigned_abs distance) ++ (side distance ++ (codes "; the reach is " ++ limits_text Decimal limits)))
 
-unfoldable pub out_of_range : List ℕ → Limits → List ℕ
-out_of_range amount limits = amount ++ (codes " is out of range (" ++ (limits_text limits ++ codes ")"))
+unfoldable pub out_of_range : Notation → List ℕ → Limits → List ℕ
+out_of_range notation amount limits = amount ++ (codes " is out of range (" ++ (limits_text notation limits ++ codes ")"))
 
 abbrev pub out_of_reach : (text : List ℕ) → Option ℤ → Limits → List ℕ
-out_of_reach text None limits = out_of_range (quoted text) limits
+out_of_reach text None limits = out_of_range Decimal (quoted text) limits
 out_of_reach text (Some distance) limits = beyond_reach distance limits
 
 -- the value of an alignment is not the number that is written
-abbrev pub range_in_role : Role → (text : List ℕ) → Option ℤ → Limits → List ℕ
-range_in_role Target text value limits = out_of_reach text value limits
-range_in_role PairTarget text value limits = out_of_reach text value limits
-range_in_role (Alignment Bytes) text value limits = about [] text (codes " is not a power of two from 1 to 4096")
-range_in_role (Alignment Exponent) text value limits = out_of_range (quoted text) limits
-range_in_role role text value limits = out_of_range (amount text value) limits
+abbrev pub range_in_role : Role → Notation → (text : List ℕ) → Option ℤ → Limits → List ℕ
+range_in_role Target notation text value limits = out_of_reach text value limits
+range_in_role PairTarget notation text value limits = out_of_reach text value limits
+range_in_role (Alignment Bytes) notation text value limits = about [] text (codes " is not a power of two from 1 to 4096")
+range_in_role (Alignment Exponent) notation text value limits = out_of_range notation (quoted text) limits
+range_in_role role notation text value limits = out_of_range notation (amount notation text value) limits
 
 abbrev pub range_of : Body → (text : List ℕ) → Option ℤ → Option Operand → List ℕ
 range_of body text value None = about [] text (codes " is out of range")
-range_of body text value (Some o) = range_in_role o.role text value (limits_in body o.role)
+range_of body text value (Some o) = range_in_role o.role (notation_in body o.role) text value (limits_in body o.role)
 
 unfoldable pub not_multiple : List ℕ → Limits → List ℕ
 not_multiple amount limits = amount ++ (codes " is not a multiple of " ++ decimal limits.multiple)
@@ -200,7 +202,7 @@ multiple_in_role role amount limits = not_multiple amount limits
 
 abbrev pub multiple_of : Body → (text : List ℕ) → Option ℤ → Option Operand → List ℕ
 multiple_of body text value None = about [] text (codes " is not a multiple")
-multiple_of body text value (Some o) = multiple_in_role o.role (amount text value) (limits_in body o.role)
+multiple_of body text value (Some o) = multiple_in_role o.role (amount Decimal text value) (limits_in body o.role)
 
 -- Faults of places
 

@@ -269,10 +269,7 @@ pub const REGISTER_LETTERS: [AdviceRow; 5] = [
 
 /// The statements, and what takes a value that is out of their range.
 pub const RANGE_EXCEEDED: [AdviceRow; 11] = [
-    (
-        &["lui", "auipc"],
-        "; that is 0 to 0xFFFFF: write '%hi(..)', or 'li'",
-    ),
+    (&["lui", "auipc"], "; write '%hi(..)', or 'li'"),
     (
         &["addi", "andi", "ori", "xori", "slti", "sltiu"],
         "; load the number by 'li' into a register",

@@ -1,10 +1,12 @@
 //! The values that an operand may have.
 
 ghost use Rattle.std.specs.Prelude.{◌≡◌, ◌++◌, OnOk};
-ghost use Rattle.rv_report.specs.Bounds.{between, from_to, gap_text, limits_in, limits_of_body, limits_text, word};
+ghost use Rattle.rv_ops.specs.Table.{shape_of};
+ghost use Rattle.rv_report.specs.Bounds.{between, from_to, gap_text, limits_in, limits_of_body, limits_text, notation_in, notation_of, notation_of_body, word};
 
+use crate::numbers::{Notation, push_number_in};
 use crate::text::Text;
-use rv_ops::{Limits, limits};
+use rv_ops::{Limits, Op, Shape, limits, shape};
 use rv_stmt::{AlignmentUnit, Body, DataWidth, Role};
 use std::alloc::AllocError;
 
@@ -56,36 +58,67 @@ pub fn limits_in(body: &Body, role: Role) -> Limits
     }
 }
 
+// How the values of an operation are written.
+fn notation_of(op: Op) -> Notation
+    ensures { result ≡ notation_of (shape_of op) }
+{
+    match shape(op) {
+        Shape::Upper | Shape::CUpper => Notation::Hexadecimal,
+        _ => Notation::Decimal,
+    }
+}
+
+// How the values of the operation of a body are written.
+fn notation_of_body(body: &Body) -> Notation
+    ensures { result ≡ notation_of_body body.now }
+{
+    match body {
+        Body::Instr(instruction) => notation_of(instruction.op),
+        Body::Pseudo(instruction) => notation_of(instruction.op),
+        _ => Notation::Decimal,
+    }
+}
+
+/// How the values of an operand are written, by its role.
+pub fn notation_in(body: &Body, role: Role) -> Notation
+    ensures { result ≡ notation_in body.now role }
+{
+    match role {
+        Role::Immediate => notation_of_body(body),
+        _ => Notation::Decimal,
+    }
+}
+
 // Appends the least and the greatest of some values.
 #[tactic(auto, unfolding(crate::specs::Bounds::from_to))]
-fn push_from_to(out: &mut Text, first: i64, last: i64) -> Result<(), AllocError>
-    ensures { OnOk result (out.new ≡ out.old ++ from_to first last) }
+fn push_from_to(out: &mut Text, notation: Notation, first: i64, last: i64) -> Result<(), AllocError>
+    ensures { OnOk result (out.new ≡ out.old ++ from_to notation first last) }
 {
-    out.push_number(first)?;
+    push_number_in(out, notation, first)?;
     out.push(b" to ")?;
-    out.push_number(last)
+    push_number_in(out, notation, last)
 }
 
 // Appends the values that are left out, if there are any.
 #[tactic(auto, unfolding(crate::specs::Bounds::gap_text))]
-fn push_gap(out: &mut Text, first: i64, last: i64) -> Result<(), AllocError>
-    ensures { OnOk result (out.new ≡ out.old ++ gap_text first last) }
+fn push_gap(out: &mut Text, notation: Notation, first: i64, last: i64) -> Result<(), AllocError>
+    ensures { OnOk result (out.new ≡ out.old ++ gap_text notation first last) }
 {
     if first > last {
         return Ok(());
     }
     out.push(b", not ")?;
     if last <= first {
-        return out.push_number(first);
+        return push_number_in(out, notation, first);
     }
-    push_from_to(out, first, last)
+    push_from_to(out, notation, first, last)
 }
 
 /// Appends the values within limits.
 #[tactic(auto, unfolding(crate::specs::Bounds::limits_text))]
-pub fn push_limits(out: &mut Text, limits: &Limits) -> Result<(), AllocError>
-    ensures { OnOk result (out.new ≡ out.old ++ limits_text limits.now) }
+pub fn push_limits(out: &mut Text, notation: Notation, limits: &Limits) -> Result<(), AllocError>
+    ensures { OnOk result (out.new ≡ out.old ++ limits_text notation limits.now) }
 {
-    push_from_to(out, limits.least, limits.greatest)?;
-    push_gap(out, limits.gap_first, limits.gap_last)
+    push_from_to(out, notation, limits.least, limits.greatest)?;
+    push_gap(out, notation, limits.gap_first, limits.gap_last)
 }

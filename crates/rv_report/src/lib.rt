@@ -15,6 +15,7 @@ mod laws;
 mod lexical_messages;
 mod messages;
 mod name_messages;
+mod numbers;
 mod operand_messages;
 mod operands;
 mod origins;

@@ -2,13 +2,15 @@
 
 ghost use Rattle.std.specs.Prelude.{◌≡◌, ◌≤◌, ◌++◌, length, OnOk};
 ghost use Rattle.rv_report.specs.declared.advice.Topic.TheVariants.{RangeExceeded};
+ghost use Rattle.rv_report.specs.declared.numbers.Notation.TheVariants.{Decimal};
 ghost use Rattle.rv_report.specs.Advice.{advice};
 ghost use Rattle.rv_report.specs.Lines.{line_of, part};
 ghost use Rattle.rv_report.specs.Messages.{operand_of_line, value_of_line, amount, beyond_reach, multiple_in_role, multiple_of, name_of_statement, not_multiple, odd_address, odd_distance, out_of_range, out_of_reach, range_in_role, range_of, side};
 
 use crate::advice::{Topic, advice};
-use crate::bounds::{limits_in, push_limits};
+use crate::bounds::{limits_in, notation_in, push_limits};
 use crate::faulty_line::{FaultyLine, operand_in, part, value_in};
+use crate::numbers::{Notation, push_number_in};
 use crate::statement_words::name_of_statement;
 use crate::text::Text;
 use rv_ops::Limits;
@@ -17,11 +19,16 @@ use rv_text::Span;
 use std::alloc::{AllocError, Global};
 
 // Appends a value, or the operand that should have one.
-fn push_amount(out: &mut Text, text: &[u8], value: Option<i64>) -> Result<(), AllocError>
-    ensures { OnOk result (out.new ≡ out.old ++ amount text.now value) }
+fn push_amount(
+    out: &mut Text,
+    notation: Notation,
+    text: &[u8],
+    value: Option<i64>,
+) -> Result<(), AllocError>
+    ensures { OnOk result (out.new ≡ out.old ++ amount notation text.now value) }
 {
     match value {
-        Some(value) => out.push_number(value),
+        Some(value) => push_number_in(out, notation, value),
         None => out.push_quoted(text),
     }
 }
@@ -46,22 +53,23 @@ fn push_beyond_reach(out: &mut Text, distance: i64, limits: &Limits) -> Result<(
     out.push_number(distance.unsigned_abs())?;
     out.push(side(distance))?;
     out.push(b"; the reach is ")?;
-    push_limits(out, limits)
+    push_limits(out, Notation::Decimal, limits)
 }
 
 // Appends that a value is out of range.
 #[tactic(auto, unfolding(crate::specs::Messages::out_of_range))]
 fn push_out_of_range(
     out: &mut Text,
+    notation: Notation,
     text: &[u8],
     value: Option<i64>,
     limits: &Limits,
 ) -> Result<(), AllocError>
-    ensures { OnOk result (out.new ≡ out.old ++ out_of_range (amount text.now value) limits.now) }
+    ensures { OnOk result (out.new ≡ out.old ++ out_of_range notation (amount notation text.now value) limits.now) }
 {
-    push_amount(out, text, value)?;
+    push_amount(out, notation, text, value)?;
     out.push(b" is out of range (")?;
-    push_limits(out, limits)?;
+    push_limits(out, notation, limits)?;
     out.push(b")")
 }
 
@@ -76,7 +84,7 @@ fn push_out_of_reach(
 {
     match value {
         Some(distance) => push_beyond_reach(out, distance, limits),
-        None => push_out_of_range(out, text, None, limits),
+        None => push_out_of_range(out, Notation::Decimal, text, None, limits),
     }
 }
 
@@ -84,11 +92,12 @@ fn push_out_of_reach(
 fn push_range_in_role(
     out: &mut Text,
     role: Role,
+    notation: Notation,
     text: &[u8],
     value: Option<i64>,
     limits: &Limits,
 ) -> Result<(), AllocError>
-    ensures { OnOk result (out.new ≡ out.old ++ range_in_role role text.now value limits.now) }
+    ensures { OnOk result (out.new ≡ out.old ++ range_in_role role notation text.now value limits.now) }
 {
     match role {
         Role::Target => push_out_of_reach(out, text, value, limits),
@@ -96,8 +105,10 @@ fn push_range_in_role(
         Role::Alignment(AlignmentUnit::Bytes) => {
             out.push_about(b"", text, b" is not a power of two from 1 to 4096")
         }
-        Role::Alignment(AlignmentUnit::Exponent) => push_out_of_range(out, text, None, limits),
-        _ => push_out_of_range(out, text, value, limits),
+        Role::Alignment(AlignmentUnit::Exponent) => {
+            push_out_of_range(out, notation, text, None, limits)
+        }
+        _ => push_out_of_range(out, notation, text, value, limits),
     }
 }
 
@@ -109,8 +120,10 @@ fn push_range(out: &mut Text, line: &FaultyLine<'_>, span: Span) -> Result<(), A
     let Some(operand) = operand_in(line, span) else {
         return out.push_about(b"", text, b" is out of range");
     };
+    let notation = notation_in(&line.stmt.body, operand.role);
     let limits = limits_in(&line.stmt.body, operand.role);
-    push_range_in_role(out, operand.role, text, value_in(line, span), &limits)
+    let value = value_in(line, span);
+    push_range_in_role(out, operand.role, notation, text, value, &limits)
 }
 
 /// A value out of range, of the operand at a span of a line, and what to write in place of it.
@@ -132,10 +145,10 @@ pub fn push_range_and_help(
 // Appends that a target is at an odd distance.
 #[tactic(auto, unfolding(crate::specs::Messages::odd_distance))]
 fn push_odd_distance(out: &mut Text, text: &[u8], value: Option<i64>) -> Result<(), AllocError>
-    ensures { OnOk result (out.new ≡ out.old ++ odd_distance (amount text.now value)) }
+    ensures { OnOk result (out.new ≡ out.old ++ odd_distance (amount Decimal text.now value)) }
 {
     out.push(b"the target is at an odd distance, ")?;
-    push_amount(out, text, value)
+    push_amount(out, Notation::Decimal, text, value)
 }
 
 // Appends that a value is no multiple.
@@ -146,9 +159,9 @@ fn push_not_multiple(
     value: Option<i64>,
     limits: &Limits,
 ) -> Result<(), AllocError>
-    ensures { OnOk result (out.new ≡ out.old ++ not_multiple (amount text.now value) limits.now) }
+    ensures { OnOk result (out.new ≡ out.old ++ not_multiple (amount Decimal text.now value) limits.now) }
 {
-    push_amount(out, text, value)?;
+    push_amount(out, Notation::Decimal, text, value)?;
     out.push(b" is not a multiple of ")?;
     out.push_number(limits.multiple)
 }
@@ -161,7 +174,7 @@ fn push_multiple_in_role(
     value: Option<i64>,
     limits: &Limits,
 ) -> Result<(), AllocError>
-    ensures { OnOk result (out.new ≡ out.old ++ multiple_in_role role (amount text.now value) limits.now) }
+    ensures { OnOk result (out.new ≡ out.old ++ multiple_in_role role (amount Decimal text.now value) limits.now) }
 {
     match role {
         Role::Target => push_odd_distance(out, text, value),
