@@ -95,12 +95,12 @@ no_register text help = about [] text (codes " is not a register") ++ help
 abbrev pub has_word : (word line : List ℕ) → List Token → Bool
 has_word word line ts = list_any (λ t. bytes_eq (part line t.span) word) ts
 
--- the word in parentheses that ends some tokens without a modifier
+-- the word in parentheses that ends some tokens, unless the parentheses are those of a modifier
 abbrev pub base_in : (line : List ℕ) → List Token → List ℕ
 base_in line [] = []
 base_in line (t ∷ ts) =
     if bytes_eq (part line t.span) (codes "(") && length ts == 2 then first_word line ts
-    else (if bytes_eq (part line t.span) (codes "%") then [] else base_in line ts)
+    else (if bytes_eq (part line t.span) (codes "%") && length ts == 4 then [] else base_in line ts)
 
 -- a word that is like a register, and is none
 abbrev pub base_message : List ℕ → List ℕ

@@ -23,7 +23,7 @@ fn has_word(word: &[u8], line: &[u8], mut tokens: &[Token]) -> bool
     false
 }
 
-// The word in parentheses that ends some tokens without a modifier.
+// The word in parentheses that ends some tokens, unless the parentheses are those of a modifier.
 fn base_in<'a>(line: &'a [u8], mut tokens: &[Token]) -> &'a [u8]
     ensures { result.now ≡ base_in line.now tokens.entry.now }
 {
@@ -32,7 +32,7 @@ fn base_in<'a>(line: &'a [u8], mut tokens: &[Token]) -> &'a [u8]
         if word == b"(".as_slice() && rest.len() == 2 {
             return first_word(line, rest);
         }
-        if word == b"%".as_slice() {
+        if word == b"%".as_slice() && rest.len() == 4 {
             return b"";
         }
         tokens = rest;
