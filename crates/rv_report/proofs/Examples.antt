@@ -30,12 +30,12 @@ use Rattle.rv_report.specs.Counts.{numbers_text, some_numbers}
 use Rattle.rv_report.specs.Csrs.{counter_number, its_number, standard_number, unknown_csr}
 use Rattle.rv_report.specs.LexicalMessages.{bad_byte, bad_number, bad_string, number_wrong}
 use Rattle.rv_report.specs.Lines.{Line}
-use Rattle.rv_report.specs.Messages.{operand_count, register_range, undefined_name, later_equ, line_of_equ, faulty_equ_of, later_line, not_constant, no_partner, beyond_reach, out_of_range, not_multiple, odd_distance, odd_address, message_of}
+use Rattle.rv_report.specs.Messages.{operand_count, register_range, undefined_near, later_equ, line_of_equ, faulty_equ_of, later_line, not_constant, no_partner, beyond_reach, out_of_range, not_multiple, odd_distance, odd_address, message_of}
 use Rattle.rv_report.specs.Numbers.{hexadecimal}
 use Rattle.rv_report.specs.OperandMessages.{comment_help, expected, missing_comma, no_operand, no_register, no_statement, parentheses_of, separation_of}
 use Rattle.rv_report.specs.Reports.{amount_of, both_counts, first_shown, last_row, last_rows, line_row, margin, mark, mark_row, message_row, note_at, painted, rendition, report_of, shown_line, warning_report_of}
 use Rattle.rv_report.specs.Suggestions.{did_you_mean, suggestions}
-use Rattle.rv_report.specs.Texts.{about, quoted}
+use Rattle.rv_report.specs.Texts.{about, quoted, quoted_from}
 use Rattle.rv_report.specs.UnknownNames.{missing_colon, replacement, unknown_name}
 use Rattle.rv_report.specs.Wanted.{register_given}
 use Rattle.rv_report.specs.Warnings.{warning_message}
@@ -64,13 +64,17 @@ long_excerpt = refl
 
 -- Suggestions
 
-near_lop : did_you_mean (suggestions (codes "lop") (codes "lop1" ∷ codes "stop" ∷ codes "loop" ∷ [])) ≡ codes "; did you mean 'lop1' or 'loop'?"
+near_lop : did_you_mean 0 (suggestions (codes "lop") (codes "lop1" ∷ codes "stop" ∷ codes "loop" ∷ [])) ≡ codes "; did you mean 'lop1' or 'loop'?"
 unfolding did_you_mean suggestions rows next_row cost_at
 near_lop = refl
 
-near_none : did_you_mean (suggestions (codes "x") (codes "abc" ∷ [])) ≡ []
+near_none : did_you_mean 0 (suggestions (codes "x") (codes "abc" ∷ [])) ≡ []
 unfolding did_you_mean suggestions rows next_row cost_at
 near_none = refl
+
+long_names : undefined_near (codes "configuration_of_the_serial_interface_number_1") (codes "configuration_of_the_serial_interface_number_12" ∷ codes "configuration_of_the_serial_interface_number_7" ∷ []) ≡ codes "'...ce_number_1' is not defined; did you mean '...ce_number_12' or '...ce_number_7'?"
+unfolding undefined_near quoted_from did_you_mean
+long_names = refl
 
 -- Numbers of operands
 
@@ -130,51 +134,51 @@ unfolding message_of bad_string quoted about
 unclosed = refl
 
 four_operands : message (codes "a: 1: addi a0, (a, b), c, d") [] (fault_at fault.OperandCount 6 10) ≡ codes "'addi' takes 3 operands, not 4"
-unfolding message_of advice separation_of no_register quoted about did_you_mean suggestions some_numbers from_to gap_text limits_text operand_count register_range undefined_name later_equ line_of_equ faulty_equ_of no_partner beyond_reach out_of_range not_multiple odd_distance odd_address digits operation_named operation_names row_of layout_of register_named register_names csr_named csr_names other_forms slots_of set_named set_names modifier_named modifier_names directive_named directive_names section_named section_names
+unfolding message_of advice separation_of no_register quoted about did_you_mean suggestions some_numbers from_to gap_text limits_text operand_count register_range undefined_near quoted_from later_equ line_of_equ faulty_equ_of no_partner beyond_reach out_of_range not_multiple odd_distance odd_address digits operation_named operation_names row_of layout_of register_named register_names csr_named csr_names other_forms slots_of set_named set_names modifier_named modifier_names directive_named directive_names section_named section_names
 four_operands = refl
 
 small_register : message (codes "x: c.lui zero, 1") [] (fault_at fault.RegisterRange 9 13) ≡ codes "'c.lui' does not take 'zero' here"
-unfolding message_of advice separation_of no_register quoted about did_you_mean suggestions some_numbers from_to gap_text limits_text operand_count register_range undefined_name later_equ line_of_equ faulty_equ_of no_partner beyond_reach out_of_range not_multiple odd_distance odd_address digits operation_named operation_names row_of layout_of register_named register_names csr_named csr_names other_forms slots_of set_named set_names modifier_named modifier_names directive_named directive_names section_named section_names
+unfolding message_of advice separation_of no_register quoted about did_you_mean suggestions some_numbers from_to gap_text limits_text operand_count register_range undefined_near quoted_from later_equ line_of_equ faulty_equ_of no_partner beyond_reach out_of_range not_multiple odd_distance odd_address digits operation_named operation_names row_of layout_of register_named register_names csr_named csr_names other_forms slots_of set_named set_names modifier_named modifier_names directive_named directive_names section_named section_names
 small_register = refl
 
 missing_register : message (codes "addi a0, , 1") [] (fault_at fault.BadRegister 8 8) ≡ codes "a register is expected here"
-unfolding message_of expected advice separation_of no_register quoted about did_you_mean suggestions some_numbers from_to gap_text limits_text operand_count register_range undefined_name later_equ line_of_equ faulty_equ_of no_partner beyond_reach out_of_range not_multiple odd_distance odd_address
+unfolding message_of expected advice separation_of no_register quoted about did_you_mean suggestions some_numbers from_to gap_text limits_text operand_count register_range undefined_near quoted_from later_equ line_of_equ faulty_equ_of no_partner beyond_reach out_of_range not_multiple odd_distance odd_address
 missing_register = refl
 
 undefined_symbol : message (codes "bnez a0, far + lop") [] (fault_at fault.Undefined 9 18) ≡ codes "'lop' is not defined; did you mean 'loop'?"
-unfolding message_of advice separation_of no_register quoted about did_you_mean suggestions some_numbers from_to gap_text limits_text operand_count register_range undefined_name later_equ line_of_equ faulty_equ_of no_partner beyond_reach out_of_range not_multiple odd_distance odd_address rows next_row cost_at digits operation_named operation_names row_of layout_of register_named register_names csr_named csr_names other_forms slots_of set_named set_names modifier_named modifier_names directive_named directive_names section_named section_names
+unfolding message_of advice separation_of no_register quoted about did_you_mean suggestions some_numbers from_to gap_text limits_text operand_count register_range undefined_near quoted_from later_equ line_of_equ faulty_equ_of no_partner beyond_reach out_of_range not_multiple odd_distance odd_address rows next_row cost_at digits operation_named operation_names row_of layout_of register_named register_names csr_named csr_names other_forms slots_of set_named set_names modifier_named modifier_names directive_named directive_names section_named section_names
 undefined_symbol = refl
 
 undefined_local : message (codes "j 1f") [] (fault_at fault.Undefined 2 4) ≡ codes "'1f' is not defined"
-unfolding message_of advice separation_of no_register quoted about did_you_mean suggestions some_numbers from_to gap_text limits_text operand_count register_range undefined_name later_equ line_of_equ faulty_equ_of no_partner beyond_reach out_of_range not_multiple odd_distance odd_address digits operation_named operation_names row_of layout_of register_named register_names csr_named csr_names other_forms slots_of set_named set_names modifier_named modifier_names directive_named directive_names section_named section_names
+unfolding message_of advice separation_of no_register quoted about did_you_mean suggestions some_numbers from_to gap_text limits_text operand_count register_range undefined_near quoted_from later_equ line_of_equ faulty_equ_of no_partner beyond_reach out_of_range not_multiple odd_distance odd_address digits operation_named operation_names row_of layout_of register_named register_names csr_named csr_names other_forms slots_of set_named set_names modifier_named modifier_names directive_named directive_names section_named section_names
 undefined_local = refl
 
 faulty_symbol : message (codes ".word 1 + n") [] (fault_at fault.FaultyEqu 6 11) ≡ codes "the .equ of 'n' has a fault (line 3)"
-unfolding message_of advice separation_of no_register quoted about did_you_mean suggestions some_numbers from_to gap_text limits_text operand_count register_range undefined_name later_equ line_of_equ faulty_equ_of no_partner beyond_reach out_of_range not_multiple odd_distance odd_address digits operation_named operation_names row_of layout_of register_named register_names csr_named csr_names other_forms slots_of set_named set_names modifier_named modifier_names directive_named directive_names section_named section_names
+unfolding message_of advice separation_of no_register quoted about did_you_mean suggestions some_numbers from_to gap_text limits_text operand_count register_range undefined_near quoted_from later_equ line_of_equ faulty_equ_of no_partner beyond_reach out_of_range not_multiple odd_distance odd_address digits operation_named operation_names row_of layout_of register_named register_names csr_named csr_names other_forms slots_of set_named set_names modifier_named modifier_names directive_named directive_names section_named section_names
 faulty_symbol = refl
 
 large_immediate : message (codes "addi a0, a0, 2048") (Ok (pos 2048) ∷ []) (fault_at fault.Range 13 17) ≡ codes "2048 is out of range (-2048 to 2047); load the number by 'li' into a register"
-unfolding message_of advice separation_of no_register quoted about did_you_mean suggestions some_numbers from_to gap_text limits_text operand_count register_range undefined_name later_equ line_of_equ faulty_equ_of no_partner beyond_reach out_of_range not_multiple odd_distance odd_address digits operation_named operation_names row_of layout_of register_named register_names csr_named csr_names other_forms slots_of set_named set_names modifier_named modifier_names directive_named directive_names section_named section_names
+unfolding message_of advice separation_of no_register quoted about did_you_mean suggestions some_numbers from_to gap_text limits_text operand_count register_range undefined_near quoted_from later_equ line_of_equ faulty_equ_of no_partner beyond_reach out_of_range not_multiple odd_distance odd_address digits operation_named operation_names row_of layout_of register_named register_names csr_named csr_names other_forms slots_of set_named set_names modifier_named modifier_names directive_named directive_names section_named section_names
 large_immediate = refl
 
 no_zero : message (codes "c.addi a0, 0") (Ok (pos 0) ∷ []) (fault_at fault.Range 11 12) ≡ codes "0 is out of range (-32 to 31, not 0); write the instruction without 'c.'"
-unfolding message_of advice separation_of no_register quoted about did_you_mean suggestions some_numbers from_to gap_text limits_text operand_count register_range undefined_name later_equ line_of_equ faulty_equ_of no_partner beyond_reach out_of_range not_multiple odd_distance odd_address digits operation_named operation_names row_of layout_of register_named register_names csr_named csr_names other_forms slots_of set_named set_names modifier_named modifier_names directive_named directive_names section_named section_names
+unfolding message_of advice separation_of no_register quoted about did_you_mean suggestions some_numbers from_to gap_text limits_text operand_count register_range undefined_near quoted_from later_equ line_of_equ faulty_equ_of no_partner beyond_reach out_of_range not_multiple odd_distance odd_address digits operation_named operation_names row_of layout_of register_named register_names csr_named csr_names other_forms slots_of set_named set_names modifier_named modifier_names directive_named directive_names section_named section_names
 no_zero = refl
 
 upper_bits : message (codes "c.lui a0, 32") (Ok (pos 32) ∷ []) (fault_at fault.Range 10 12) ≡ codes "0x20 is out of range (1 to 0xFFFFF, not 0x20 to 0xFFFDF); write the instruction without 'c.'"
-unfolding message_of hexadecimal advice separation_of no_register quoted about did_you_mean suggestions some_numbers from_to gap_text limits_text operand_count register_range undefined_name later_equ line_of_equ faulty_equ_of no_partner beyond_reach out_of_range not_multiple odd_distance odd_address digits operation_named operation_names row_of layout_of register_named register_names csr_named csr_names other_forms slots_of set_named set_names modifier_named modifier_names directive_named directive_names section_named section_names
+unfolding message_of hexadecimal advice separation_of no_register quoted about did_you_mean suggestions some_numbers from_to gap_text limits_text operand_count register_range undefined_near quoted_from later_equ line_of_equ faulty_equ_of no_partner beyond_reach out_of_range not_multiple odd_distance odd_address digits operation_named operation_names row_of layout_of register_named register_names csr_named csr_names other_forms slots_of set_named set_names modifier_named modifier_names directive_named directive_names section_named section_names
 upper_bits = refl
 
 far_branch : message (codes "beqz a0, far") (Ok (negsuc 4999) ∷ []) (fault_at fault.Range 9 12) ≡ codes "the target is 5000 bytes behind; the reach is -4096 to 4094; write the opposite branch over a 'j'"
-unfolding message_of advice separation_of no_register quoted about did_you_mean suggestions some_numbers from_to gap_text limits_text operand_count register_range undefined_name later_equ line_of_equ faulty_equ_of no_partner beyond_reach out_of_range not_multiple odd_distance odd_address digits operation_named operation_names row_of layout_of register_named register_names csr_named csr_names other_forms slots_of set_named set_names modifier_named modifier_names directive_named directive_names section_named section_names
+unfolding message_of advice separation_of no_register quoted about did_you_mean suggestions some_numbers from_to gap_text limits_text operand_count register_range undefined_near quoted_from later_equ line_of_equ faulty_equ_of no_partner beyond_reach out_of_range not_multiple odd_distance odd_address digits operation_named operation_names row_of layout_of register_named register_names csr_named csr_names other_forms slots_of set_named set_names modifier_named modifier_names directive_named directive_names section_named section_names
 far_branch = refl
 
 lone_low_half : message (codes "lw a0, %pcrel_lo(here)(a0)") (Err value.NoPartner ∷ []) (fault_at fault.NoPartner 7 26) ≡ codes "no 'auipc .., %pcrel_hi(..)' stands at 'here'"
-unfolding message_of advice separation_of no_register quoted about did_you_mean suggestions some_numbers from_to gap_text limits_text operand_count register_range undefined_name later_equ line_of_equ faulty_equ_of no_partner beyond_reach out_of_range not_multiple odd_distance odd_address digits operation_named operation_names row_of layout_of register_named register_names csr_named csr_names other_forms slots_of set_named set_names modifier_named modifier_names directive_named directive_names section_named section_names
+unfolding message_of advice separation_of no_register quoted about did_you_mean suggestions some_numbers from_to gap_text limits_text operand_count register_range undefined_near quoted_from later_equ line_of_equ faulty_equ_of no_partner beyond_reach out_of_range not_multiple odd_distance odd_address digits operation_named operation_names row_of layout_of register_named register_names csr_named csr_names other_forms slots_of set_named set_names modifier_named modifier_names directive_named directive_names section_named section_names
 lone_low_half = refl
 
 odd : message (codes "nop") [] (fault_at fault.OddAddress 0 3) ≡ codes "an instruction at the odd address 0x00000001"
-unfolding message_of advice separation_of no_register quoted about did_you_mean suggestions some_numbers from_to gap_text limits_text operand_count register_range undefined_name later_equ line_of_equ faulty_equ_of no_partner beyond_reach out_of_range not_multiple odd_distance odd_address hex
+unfolding message_of advice separation_of no_register quoted about did_you_mean suggestions some_numbers from_to gap_text limits_text operand_count register_range undefined_near quoted_from later_equ line_of_equ faulty_equ_of no_partner beyond_reach out_of_range not_multiple odd_distance odd_address hex
 odd = refl
 
 second_statement : message (codes "/* c */") [] (fault_at fault.NoStatement 0 1) ≡ codes "an instruction or a directive is expected here; one statement stands on a line, and '#' or '//' begins a comment"

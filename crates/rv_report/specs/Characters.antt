@@ -1,6 +1,6 @@
 -- How the bytes of a line are shown: each character in one column, a tab up to the next multiple of 8, and a dot for each
 -- byte that is part of no character, of a control character, or of one that changes the direction of text.
-use Rattle.std.specs.Prelude.{ℕ, zero, suc, ◌+◌, ◌-◌, ◌%◌, ◌==◌, nat_le, nat_lt, Bool, not, ◌&&◌, ◌||◌, List, [], ◌∷◌, ◌++◌, Option, Some, None, replicate, codes, if◌then◌else◌}
+use Rattle.std.specs.Prelude.{ℕ, zero, suc, ◌+◌, ◌-◌, ◌%◌, ◌==◌, nat_le, nat_lt, Bool, not, ◌&&◌, ◌||◌, List, [], ◌∷◌, ◌++◌, drop, Option, Some, None, replicate, codes, if◌then◌else◌}
 use Rattle.bstr.specs.Utf8.{decoded}
 use Rattle.rv_report.specs.declared.characters.Place.{Place}
 
@@ -101,3 +101,7 @@ abridged room left (b ∷ bs) =
 -- at most 40 characters
 abbrev pub excerpt : List ℕ → List ℕ
 excerpt bytes = abridged 40 0 bytes
+
+-- the same from a place on, with dots where bytes stand before it
+abbrev pub excerpt_from : (place : ℕ) → List ℕ → List ℕ
+excerpt_from place bytes = if place == 0 then excerpt bytes else codes "..." ++ excerpt (drop place bytes)

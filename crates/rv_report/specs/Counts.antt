@@ -35,7 +35,7 @@ operands_text numbers =
     else (if bytes_eq numbers (codes "1") then codes "1 operand" else numbers ++ codes " operands")
 
 unfoldable pub some_numbers : List ℕ → List ℕ
-some_numbers name = operands_text (alternatives (codes ", ") (codes " or ") (numbers_taken name numerals))
+some_numbers name = operands_text (alternatives (codes ", ") (codes " or ") 0 (numbers_taken name numerals))
 
 -- a directive may take any number from a least one on
 abbrev pub by_count : OperandCount → List ℕ → List ℕ

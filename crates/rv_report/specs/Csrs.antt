@@ -29,7 +29,7 @@ number_or (Some n) text = its_number n
 number_or None text = text
 
 unfoldable pub near_csrs : List ℕ → List ℕ
-near_csrs name = did_you_mean (suggestions (map to_ascii_lowercase name) csr_list)
+near_csrs name = did_you_mean 0 (suggestions (map to_ascii_lowercase name) csr_list)
 
 -- its number where the standard has a register of the name, or else the names near it
 abbrev pub csr_help : List ℕ → List ℕ

@@ -39,8 +39,8 @@ use Rattle.rv_report.specs.Lines.{Line, part, name_after, word_at}
 use Rattle.rv_report.specs.Numbers.{number_text}
 use Rattle.rv_report.specs.OperandMessages.{bad_operand, bad_register, no_statement, separation_of}
 use Rattle.rv_report.specs.Operands.{operand_at, value_at}
-use Rattle.rv_report.specs.Suggestions.{did_you_mean, suggestions}
-use Rattle.rv_report.specs.Texts.{about, quoted}
+use Rattle.rv_report.specs.Suggestions.{did_you_mean, place_shown, suggestions}
+use Rattle.rv_report.specs.Texts.{about, quoted, quoted_from}
 use Rattle.rv_report.specs.UnknownNames.{unknown_name}
 use Rattle.rv_report.specs.Wanted.{register_given, wanted_of}
 
@@ -55,13 +55,19 @@ register_range name text = about [] name (codes " does not take ") ++ about [] t
 
 -- Names without a value
 
-abbrev pub question_about : (symbols : List (List ℕ)) → LabelReference → List ℕ
-question_about symbols (Symbol name) = did_you_mean (suggestions name symbols)
-question_about symbols (Local number direction) = []
-question_about symbols Here = []
+-- the symbols that may be meant by a name
+abbrev pub near_symbols : (symbols : List (List ℕ)) → LabelReference → List (List ℕ)
+near_symbols symbols (Symbol name) = suggestions name symbols
+near_symbols symbols (Local number direction) = []
+near_symbols symbols Here = []
 
-unfoldable pub undefined_name : (symbols : List (List ℕ)) → LabelReference → List ℕ
-undefined_name symbols name = about [] (name_text name) (codes " is not defined") ++ question_about symbols name
+-- a name and those that may be meant, all from the same place on
+unfoldable pub undefined_near : (name : List ℕ) → (near : List (List ℕ)) → List ℕ
+undefined_near name near =
+    quoted_from (place_shown name near) name ++ (codes " is not defined" ++ did_you_mean (place_shown name near) near)
+
+abbrev pub undefined_name : (symbols : List (List ℕ)) → LabelReference → List ℕ
+undefined_name symbols name = undefined_near (name_text name) (near_symbols symbols name)
 
 -- a name alone in the place of a control and status register is meant to be one
 abbrev pub undefined_as : Wanted → (symbols : List (List ℕ)) → (text name : List ℕ) → List ℕ

@@ -29,7 +29,7 @@ is_before_statement name next =
 
 -- the names of its kind that may have been meant
 unfoldable pub near_names : List ℕ → List ℕ
-near_names name = did_you_mean (suggestions (map to_ascii_lowercase name) (names_like name))
+near_names name = did_you_mean 0 (suggestions (map to_ascii_lowercase name) (names_like name))
 
 unfoldable pub missing_colon : List ℕ
 missing_colon = codes "; is a ':' missing after the label?"

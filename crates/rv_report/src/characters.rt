@@ -1,8 +1,9 @@
 //! How the bytes of a line are shown.
 
 ghost use Rattle.std.specs.Prelude.{◌≡◌, ◌+◌, ◌-◌, ◌==◌, ◌&&◌, ◌≤◌, ◌++◌, length, OnOk, if◌then◌else◌};
-ghost use Rattle.rv_report.specs.Characters.{byte_in_message, byte_in_name, byte_or_dot, cell, column_after, column_of, excerpt, is_no_control, is_visible, left_after, next, shown_from, shown_name, size_of_first, start, turns_text, width};
+ghost use Rattle.rv_report.specs.Characters.{byte_in_message, byte_in_name, byte_or_dot, cell, column_after, column_of, excerpt, excerpt_from, is_no_control, is_visible, left_after, next, shown_from, shown_name, size_of_first, start, turns_text, width};
 
+use crate::faulty_line::bytes_from;
 use crate::text::Text;
 use bstr::decode_utf8;
 use std::alloc::AllocError;
@@ -18,8 +19,8 @@ pub struct Place {
 // Tabs go to the multiples of this column.
 const TAB: usize = 8;
 
-// The most characters of a line in a message.
-const EXCERPT: usize = 40;
+/// The most characters of a line in a message.
+pub const EXCERPT: usize = 40;
 
 // Whether a character is no control character.
 fn is_no_control(code: u32) -> bool
@@ -233,6 +234,17 @@ fn room_after(room: usize, left: usize) -> usize
     } else {
         room
     }
+}
+
+/// Appends a part of a line as it stands in messages, from a place on.
+pub fn push_excerpt_from(out: &mut Text, place: usize, part: &[u8]) -> Result<(), AllocError>
+    ensures { OnOk result (out.new ≡ out.old ++ excerpt_from place part.now) }
+{
+    if place == 0 {
+        return push_excerpt(out, part);
+    }
+    out.push(b"...")?;
+    push_excerpt(out, bytes_from(part, place))
 }
 
 /// Appends a part of a line as it stands in messages: at most 40 characters.

@@ -73,7 +73,7 @@ fn push_some_numbers(out: &mut Text, alloc: Global, name: &[u8]) -> Result<(), A
 {
     let taken = numbers_taken(alloc, name, &NUMERALS)?;
     let mut numbers = Text::new(alloc);
-    push_alternatives(&mut numbers, b", ", b" or ", taken.as_slice())?;
+    push_alternatives(&mut numbers, b", ", b" or ", 0, taken.as_slice())?;
     push_operands(out, numbers.bytes())
 }
 

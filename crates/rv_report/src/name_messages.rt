@@ -1,16 +1,16 @@
 //! The messages of names without a value.
 
-ghost use Rattle.std.specs.Prelude.{◌≡◌, ◌≤◌, ◌++◌, length, map, option_map, IfOk, OnOk};
+ghost use Rattle.std.specs.Prelude.{◌≡◌, ◌≤◌, ◌++◌, length, map, option_map, take, IfOk, OnOk};
 ghost use Rattle.rv_report.specs.FaultyNames.{faulty_name_of, low_label_of, name_text, name_used};
 ghost use Rattle.rv_report.specs.Lines.{line_of, part};
-ghost use Rattle.rv_report.specs.Messages.{faulty_equ, faulty_equ_of, later_equ, line_of_equ, name_of_statement, name_or, no_partner, operand_of_line, question_about, undefined, undefined_as, undefined_name, undefined_symbol};
+ghost use Rattle.rv_report.specs.Messages.{faulty_equ, faulty_equ_of, later_equ, line_of_equ, name_of_statement, name_or, no_partner, near_symbols, operand_of_line, undefined, undefined_as, undefined_name, undefined_near, undefined_symbol};
 ghost use Rattle.rv_report.specs.Wanted.{wanted_of};
 
 use crate::csr_messages::push_unknown_csr;
 use crate::faulty_line::{FaultyLine, operand_in, part};
 use crate::faulty_names::{UsedName, faulty_name_of, low_label_of, push_name};
 use crate::statement_words::name_of_statement;
-use crate::suggestions::push_did_you_mean;
+use crate::suggestions::{first_few, place_shown, push_question, suggestions};
 use crate::text::Text;
 use crate::wanted::{Wanted, push_register_given, wanted_at};
 use rv_expr::Names;
@@ -39,24 +39,33 @@ fn written(alloc: Global, name: UsedName<'_>) -> Result<Text, AllocError>
     Ok(text)
 }
 
-// Appends the question whether another symbol was meant.
-fn push_question_about(
-    out: &mut Text,
+// The symbols that may be meant by a name, of which the first few are named.
+fn near_symbols<'a>(
     alloc: Global,
-    symbols: &[&[u8]],
+    symbols: &[&'a [u8]],
     name: UsedName<'_>,
-) -> Result<(), AllocError>
-    ensures { OnOk result (out.new ≡ out.old ++ question_about (map (λ s. s.now) symbols.now) (name_used name.entry)) }
+) -> Result<Vec<&'a [u8]>, AllocError>
+    ensures { IfOk result (λ v. take 3 (map (λ s. s.now) v.items) ≡ near_symbols (map (λ s. s.now) symbols.now) (name_used name.entry)) }
 {
     match name {
-        UsedName::Symbol(symbol) => push_did_you_mean(out, alloc, symbol, symbols),
-        UsedName::Local(_, _) => Ok(()),
-        UsedName::Here => Ok(()),
+        UsedName::Symbol(symbol) => suggestions(alloc, symbol, symbols),
+        UsedName::Local(_, _) => Ok(Vec::new(alloc)),
+        UsedName::Here => Ok(Vec::new(alloc)),
     }
 }
 
+// Appends that a name has no definition, and those that may be meant.
+#[tactic(auto, unfolding(crate::specs::Messages::undefined_near))]
+fn push_undefined_near(out: &mut Text, name: &[u8], near: &[&[u8]]) -> Result<(), AllocError>
+    ensures { OnOk result (out.new ≡ out.old ++ undefined_near name.now (map (λ s. s.now) near.now)) }
+{
+    let place = place_shown(name, near);
+    out.push_quoted_from(place, name)?;
+    out.push(b" is not defined")?;
+    push_question(out, place, near)
+}
+
 /// Appends that a name has no definition.
-#[tactic(auto, unfolding(crate::specs::Messages::undefined_name))]
 pub fn push_undefined_name(
     out: &mut Text,
     alloc: Global,
@@ -66,8 +75,8 @@ pub fn push_undefined_name(
     ensures { OnOk result (out.new ≡ out.old ++ undefined_name (map (λ s. s.now) symbols.now) (name_used name.entry)) }
 {
     let text = written(alloc, name)?;
-    out.push_about(b"", text.bytes(), b" is not defined")?;
-    push_question_about(out, alloc, symbols, name)
+    let near = near_symbols(alloc, symbols, name)?;
+    push_undefined_near(out, text.bytes(), first_few(near.as_slice()))
 }
 
 // Appends that a name has no definition, where a control and status register may be wanted.

@@ -3,9 +3,9 @@
 ghost use Rattle.std.specs.Prelude.{◌≡◌, ◌<◌, ◌≤◌, [], ◌∷◌, ◌++◌, replicate, map, OnOk};
 ghost use Rattle.rv_text.specs.Rows.{hex};
 ghost use Rattle.rv_report.specs.Digits.{upper_digit, upper_hex};
-ghost use Rattle.rv_report.specs.Texts.{about, alternatives, quoted, separator};
+ghost use Rattle.rv_report.specs.Texts.{about, alternatives, quoted, quoted_from, separator};
 
-use crate::characters::push_excerpt;
+use crate::characters::{push_excerpt, push_excerpt_from};
 use itoa::{Buffer, Integer};
 use rv_text::OutputRow;
 use std::alloc::{AllocError, Global};
@@ -110,6 +110,16 @@ impl Text {
         self.push(b"'")
     }
 
+    /// Appends a part of a line in quotation marks, from a place on.
+    #[tactic(auto, unfolding(crate::specs::Texts::quoted_from))]
+    pub fn push_quoted_from(&mut self, place: usize, part: &[u8]) -> Result<(), AllocError>
+        ensures { OnOk result (self.new ≡ self.old ++ quoted_from place part.now) }
+    {
+        self.push(b"'")?;
+        push_excerpt_from(self, place, part)?;
+        self.push(b"'")
+    }
+
     /// Appends a message about a part of a line.
     #[tactic(auto, unfolding(crate::specs::Texts::about))]
     pub fn push_about(&mut self, before: &[u8], part: &[u8], after: &[u8]) -> Result<(), AllocError>
@@ -132,17 +142,18 @@ fn separator<'a>(comma: &'a [u8], or: &'a [u8], left: usize) -> &'a [u8]
     }
 }
 
-/// Appends alternatives, with one sign between the last two and another between the others.
+/// Appends alternatives from a place on, with one sign between the last two and another between the others.
 pub fn push_alternatives(
     out: &mut Text,
     comma: &[u8],
     or: &[u8],
+    place: usize,
     mut texts: &[&[u8]],
 ) -> Result<(), AllocError>
-    ensures { OnOk result (out.new ≡ out.old ++ alternatives comma.now or.now (map (λ t. t.now) texts.entry.now)) }
+    ensures { OnOk result (out.new ≡ out.old ++ alternatives comma.now or.now place (map (λ t. t.now) texts.entry.now)) }
 {
     'texts: while let [text, rest @ ..] = texts {
-        push_excerpt(out, text)?;
+        push_excerpt_from(out, place, text)?;
         out.push(separator(comma, or, rest.len()))?;
         texts = rest;
     }
