@@ -6,18 +6,18 @@ use Rattle.std.specs.List.{concat}
 use Rattle.std.specs.Prelude.{Option, Some, None}
 use Rattle.rv_text.specs.Streams.{after, WritesPrefix}
 use Rattle.rv_text.specs.StreamLaws.{after_after, prefix_within}
-use Rattle.rv_text.specs.declared.faults.Fault.{Fault}
-use Rattle.rv_list.specs.Faults.{fault_row, faults_of}
 use Rattle.rv_list.specs.Joined.{joined}
 use Rattle.rv_list.specs.Shown.{Shown, ShownLine}
 use Rattle.rv_report.specs.declared.reports.Style.{Style}
 use Rattle.rv_report.specs.Origins.{Source}
-use Rattle.rv_report.specs.Reports.{last_rows, report_of, warning_report_of}
+use Rattle.rv_report.specs.Reports.{last_rows, warning_report_of}
 use Rattle.rv_report.specs.Warnings.{Warning, warning_of}
-use Rattle.rv_store.specs.LinesOfTexts.{names_from}
 use Rattle.rv_store.specs.Shown.{shown_of}
 use Rattle.rv_store.specs.Text.{Text}
-use Rattle.rv_files.specs.TextReports.{all_reports, all_warnings, asked_warnings, fault_count, line_reports, optional, reported_line, searched_symbols, text_reports, warning_count, warning_reports, warnings_about}
+use Rattle.rv_files.specs.declared.odd_addresses.Reported.{Reported}
+use Rattle.rv_files.specs.OddAddresses.{reported_faults}
+use Rattle.rv_files.specs.TextReports.{all_reports, all_warnings, asked_warnings, fault_count, line_reports, optional, own_report_of, report_count, searched_symbols, text_reports, warning_count, warning_reports, warnings_about}
+use Rattle.rv_files.proofs.OddAddresses.{as_many_reported, no_more_reports}
 use Rattle.rv_list.specs.JoinedLaws.{Then, joined_more, joined_then}
 
 -- the first of two lists one after the other
@@ -99,13 +99,16 @@ first_lost f most k n old now new within before lost =
 
 -- Reports
 
--- a line has a report for each of its faults
-pub found_reports : (style : Style) (source : Source) (text : Text) (symbols : List (List ℕ)) (number : ℕ) (line : ShownLine) (found : List (Option Fault)) → found ≡ map (λ f. Some f) (faults_of (shown_of text) number line) → length found ≡ length (line_reports style source text symbols number line)
+-- a line has as many reports as it has faults with one
+line_count : (style : Style) (source : Source) (text : Text) (symbols : List (List ℕ)) (number : ℕ) (line : ShownLine) → length (line_reports style source text symbols number line) ≡ length (reported_faults (shown_of text) number line)
 unfolding line_reports
+line_count style source text symbols number line =
+    length-map (reported_faults (shown_of text) number line) (own_report_of style source text symbols number line)
+
+pub found_reports : (style : Style) (source : Source) (text : Text) (symbols : List (List ℕ)) (number : ℕ) (line : ShownLine) (found : List (Option Reported)) → found ≡ map (λ r. Some r) (reported_faults (shown_of text) number line) → length found ≡ length (line_reports style source text symbols number line)
 found_reports style source text symbols number line found is =
-    ap length is
-    ∙ length-map (faults_of (shown_of text) number line) (λ f. Some f)
-    ∙ sym (length-map (faults_of (shown_of text) number line) (report_of style source (names_from (record { text = text; line = number }) line.place.address) (shown_of text) (reported_line text symbols number line)))
+    as_many_reported found (reported_faults (shown_of text) number line) is
+    ∙ sym (line_count style source text symbols number line)
 
 -- as many of them as there are faults among the first
 pub as_many : {A : Type 0} (xs : List A) (n left : ℕ) → n ≡ min left (length xs) → take n xs ≡ take left xs
@@ -115,18 +118,12 @@ as_many xs n left is = ap (λ c. take c xs) is ∙ take_min left xs
 pub first_of_more : {A : Type 0} (most n : ℕ) (all first symbols : List A) → take most all ≡ take most symbols → n ≡ min most (length all) → first ≡ take n all → first ≡ take most symbols
 first_of_more most n all first symbols same count is = is ∙ as_many all n most count ∙ same
 
-line_count : (style : Style) (source : Source) (text : Text) (symbols : List (List ℕ)) (number : ℕ) (line : ShownLine) → length (line_reports style source text symbols number line) ≡ length (map (fault_row number) (faults_of (shown_of text) number line))
-line_count style source text symbols number line =
-    sym (found_reports style source text symbols number line (map (λ f. Some f) (faults_of (shown_of text) number line)) refl)
-    ∙ length-map (faults_of (shown_of text) number line) (λ f. Some f)
-    ∙ sym (length-map (faults_of (shown_of text) number line) (fault_row number))
-
--- a text has a report for each of its faults
-pub all_counted : (style : Style) (source : Source) (text : Text) (symbols : List (List ℕ)) → length (all_reports style source text symbols) ≡ fault_count text
+-- and so has a text
+pub all_counted : (style : Style) (source : Source) (text : Text) (symbols : List (List ℕ)) → length (all_reports style source text symbols) ≡ report_count text
 all_counted style source text symbols =
     same_lengths
     (λ k. line_reports style source text symbols (k + 1) ((shown_of text).line (k + 1)))
-    (λ k. map (fault_row (k + 1)) (faults_of (shown_of text) (k + 1) ((shown_of text).line (k + 1))))
+    (λ k. reported_faults (shown_of text) (k + 1) ((shown_of text).line (k + 1)))
     (shown_of text).count
     (λ k. line_count style source text symbols (k + 1) ((shown_of text).line (k + 1)))
 
@@ -178,11 +175,12 @@ first_of_both most count xs ys is =
 pub none_reported : (style : Style) (source : Source) (text : Text) (most : ℕ) (warns : Bool) → fault_count text ≡ 0 → asked_warnings text warns ≡ 0 → text_reports style source text most warns ≡ []
 unfolding text_reports
 none_reported style source text most warns no_fault no_warning =
-    let symbols = searched_symbols text (min (fault_count text) most) in
-    let faults : all_reports style source text symbols ≡ [] = nil_from_length (all_reports style source text symbols) (all_counted style source text symbols ∙ no_fault) in
+    let symbols = searched_symbols text (min (report_count text) most) in
+    let none : report_count text ≡ 0 = omega (arith, no_more_reports text, no_fault) in
+    let faults : all_reports style source text symbols ≡ [] = nil_from_length (all_reports style source text symbols) (all_counted style source text symbols ∙ none) in
     let warnings : (if warns then all_warnings style source text else []) ≡ [] = nil_from_length (if warns then all_warnings style source text else []) (asked_counted style source text warns ∙ no_warning) in
-    ap (λ (l : List (List ℕ)). concat (take most (l ++ (if warns then all_warnings style source text else []))) ++ last_rows source.file (fault_count text) (asked_warnings text warns) most) faults
-    ∙ ap (λ (l : List (List ℕ)). concat (take most l) ++ last_rows source.file (fault_count text) (asked_warnings text warns) most) warnings
-    ∙ ap (λ (l : List (List ℕ)). concat l ++ last_rows source.file (fault_count text) (asked_warnings text warns) most) (take_nil most)
-    ∙ ap (λ n. last_rows source.file n (asked_warnings text warns) most) no_fault
-    ∙ ap (λ n. last_rows source.file 0 n most) no_warning
+    ap (λ (l : List (List ℕ)). concat (take most (l ++ (if warns then all_warnings style source text else []))) ++ last_rows source.file (fault_count text) (asked_warnings text warns) (report_count text + asked_warnings text warns) most) faults
+    ∙ ap (λ (l : List (List ℕ)). concat (take most l) ++ last_rows source.file (fault_count text) (asked_warnings text warns) (report_count text + asked_warnings text warns) most) warnings
+    ∙ ap (λ (l : List (List ℕ)). concat l ++ last_rows source.file (fault_count text) (asked_warnings text warns) (report_count text + asked_warnings text warns) most) (take_nil most)
+    ∙ ap (λ n. last_rows source.file n (asked_warnings text warns) (report_count text + asked_warnings text warns) most) no_fault
+    ∙ ap (λ n. last_rows source.file 0 n (report_count text + asked_warnings text warns) most) no_warning

@@ -9,6 +9,7 @@ pub mod HexRows
 pub mod HexUnique
 pub mod LineLaw
 pub mod LoadedCells
+pub mod OddAddresses
 pub mod Partly
 pub mod BinLaw
 pub mod BinSteps

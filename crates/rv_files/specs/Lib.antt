@@ -7,6 +7,7 @@ pub mod HexLoading
 pub mod LineMarks
 pub mod Lines
 pub mod Loading
+pub mod OddAddresses
 pub mod Segments
 pub mod Symbols
 pub mod TextReports

@@ -1,9 +1,9 @@
--- The reports of a text: those of the faults of all lines, and then of the warnings about them. The first ones are shown, and how
+-- The reports of a text: those of the faults of all lines, and then those of the warnings about them. The first ones are shown, and how
 -- many there are.
 use Rattle.std.specs.Prelude.{ℕ, ◌+◌, ◌/◌, min, max, Bool, List, [], ◌∷◌, ◌++◌, length, map, take, Option, Some, None, Result, Ok, Err, if◌then◌else◌}
 use Rattle.std.specs.List.{concat}
 use Rattle.rv_fix.specs.Values.{operand_values_of}
-use Rattle.rv_list.specs.Faults.{faults_of, fault_rows}
+use Rattle.rv_list.specs.Faults.{fault_rows}
 use Rattle.rv_list.specs.Shown.{Shown, ShownLine, from_lines}
 use Rattle.rv_report.specs.declared.reports.Style.{Style}
 use Rattle.rv_report.specs.Lines.{Line}
@@ -15,6 +15,8 @@ use Rattle.rv_store.specs.Shown.{shown_of}
 use Rattle.rv_store.specs.Text.{Text}
 use Rattle.rv_files.specs.declared.report_error.ReportError.{ReportError}
 use Rattle.rv_files.specs.declared.report_error.ReportError.TheVariants.{Write, Memory}
+use Rattle.rv_files.specs.declared.odd_addresses.Reported.{Reported}
+use Rattle.rv_files.specs.OddAddresses.{all_reported, reported_faults}
 use Rattle.rv_files.specs.Symbols.{symbols_of}
 
 -- a line with what its reports may name
@@ -28,14 +30,17 @@ reported_line text symbols number line = record {
   symbols = symbols;
 }
 
--- the report of each fault of a line
+-- the report of a fault of a line
+abbrev pub own_report_of : Style → Source → Text → (symbols : List (List ℕ)) → (number : ℕ) → ShownLine → Reported → List ℕ
+own_report_of style source text symbols number line reported =
+    report_of style source (names_from (record { text = text; line = number }) line.place.address) (shown_of text) (reported_line text symbols number line) reported.more reported.fault
+
+-- the reports of a line, one for each fault that has one of its own
 unfoldable pub line_reports : Style → Source → Text → (symbols : List (List ℕ)) → (number : ℕ) → ShownLine → List (List ℕ)
 line_reports style source text symbols number line =
-    map
-    (report_of style source (names_from (record { text = text; line = number }) line.place.address) (shown_of text) (reported_line text symbols number line))
-    (faults_of (shown_of text) number line)
+    map (own_report_of style source text symbols number line) (reported_faults (shown_of text) number line)
 
--- that of each fault of a text
+-- those of a text
 abbrev pub all_reports : Style → Source → Text → (symbols : List (List ℕ)) → List (List ℕ)
 all_reports style source text symbols = from_lines (shown_of text) (line_reports style source text symbols)
 
@@ -49,6 +54,10 @@ searched_symbols text shown = map (λ s. s.name) (take (searched shown) (symbols
 
 abbrev pub fault_count : Text → ℕ
 fault_count text = length (fault_rows (shown_of text))
+
+-- how many faults have a report
+abbrev pub report_count : Text → ℕ
+report_count text = length (all_reported (shown_of text))
 
 -- Warnings
 
@@ -86,8 +95,8 @@ asked_warnings text warns = if warns then warning_count text else 0
 -- the first reports, and how many there are
 unfoldable pub text_reports : Style → Source → Text → (most : ℕ) → (warns : Bool) → List ℕ
 text_reports style source text most warns =
-    concat (take most (reports style source text (searched_symbols text (min (fault_count text) most)) warns))
-    ++ last_rows source.file (fault_count text) (asked_warnings text warns) most
+    concat (take most (reports style source text (searched_symbols text (min (report_count text) most)) warns))
+    ++ last_rows source.file (fault_count text) (asked_warnings text warns) (report_count text + asked_warnings text warns) most
 
 -- how many calls of a writer have failed after its reports
 abbrev pub failures_by_report : {A : Type 0} → ℕ → Result A ReportError → ℕ

@@ -1,44 +1,20 @@
 //! How many faults a text has, and how many warnings there are about it.
 
-ghost use Rattle.std.specs.Prelude.{◌≡◌, ◌+◌, ◌*◌, ◌^◌, ◌<◌, ◌≤◌, length};
-ghost use Rattle.rv_list.specs.Faults.{fault_rows};
+ghost use Rattle.std.specs.Prelude.{◌≡◌, ◌+◌, ◌^◌, ◌<◌, ◌≤◌, length};
 ghost use Rattle.rv_list.specs.Shown.{from_lines};
 ghost use Rattle.rv_report.specs.Warnings.{warning_of};
 ghost use Rattle.rv_files.specs.TextReports.{asked_warnings, fault_count, optional, warnings_about};
 
-use arrayvec::ArrayVec;
-use rv_list::{LineSource, MAX_FAULTS, TestedLines, View, find_faults};
+use rv_list::{LineSource, View, count_faults};
 use rv_report::find_warning;
 use rv_stmt::Stmt;
 use rv_store::Store;
-use rv_text::Fault;
 
 /// How many faults a text has, and how many warnings there are about it.
 #[derive(Clone, Copy, Debug, PartialEq, Eq)]
 pub struct Counts {
     pub faults: u32,
     pub warnings: u32,
-}
-
-// How many faults there are: those of all lines.
-fn fault_count<V: View>(view: &V) -> u32
-where
-    V::Lines: TestedLines,
-    ensures value { result ≡ length (fault_rows (V.shown view.now)) }
-    ensures few { result ≤ 1004 * 16384 }
-{
-    let mut faults = ArrayVec::<Option<Fault>, MAX_FAULTS>::new();
-    let mut count = 0;
-    let mut lines = view.lines();
-    for k in 0..view.line_count() {
-        lines.advance();
-        if !lines.may_have_faults() {
-            continue;
-        }
-        find_faults(&mut faults, view, k + 1, &lines.line());
-        count += faults.len() as u32;
-    }
-    count
 }
 
 // How many warnings there are about a statement.
@@ -73,8 +49,9 @@ pub fn report_counts(store: &Store, warns: bool) -> Counts
     ensures warnings { result.warnings ≡ asked_warnings store.now warns }
     ensures few { result.faults + result.warnings < 2 ^ 32 }
 {
+    let view = &store;
     Counts {
-        faults: fault_count(&store),
-        warnings: if warns { warning_count(&store) } else { 0 },
+        faults: count_faults(view, view.lines()),
+        warnings: if warns { warning_count(view) } else { 0 },
     }
 }

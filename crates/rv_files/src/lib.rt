@@ -13,6 +13,7 @@ mod lines;
 mod loading;
 mod marks;
 mod numbers;
+mod odd_addresses;
 mod report_error;
 mod reporting;
 mod sections;

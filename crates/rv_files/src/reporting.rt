@@ -2,7 +2,6 @@
 
 ghost use Rattle.std.specs.Prelude.{◌≡◌, ◌+◌, ◌-◌, ◌^◌, ◌<◌, ◌≤◌, ◌++◌, length, map, take, Some, IfOk, OnOk};
 ghost use Rattle.std.specs.List.{concat, flat_map};
-ghost use Rattle.rv_list.specs.Faults.{faults_of, found};
 ghost use Rattle.rv_list.specs.Shown.{shown_line};
 ghost use Rattle.rv_report.specs.Lines.{line_of};
 ghost use Rattle.rv_report.specs.Origins.{source_of};
@@ -11,21 +10,23 @@ ghost use Rattle.rv_report.specs.Warnings.{warning_seen};
 ghost use Rattle.rv_store.specs.LinesOfTexts.{names_from};
 ghost use Rattle.rv_store.specs.Shown.{shown_of};
 ghost use Rattle.rv_text.specs.Streams.{Writes};
+ghost use Rattle.rv_files.specs.OddAddresses.{one_reported, parities_of, reported_faults};
 ghost use Rattle.rv_files.specs.Symbols.{symbols_of};
-ghost use Rattle.rv_files.specs.TextReports.{all_reports, all_warnings, asked_warnings, failures_by_report, fault_count, line_reports, reports, searched, text_reports};
+ghost use Rattle.rv_files.specs.TextReports.{all_reports, all_warnings, asked_warnings, failures_by_report, fault_count, line_reports, report_count, reports, searched, text_reports};
 
 use crate::counting::{Counts, report_counts};
+use crate::odd_addresses::{Parity, Reported, count_reported, find_reported, parities};
 use crate::report_error::ReportError;
 use crate::text_symbols::{first_symbols, names};
 use arrayvec::ArrayVec;
 use rv_expr::Names;
 use rv_fix::operand_values;
-use rv_list::{LineSource, LineView, MAX_FAULTS, View, find_faults};
+use rv_list::{LineSource, LineView, MAX_FAULTS, View};
 use rv_report::{
     FaultyLine, Page, Warning, find_warning, push_report_count, report, report_warning,
 };
 use rv_store::Store;
-use rv_text::{Fault, Sink, Tally, write_all};
+use rv_text::{Sink, Tally, write_all};
 use std::alloc::{AllocError, Global};
 
 /// Which reports of a text are wanted.
@@ -48,16 +49,16 @@ fn push_faults<N: Names, V: View>(
     line: &FaultyLine<'_>,
     names: &N,
     view: &V,
-    mut faults: &[Option<Fault>],
+    mut faults: &[Option<Reported>],
 ) -> Result<(), AllocError>
     requires labels { length line.now.stmt.now.labels ≤ 1000 }
     requires text { length line.now.text.now ≤ 1000 }
     ensures { OnOk result (out.new.items ≡ out.old.items
-        ++ flat_map (report_of page.now.style (source_of page.now) (N.environment names.now line.now.address) (V.shown view.now) (line_of line.now)) (found faults.entry.now)) }
+        ++ flat_map (λ r. report_of page.now.style (source_of page.now) (N.environment names.now line.now.address) (V.shown view.now) (line_of line.now) r.more r.fault) (flat_map one_reported faults.entry.now)) }
 {
-    'faults: while let [fault, later @ ..] = faults {
-        if let Some(fault) = fault {
-            report(out, alloc, page, line, names, view, *fault)?;
+    'faults: while let [reported, later @ ..] = faults {
+        if let Some(Reported { fault, more }) = reported {
+            report(out, alloc, page, line, names, view, *more, *fault)?;
         }
         faults = later;
     }
@@ -74,13 +75,13 @@ fn push_line(
     symbols: &[&[u8]],
     number: u32,
     line: &LineView<'_>,
-    faults: &[Option<Fault>],
+    faults: &[Option<Reported>],
 ) -> Result<(), AllocError>
     requires first { 1 ≤ number }
     requires last { number ≤ length store.now.lines }
     requires line { shown_line line.now ≡ (shown_of store.now).line number }
     requires labels { length line.now.stmt.now.labels ≤ 1000 }
-    requires faults { faults.now ≡ map Some (take (length faults.now) (faults_of (shown_of store.now) number (shown_line line.now))) }
+    requires faults { faults.now ≡ map Some (take (length faults.now) (reported_faults (shown_of store.now) number (shown_line line.now))) }
     ensures { OnOk result (out.new.items ≡ out.old.items
         ++ concat (take (length faults.now) (line_reports page.now.style (source_of page.now) store.now (map (λ s. s.now) symbols.now) number ((shown_of store.now).line number)))) }
 {
@@ -114,13 +115,13 @@ fn write_line<W: Sink>(
     symbols: &[&[u8]],
     number: u32,
     line: &LineView<'_>,
-    faults: &[Option<Fault>],
+    faults: &[Option<Reported>],
 ) -> Result<(), ReportError>
     requires first { 1 ≤ number }
     requires last { number ≤ length store.now.lines }
     requires line { shown_line line.now ≡ (shown_of store.now).line number }
     requires labels { length line.now.stmt.now.labels ≤ 1000 }
-    requires faults { faults.now ≡ map Some (take (length faults.now) (faults_of (shown_of store.now) number (shown_line line.now))) }
+    requires faults { faults.now ≡ map Some (take (length faults.now) (reported_faults (shown_of store.now) number (shown_line line.now))) }
     requires failures { W.failures sink.old < 2 ^ 64 - 1 }
     ensures text { Writes (W.taken sink.old) (concat (take (length faults.now) (line_reports page.now.style (source_of page.now) store.now (map (λ s. s.now) symbols.now) number ((shown_of store.now).line number)))) result (W.taken sink.new) }
     ensures count { W.failures sink.new ≡ failures_by_report (W.failures sink.old) result }
@@ -138,14 +139,17 @@ fn write_lines<W: Sink>(
     page: &Page<'_>,
     store: &Store,
     symbols: &[&[u8]],
+    parities: &[Parity],
     most: u32,
 ) -> Result<(), ReportError>
-    requires { W.failures sink.old < 2 ^ 64 - 1 }
+    requires parities { parities.now ≡ parities_of (shown_of store.now) }
+    requires few { length parities.now ≤ 16384 }
+    requires failures { W.failures sink.old < 2 ^ 64 - 1 }
     ensures text { Writes (W.taken sink.old) (concat (take most (all_reports page.now.style (source_of page.now) store.now (map (λ s. s.now) symbols.now)))) result (W.taken sink.new) }
     ensures count { W.failures sink.new ≡ failures_by_report (W.failures sink.old) result }
 {
     let view = &store;
-    let mut faults = ArrayVec::<Option<Fault>, MAX_FAULTS>::new();
+    let mut faults = ArrayVec::<Option<Reported>, MAX_FAULTS>::new();
     let mut left = most as usize;
     let mut lines = view.lines();
     for k in 0..view.line_count() {
@@ -154,7 +158,7 @@ fn write_lines<W: Sink>(
         }
         lines.advance();
         let line = lines.line();
-        find_faults(&mut faults, view, k + 1, &line);
+        find_reported(&mut faults, view, parities, k + 1, &line);
         let (first, _) = faults.as_slice().split_at(faults.len().min(left));
         write_line(sink, alloc, page, store, symbols, k + 1, &line, first)?;
         left -= first.len();
@@ -216,26 +220,29 @@ fn write_warnings<W: Sink>(
     Ok(())
 }
 
-// Writes the first reports of a text with so many faults, those of its warnings after those of its faults.
+// Writes the first reports of a text with so many reports of faults, those of its warnings after these.
 fn write_first<W: Sink>(
     sink: &mut W,
     alloc: Global,
     page: &Page<'_>,
     store: &Store,
     symbols: &[&[u8]],
-    faults: u32,
+    parities: &[Parity],
+    reported: u32,
     wanted: Wanted,
 ) -> Result<(), ReportError>
-    requires faults { faults ≡ fault_count store.now }
+    requires parities { parities.now ≡ parities_of (shown_of store.now) }
+    requires few { length parities.now ≤ 16384 }
+    requires reported { reported ≡ report_count store.now }
     requires failures { W.failures sink.old < 2 ^ 64 - 1 }
     ensures text { Writes (W.taken sink.old) (concat (take wanted.most (reports page.now.style (source_of page.now) store.now (map (λ s. s.now) symbols.now) wanted.warnings))) result (W.taken sink.new) }
     ensures count { W.failures sink.new ≡ failures_by_report (W.failures sink.old) result }
 {
-    write_lines(sink, alloc, page, store, symbols, wanted.most)?;
+    write_lines(sink, alloc, page, store, symbols, parities, wanted.most)?;
     if !wanted.warnings {
         return Ok(());
     }
-    let left = wanted.most.saturating_sub(faults);
+    let left = wanted.most.saturating_sub(reported);
     write_warnings(sink, alloc, page, store, left)
 }
 
@@ -245,15 +252,23 @@ fn write_count<W: Sink>(
     alloc: Global,
     file: &[u8],
     counts: Counts,
+    reports: u32,
     most: u32,
 ) -> Result<(), ReportError>
-    requires counts { counts.faults + counts.warnings < 2 ^ 32 }
-    requires failures { W.failures sink.old < 2 ^ 64 - 1 }
-    ensures text { Writes (W.taken sink.old) (last_rows file.now counts.faults counts.warnings most) result (W.taken sink.new) }
+    requires { W.failures sink.old < 2 ^ 64 - 1 }
+    ensures text { Writes (W.taken sink.old) (last_rows file.now counts.faults counts.warnings reports most) result (W.taken sink.new) }
     ensures count { W.failures sink.new ≡ failures_by_report (W.failures sink.old) result }
 {
     let mut row = Vec::new(alloc);
-    push_report_count(&mut row, alloc, file, counts.faults, counts.warnings, most)?;
+    push_report_count(
+        &mut row,
+        alloc,
+        file,
+        counts.faults,
+        counts.warnings,
+        reports,
+        most,
+    )?;
     write_all(sink, row.as_slice())?;
     Ok(())
 }
@@ -275,7 +290,9 @@ fn write_some<W: Sink>(
     ensures text { Writes (W.taken sink.old) (text_reports page.now.style (source_of page.now) store.now wanted.most wanted.warnings) result (W.taken sink.new) }
     ensures count { W.failures sink.new ≡ failures_by_report (W.failures sink.old) result }
 {
-    let searched = (COMPARED / counts.faults.min(wanted.most).max(1)) as usize;
+    let parities = parities(alloc, &store)?;
+    let reported = count_reported(&store, parities.as_slice());
+    let searched = (COMPARED / reported.min(wanted.most).max(1)) as usize;
     let symbols = first_symbols(alloc, &store, searched)?;
     let (first, _) = symbols.as_slice().split_at(symbols.len().min(searched));
     let names = names(alloc, first)?;
@@ -285,15 +302,18 @@ fn write_some<W: Sink>(
         page,
         store,
         names.as_slice(),
-        counts.faults,
+        parities.as_slice(),
+        reported,
         wanted,
     )?;
-    write_count(sink, alloc, page.file, counts, wanted.most)
+    let reports = reported + counts.warnings;
+    write_count(sink, alloc, page.file, counts, reports, wanted.most)
 }
 
 /// Writes the reports of a text on a page, as many as are wanted: those of each fault, in the order of the lines and of the faults of
-/// a line, then those of each warning, and how many there are. Returns the counts. No more memory is taken than for the
-/// reports of one line, and for the symbols among which names are looked for that may be meant.
+/// a line, then those of each warning, and how many there are. Of instructions at odd addresses for one reason the first has a
+/// report, with how many more there are. Returns the counts of all faults and warnings. No more memory is taken than for the
+/// reports of one line, for the symbols among which names are looked for that may be meant, and a few bytes for each line.
 ///
 /// # Errors
 ///

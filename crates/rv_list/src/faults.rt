@@ -116,8 +116,8 @@ fn push_body_fault(faults: &mut ArrayVec<Option<Fault>, MAX_FAULTS>, fault: Opti
     }
 }
 
-// Whether a body is an instruction with bytes, at an odd address.
-fn is_at_odd_address(body: &Body, place: LinePlace) -> bool
+/// Whether a body is an instruction with bytes, at an odd address.
+pub fn is_at_odd_address(body: &Body, place: LinePlace) -> bool
     ensures { result ≡ is_at_odd_address body.now place }
 {
     match body {

@@ -13,7 +13,10 @@ mod view;
 
 pub use bytes_left::section_bytes;
 pub use error::ListError;
-pub use faults::{MAX_FAULTS, count_faults, fault_name, find_faults, write_faults, write_tested_faults};
+pub use faults::{
+    MAX_FAULTS, count_faults, fault_name, find_faults, is_at_odd_address, write_faults,
+    write_tested_faults,
+};
 pub use image::write_image;
 pub use listing::write_listing;
 pub use rows::push_row;

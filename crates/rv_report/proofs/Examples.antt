@@ -33,7 +33,7 @@ use Rattle.rv_report.specs.Lines.{Line}
 use Rattle.rv_report.specs.Messages.{operand_count, register_range, undefined_near, later_equ, line_of_equ, faulty_equ_of, later_line, not_constant, no_partner, beyond_reach, out_of_range, not_multiple, odd_distance, odd_address, message_of}
 use Rattle.rv_report.specs.Numbers.{hexadecimal}
 use Rattle.rv_report.specs.OperandMessages.{comment_help, expected, missing_comma, no_operand, no_register, no_statement, parentheses_of, separation_of}
-use Rattle.rv_report.specs.Reports.{amount_of, both_counts, first_shown, last_row, last_rows, line_row, margin, mark, mark_row, message_row, note_at, painted, rendition, report_of, shown_line, warning_report_of}
+use Rattle.rv_report.specs.Reports.{amount_of, both_counts, first_shown, last_row, last_rows, line_row, margin, mark, mark_row, message_row, note_at, odd_note_at, odd_note_by, painted, rendition, report_of, shown_line, warning_report_of}
 use Rattle.rv_report.specs.Suggestions.{did_you_mean, suggestions}
 use Rattle.rv_report.specs.Texts.{about, quoted, quoted_from}
 use Rattle.rv_report.specs.UnknownNames.{missing_colon, replacement, unknown_name}
@@ -235,16 +235,16 @@ later_constant = refl
 
 -- Reports
 
-second_definition : report_of Plain (record { file = codes "b.s"; marks = [] }) names nothing_shown (faulty 20 (codes "\ttable: nop\r") []) (fault_at fault.Duplicate 1 6) ≡ codes "b.s:20:2: error: 'table' is already defined [Duplicate]\n   20 |         table: nop\n      |         ^~~~~\nb.s:18: note: the first definition is here\n"
+second_definition : report_of Plain (record { file = codes "b.s"; marks = [] }) names nothing_shown (faulty 20 (codes "\ttable: nop\r") []) 0 (fault_at fault.Duplicate 1 6) ≡ codes "b.s:20:2: error: 'table' is already defined [Duplicate]\n   20 |         table: nop\n      |         ^~~~~\nb.s:18: note: the first definition is here\n"
 unfolding report_of message_row line_row mark_row painted rendition shown_line margin mark note_at quoted about message_of fault_name digits
 second_definition = refl
 
-in_color : report_of Colored (record { file = codes "<stdin>"; marks = [] }) names nothing_shown (faulty 1 (codes "4") []) (fault_at fault.NoStatement 0 1) ≡ codes "<stdin>:1:1: " ++ (27 ∷ codes "[31merror:" ++ (27 ∷ codes "[0m an instruction or a directive is expected here [NoStatement]\n    1 | 4\n      | " ++ (27 ∷ codes "[32m^" ++ (27 ∷ codes "[0m\n"))))
+in_color : report_of Colored (record { file = codes "<stdin>"; marks = [] }) names nothing_shown (faulty 1 (codes "4") []) 0 (fault_at fault.NoStatement 0 1) ≡ codes "<stdin>:1:1: " ++ (27 ∷ codes "[31merror:" ++ (27 ∷ codes "[0m an instruction or a directive is expected here [NoStatement]\n    1 | 4\n      | " ++ (27 ∷ codes "[32m^" ++ (27 ∷ codes "[0m\n"))))
 unfolding report_of message_row line_row mark_row painted rendition shown_line margin mark note_at quoted about message_of no_statement fault_name digits
 in_color = refl
 
 -- line 18 is line 7 of a file, and line 20 is line 5 of another one
-marked : report_of Plain (record { file = codes "b.s"; marks = record { on = 17; line = 7; file = codes "c.h" } ∷ record { on = 18; line = 4; file = codes "\tc.c" } ∷ record { on = 20; line = 1; file = codes "d.c" } ∷ [] }) names nothing_shown (faulty 20 (codes "\ttable: nop\r") []) (fault_at fault.Duplicate 1 6) ≡ codes ".c.c:5:2: error: 'table' is already defined [Duplicate]\n    5 |         table: nop\n      |         ^~~~~\nc.h:7: note: the first definition is here\n"
+marked : report_of Plain (record { file = codes "b.s"; marks = record { on = 17; line = 7; file = codes "c.h" } ∷ record { on = 18; line = 4; file = codes "\tc.c" } ∷ record { on = 20; line = 1; file = codes "d.c" } ∷ [] }) names nothing_shown (faulty 20 (codes "\ttable: nop\r") []) 0 (fault_at fault.Duplicate 1 6) ≡ codes ".c.c:5:2: error: 'table' is already defined [Duplicate]\n    5 |         table: nop\n      |         ^~~~~\nc.h:7: note: the first definition is here\n"
 unfolding report_of message_row line_row mark_row painted rendition shown_line margin mark note_at quoted about message_of fault_name digits
 marked = refl
 
@@ -252,6 +252,11 @@ a_warning : warning_report_of Plain (record { file = codes "b.s"; marks = [] }) 
 unfolding warning_report_of warning_message message_row line_row mark_row painted rendition shown_line margin mark quoted about digits
 a_warning = refl
 
-last_counts : last_rows (codes "b.s") 0 0 1000 ∷ last_rows (codes "b.s") 1 0 1000 ∷ last_rows (codes "b.s") 2 1 3 ∷ last_rows (codes "b.s") 0 2 1000 ∷ last_rows (codes "b.s") 1001 0 1000 ∷ [] ≡ [] ∷ codes "b.s: 1 fault\n" ∷ codes "b.s: 2 faults, 1 warning\n" ∷ codes "b.s: 2 warnings\n" ∷ codes "b.s: 1001 faults; the first 1000 are shown, --all shows all\n" ∷ []
+-- one instruction, several, and none
+odd_notes : odd_note_by fault.OddAddress (record { file = codes "b.s"; line = 2 }) 1 ∷ odd_note_by fault.OddAddress (record { file = codes "b.s"; line = 2 }) 12 ∷ odd_note_by fault.OddAddress (record { file = codes "b.s"; line = 2 }) 0 ∷ odd_note_by fault.InBss (record { file = codes "b.s"; line = 2 }) 12 ∷ [] ≡ codes "b.s:2: note: and 1 more instruction after it, for the same reason\n" ∷ codes "b.s:2: note: and 12 more instructions after it, for the same reason\n" ∷ [] ∷ [] ∷ []
+unfolding odd_note_at amount_of digits
+odd_notes = refl
+
+last_counts : last_rows (codes "b.s") 0 0 0 1000 ∷ last_rows (codes "b.s") 1 0 1 1000 ∷ last_rows (codes "b.s") 2 1 3 3 ∷ last_rows (codes "b.s") 0 2 2 1000 ∷ last_rows (codes "b.s") 5000 0 1000 1000 ∷ last_rows (codes "b.s") 5000 0 1001 1000 ∷ [] ≡ [] ∷ codes "b.s: 1 fault\n" ∷ codes "b.s: 2 faults, 1 warning\n" ∷ codes "b.s: 2 warnings\n" ∷ codes "b.s: 5000 faults\n" ∷ codes "b.s: 5000 faults; the first 1000 reports are shown, --all shows all\n" ∷ []
 unfolding last_row both_counts amount_of first_shown digits
 last_counts = refl

@@ -87,14 +87,32 @@ abbrev pub note_by : FaultNumber → Source → DefinitionPlace → List ℕ
 note_by faults.Duplicate source place = note_of source place
 note_by number source place = []
 
--- the rows of a fault, with the place that its line comes from
-unfoldable pub report_of : Style → Source → Environment → Shown → Line → Fault → List ℕ
-report_of style source given shown line fault =
+-- so many, with the word for one of them
+unfoldable pub amount_of : (word : List ℕ) → (count : ℕ) → List ℕ
+amount_of word count = decimal count ++ (codes " " ++ (word ++ (if count == 1 then [] else codes "s")))
+
+-- one instruction at an odd address is reported for so many more
+unfoldable pub odd_note_at : Origin → (more : ℕ) → List ℕ
+odd_note_at origin more =
+    shown_name 0 origin.file ++ (codes ":" ++ (decimal origin.line ++ (codes ": note: and "
+    ++ (amount_of (codes "more instruction") more ++ codes " after it, for the same reason\n"))))
+
+abbrev pub odd_note_of : Origin → (more : ℕ) → List ℕ
+odd_note_of origin more = if more == 0 then [] else odd_note_at origin more
+
+abbrev pub odd_note_by : FaultNumber → Origin → (more : ℕ) → List ℕ
+odd_note_by faults.OddAddress origin more = odd_note_of origin more
+odd_note_by number origin more = []
+
+-- the rows of a fault, with the place that its line comes from, and how many more instructions it is reported for
+unfoldable pub report_of : Style → Source → Environment → Shown → Line → (more : ℕ) → Fault → List ℕ
+report_of style source given shown line more fault =
     let origin = origin_of source line.number in
     message_row style origin fault.span.from gravity.Error (message_of given shown line fault) (fault_name fault.number)
     ++ (line_row origin.line line.text
     ++ (mark_row style origin.line line.text fault.span
-    ++ note_by fault.number source (shown.definition (part line.text fault.span))))
+    ++ (note_by fault.number source (shown.definition (part line.text fault.span))
+    ++ odd_note_by fault.number origin more)))
 
 -- the rows of a warning about a line
 unfoldable pub warning_report_of : Style → Source → (number : ℕ) → (text : List ℕ) → Warning → List ℕ
@@ -104,10 +122,6 @@ warning_report_of style source number text warning =
     ++ (line_row origin.line text ++ mark_row style origin.line text warning.span)
 
 -- Counts
-
--- so many, with the word for one of them
-unfoldable pub amount_of : (word : List ℕ) → (count : ℕ) → List ℕ
-amount_of word count = decimal count ++ (codes " " ++ (word ++ (if count == 1 then [] else codes "s")))
 
 unfoldable pub both_counts : (faults warnings : ℕ) → List ℕ
 both_counts faults warnings = amount_of (codes "fault") faults ++ (codes ", " ++ amount_of (codes "warning") warnings)
@@ -120,15 +134,16 @@ counts_text faults warnings =
 
 -- of more reports than are shown, which ones are
 unfoldable pub first_shown : (most : ℕ) → List ℕ
-first_shown most = codes "; the first " ++ (decimal most ++ codes " are shown, --all shows all")
+first_shown most = codes "; the first " ++ (decimal most ++ codes " reports are shown, --all shows all")
 
 abbrev pub part_shown : (count most : ℕ) → List ℕ
 part_shown count most = if nat_le count most then [] else first_shown most
 
--- the row that ends the reports of a file
-unfoldable pub last_row : (file : List ℕ) → (faults warnings most : ℕ) → List ℕ
-last_row file faults warnings most =
-    file ++ (codes ": " ++ (counts_text faults warnings ++ (part_shown (faults + warnings) most ++ codes "\n")))
+-- the row that ends so many reports of a file
+unfoldable pub last_row : (file : List ℕ) → (faults warnings reports most : ℕ) → List ℕ
+last_row file faults warnings reports most =
+    file ++ (codes ": " ++ (counts_text faults warnings ++ (part_shown reports most ++ codes "\n")))
 
-abbrev pub last_rows : (file : List ℕ) → (faults warnings most : ℕ) → List ℕ
-last_rows file faults warnings most = if faults + warnings == 0 then [] else last_row file faults warnings most
+abbrev pub last_rows : (file : List ℕ) → (faults warnings reports most : ℕ) → List ℕ
+last_rows file faults warnings reports most =
+    if faults + warnings == 0 then [] else last_row file faults warnings reports most

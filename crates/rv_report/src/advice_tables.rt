@@ -268,8 +268,9 @@ pub const REGISTER_LETTERS: [AdviceRow; 5] = [
 ];
 
 /// The statements, and what takes a value that is out of their range.
-pub const RANGE_EXCEEDED: [AdviceRow; 11] = [
-    (&["lui", "auipc"], "; write '%hi(..)', or 'li'"),
+pub const RANGE_EXCEEDED: [AdviceRow; 12] = [
+    (&["lui"], "; write '%hi(..)', or 'li'"),
+    (&["auipc"], "; write '%pcrel_hi(..)', or 'la'"),
     (
         &["addi", "andi", "ori", "xori", "slti", "sltiu"],
         "; load the number by 'li' into a register",

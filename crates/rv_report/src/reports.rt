@@ -9,7 +9,9 @@ ghost use Rattle.rv_report.specs.Warnings.{warning_seen};
 use crate::faulty_line::{FaultyLine, part};
 use crate::messages::push_message;
 use crate::origins::{LineMark, origin_of};
-use crate::rows::{push_last_rows, push_line_row, push_mark_row, push_message_row, push_note};
+use crate::rows::{
+    push_last_rows, push_line_row, push_mark_row, push_message_row, push_note, push_odd_note,
+};
 use crate::text::Text;
 use crate::warnings::{Warning, push_warning_message};
 use rv_expr::Names;
@@ -54,11 +56,12 @@ fn push_report<N: Names, V: View>(
     line: &FaultyLine<'_>,
     names: &N,
     view: &V,
+    more: u32,
     fault: Fault,
 ) -> Result<(), AllocError>
     requires labels { length line.now.stmt.now.labels ≤ 1000 }
     requires text { length line.now.text.now ≤ 1000 }
-    ensures { OnOk result (out.new ≡ out.old ++ report_of page.now.style (source_of page.now) (N.environment names.now line.now.address) (V.shown view.now) (line_of line.now) fault) }
+    ensures { OnOk result (out.new ≡ out.old ++ report_of page.now.style (source_of page.now) (N.environment names.now line.now.address) (V.shown view.now) (line_of line.now) more fault) }
 {
     let mut message = Text::new(alloc);
     push_message(&mut message, alloc, line, names, view, fault)?;
@@ -76,11 +79,13 @@ fn push_report<N: Names, V: View>(
     push_line_row(out, origin.line, line.text)?;
     push_mark_row(out, alloc, page.style, origin.line, line.text, fault.span)?;
     let place = view.definition(part(line.text, fault.span));
-    push_note(out, page, fault.number, place)
+    push_note(out, page, fault.number, place)?;
+    push_odd_note(out, &origin, fault.number, more)
 }
 
 /// Appends the rows of a fault to a list of bytes: its message, the line, and a mark under the bytes at fault. For a second
-/// definition a row more says where the first one is.
+/// definition a row more says where the first one is, and for an instruction at an odd address for how many more it is reported,
+/// if these are some.
 ///
 /// # Errors
 ///
@@ -92,15 +97,16 @@ pub fn report<N: Names, V: View>(
     line: &FaultyLine<'_>,
     names: &N,
     view: &V,
+    more: u32,
     fault: Fault,
 ) -> Result<(), AllocError>
     requires labels { length line.now.stmt.now.labels ≤ 1000 }
     requires text { length line.now.text.now ≤ 1000 }
-    ensures appended { OnOk result (out.new.items ≡ out.old.items ++ report_of page.now.style (source_of page.now) (N.environment names.now line.now.address) (V.shown view.now) (line_of line.now) fault) }
+    ensures appended { OnOk result (out.new.items ≡ out.old.items ++ report_of page.now.style (source_of page.now) (N.environment names.now line.now.address) (V.shown view.now) (line_of line.now) more fault) }
     ensures refused { OnErr result (out.new.items ≡ out.old.items) }
 {
     let mut text = Text::new(alloc);
-    push_report(&mut text, alloc, page, line, names, view, fault)?;
+    push_report(&mut text, alloc, page, line, names, view, more, fault)?;
     out.extend_from_slice(text.bytes())
 }
 
@@ -156,8 +162,8 @@ pub fn report_warning(
     out.extend_from_slice(rows.bytes())
 }
 
-/// Appends the row that ends the reports of a file: how many faults and warnings it has, and which are shown, where at most so many
-/// are. There is none where it has neither.
+/// Appends the row that ends so many reports of a file: how many faults and warnings it has, and which reports are shown, where at most
+/// `most` are. There is none where it has neither.
 ///
 /// # Errors
 ///
@@ -168,13 +174,13 @@ pub fn push_report_count(
     file: &[u8],
     faults: u32,
     warnings: u32,
+    reports: u32,
     most: u32,
 ) -> Result<(), AllocError>
-    requires { faults + warnings < 2 ^ 32 }
-    ensures appended { OnOk result (out.new.items ≡ out.old.items ++ last_rows file.now faults warnings most) }
+    ensures appended { OnOk result (out.new.items ≡ out.old.items ++ last_rows file.now faults warnings reports most) }
     ensures refused { OnErr result (out.new.items ≡ out.old.items) }
 {
     let mut text = Text::new(alloc);
-    push_last_rows(&mut text, file, faults, warnings, most)?;
+    push_last_rows(&mut text, file, faults, warnings, reports, most)?;
     out.extend_from_slice(text.bytes())
 }

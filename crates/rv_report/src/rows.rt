@@ -3,7 +3,7 @@
 ghost use Rattle.std.specs.Prelude.{◌≡◌, ◌+◌, ◌^◌, ◌<◌, ◌≤◌, ◌++◌, codes, decimal, length, OnOk};
 ghost use Rattle.rv_report.specs.Characters.{shown_name};
 ghost use Rattle.rv_report.specs.Origins.{origin_seen, source_of};
-ghost use Rattle.rv_report.specs.Reports.{amount_of, both_counts, counts_text, first_shown, gravity_text, last_row, last_rows, line_row, margin, mark, mark_row, message_row, note_at, note_by, painted, part_shown, rendition, shown_line, text_end};
+ghost use Rattle.rv_report.specs.Reports.{amount_of, both_counts, counts_text, first_shown, gravity_text, last_row, last_rows, line_row, margin, mark, mark_row, message_row, note_at, note_by, odd_note_at, odd_note_by, painted, part_shown, rendition, shown_line, text_end};
 
 use crate::characters::{column_of, push_name, push_shown};
 use crate::origins::{Origin, origin_of};
@@ -215,6 +215,33 @@ pub fn push_note(
     }
 }
 
+// Appends the row that says for how many more instructions one at an odd address is reported.
+#[tactic(auto, unfolding(crate::specs::Reports::odd_note_at))]
+fn push_odd_note_at(out: &mut Text, origin: &Origin<'_>, more: u32) -> Result<(), AllocError>
+    ensures { OnOk result (out.new ≡ out.old ++ odd_note_at (origin_seen origin.now) more) }
+{
+    push_place(out, origin)?;
+    out.push(b": note: and ")?;
+    push_amount(out, b"more instruction", more)?;
+    out.push(b" after it, for the same reason\n")
+}
+
+/// Appends the row that says for how many more instructions this one is reported, if its fault is that its address is odd and
+/// there are some.
+pub fn push_odd_note(
+    out: &mut Text,
+    origin: &Origin<'_>,
+    number: FaultNumber,
+    more: u32,
+) -> Result<(), AllocError>
+    ensures { OnOk result (out.new ≡ out.old ++ odd_note_by number (origin_seen origin.now) more) }
+{
+    if number != FaultNumber::OddAddress || more == 0 {
+        return Ok(());
+    }
+    push_odd_note_at(out, origin, more)
+}
+
 // Appends that only the first reports are shown.
 #[tactic(auto, unfolding(crate::specs::Reports::first_shown))]
 fn push_first_shown(out: &mut Text, most: u32) -> Result<(), AllocError>
@@ -222,7 +249,7 @@ fn push_first_shown(out: &mut Text, most: u32) -> Result<(), AllocError>
 {
     out.push(b"; the first ")?;
     out.push_number(most)?;
-    out.push(b" are shown, --all shows all")
+    out.push(b" reports are shown, --all shows all")
 }
 
 // Appends which reports are shown, where not all are.
@@ -277,31 +304,31 @@ fn push_last_row(
     file: &[u8],
     faults: u32,
     warnings: u32,
+    reports: u32,
     most: u32,
 ) -> Result<(), AllocError>
-    requires { faults + warnings < 2 ^ 32 }
-    ensures { OnOk result (out.new ≡ out.old ++ last_row file.now faults warnings most) }
+    ensures { OnOk result (out.new ≡ out.old ++ last_row file.now faults warnings reports most) }
 {
     out.push(file)?;
     out.push(b": ")?;
     push_counts(out, faults, warnings)?;
-    push_part_shown(out, faults + warnings, most)?;
+    push_part_shown(out, reports, most)?;
     out.push(b"\n")
 }
 
-/// Appends the row that ends the reports of a file, of which at most so many are shown, if there are any.
+/// Appends the row that ends so many reports of a file, of which at most `most` are shown, if it has faults or warnings.
 pub fn push_last_rows(
     out: &mut Text,
     file: &[u8],
     faults: u32,
     warnings: u32,
+    reports: u32,
     most: u32,
 ) -> Result<(), AllocError>
-    requires { faults + warnings < 2 ^ 32 }
-    ensures { OnOk result (out.new ≡ out.old ++ last_rows file.now faults warnings most) }
+    ensures { OnOk result (out.new ≡ out.old ++ last_rows file.now faults warnings reports most) }
 {
-    if faults + warnings == 0 {
+    if faults == 0 && warnings == 0 {
         return Ok(());
     }
-    push_last_row(out, file, faults, warnings, most)
+    push_last_row(out, file, faults, warnings, reports, most)
 }

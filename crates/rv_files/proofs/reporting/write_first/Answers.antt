@@ -3,7 +3,7 @@ use Rattle.std.specs.List.{concat}
 use Rattle.std.proofs.lemmas.Result.{err_from_is_err_and}
 use Rattle.rv_text.specs.StreamLaws.{prefix_first, writes_then}
 use Rattle.rv_report.specs.Origins.{source_of}
-use Rattle.rv_files.specs.TextReports.{all_reports, all_warnings, fault_count}
+use Rattle.rv_files.specs.TextReports.{all_reports, all_warnings, report_count}
 use Rattle.rv_files.proofs.FirstReports.{all_counted, first_of_both, is_on}
 use Rattle.rv_files.proofs.reporting.write_first.Goals as goal
 
@@ -17,8 +17,8 @@ returns-in_err-write_lines-clause-text g c =
     let most = c.args.wanted.most in
     let faults = all_reports style source store symbols in
     let warnings = if c.args.wanted.warnings then all_warnings style source store else [] in
-    let whole = first_of_both most (fault_count store) faults warnings (all_counted style source store symbols) in
-    rw p.1 (prefix_first _ _ (concat (take most faults)) (concat (take (most - fault_count store) warnings)) _ whole c.in_err-write_lines.ensures.text)
+    let whole = first_of_both most (report_count store) faults warnings (all_counted style source store symbols) in
+    rw p.1 (prefix_first _ _ (concat (take most faults)) (concat (take (most - report_count store) warnings)) _ whole c.in_err-write_lines.ensures.text)
 
 pub returns-clause-text : goal.returns-clause-text
 returns-clause-text g c =
@@ -29,8 +29,8 @@ returns-clause-text g c =
     let most = c.args.wanted.most in
     let faults = all_reports style source store symbols in
     let warnings = all_warnings style source store in
-    let whole = first_of_both most (fault_count store) faults warnings (all_counted style source store symbols) in
+    let whole = first_of_both most (report_count store) faults warnings (all_counted style source store symbols) in
     let on : c.args.wanted.warnings ≡ true = is_on c.args.wanted.warnings c.if-not-wanted.false in
-    let left : c.saturating_sub-left.result ≡ most - fault_count store = omega (arith, c.saturating_sub-left.ensures, c.requires.faults) in
+    let left : c.saturating_sub-left.result ≡ most - report_count store = omega (arith, c.saturating_sub-left.ensures, c.requires.reported) in
     let text = rw left at c.write_warnings.ensures.text in
     rw (on, whole) (writes_then _ _ _ _ _ _ c.in_ok-write_lines.ensures.text text)

@@ -31,7 +31,7 @@ write_line-requires-clause-line g c =
 
 pub write_line-requires-clause-faults : goal.write_line-requires-clause-faults
 write_line-requires-clause-faults g c =
-    first_faults c.min.result _ _ (c.split_at.ensures.front ∙ ap (take c.min.result) (c.as_slice.ensures.value ∙ c.find_faults.ensures.faults))
+    first_faults c.min.result _ _ (c.split_at.ensures.front ∙ ap (take c.min.result) (c.as_slice.ensures.value ∙ c.find_reported.ensures.faults))
 
 pub returns-then-left-eq0-clause-text : goal.returns-then-left-eq0-clause-text
 returns-then-left-eq0-clause-text g c =
@@ -54,7 +54,7 @@ returns-in_err-write_line-clause-text g c =
     let reports : ℕ → List (List ℕ) = λ k. line_reports style source store symbols (k + 1) ((shown_of store).line (k + 1)) in
     let within : k < (shown_of store).count = omega (arith, c.loop-k-test.true, c.line_count-k-end.ensures.value) in
     let line = passed_line {shown = shown_of store} c.line-line.ensures.value c.advance.ensures.text c.loop-k.invariant.text c.advance.ensures.passed c.loop-k.invariant.passed in
-    let found = rw line at c.find_faults.ensures.faults in
+    let found = rw line at c.find_reported.ensures.faults in
     let here : c.len.result ≡ length (reports k) = c.len.ensures.value ∙ found_reports style source store symbols (k + 1) ((shown_of store).line (k + 1)) _ found in
     let count : length c.split_at.result.0.now ≡ min (c.args.most - length (joined reports k)) (length (reports k)) = omega (arith, c.split_at.ensures.front_len, c.min.ensures, here, c.loop-k.invariant.left) in
     let text = rw (as_many (reports k) (length c.split_at.result.0.now) (c.args.most - length (joined reports k)) count) at c.in_err-write_line.ensures.text in
@@ -69,7 +69,7 @@ loop-k-preserved g c =
     let k = c.loop-k.k in
     let reports : ℕ → List (List ℕ) = λ k. line_reports style source store symbols (k + 1) ((shown_of store).line (k + 1)) in
     let line = passed_line {shown = shown_of store} c.line-line.ensures.value c.advance.ensures.text c.loop-k.invariant.text c.advance.ensures.passed c.loop-k.invariant.passed in
-    let found = rw line at c.find_faults.ensures.faults in
+    let found = rw line at c.find_reported.ensures.faults in
     let here : c.len.result ≡ length (reports k) = c.len.ensures.value ∙ found_reports style source store symbols (k + 1) ((shown_of store).line (k + 1)) _ found in
     let count : length c.split_at.result.0.now ≡ min (c.args.most - length (joined reports k)) (length (reports k)) = omega (arith, c.split_at.ensures.front_len, c.min.ensures, here, c.loop-k.invariant.left) in
     let text = rw (as_many (reports k) (length c.split_at.result.0.now) (c.args.most - length (joined reports k)) count) at c.in_ok-write_line.ensures.text in

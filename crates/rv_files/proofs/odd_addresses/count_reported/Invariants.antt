@@ -1,0 +1,13 @@
+use Rattle.std.proofs.Common.{◌≡◌, ◌+◌, ◌*◌, ◌≤◌, length}
+use Rattle.rv_list.specs.Joined.{joined}
+use Rattle.rv_files.specs.OddAddresses.{reported_faults}
+use Rattle.rv_files.proofs.odd_addresses.count_reported.Given as goal
+
+-- those of the lines so far are counted
+abbrev pub invariant-loop-k : goal.invariant-loop-k
+invariant-loop-k g l = record {
+  count : l.count ≡ length (joined (λ k. reported_faults (g.V.View.shown l.view) (k + 1) ((g.V.View.shown l.view).line (k + 1))) l.k);
+  few : l.count ≤ 1004 * l.k;
+  text : g.V.Lines.LineSource.shown l.lines ≡ g.V.View.shown l.view;
+  passed : g.V.Lines.LineSource.passed l.lines ≡ l.k;
+}
