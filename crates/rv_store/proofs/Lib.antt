@@ -45,9 +45,9 @@ pub mod LocalLines
 pub mod LongerPrograms
 pub mod LongerTexts
 pub mod MovedDefinitions
+pub mod MovedLocals
 pub mod NameRows
 pub mod NameSets
-pub mod NoLocals
 pub mod OnlySymbols
 pub mod PairedHighs
 pub mod PassedItems

@@ -13,7 +13,7 @@ use Rattle.rv_stmt.specs.declared.label.Label.{Label}
 use Rattle.rv_stmt.specs.declared.label.LabelName.{LabelName}
 use Rattle.rv_stmt.specs.declared.label.LabelName.TheVariants as label
 use Rattle.rv_stmt.specs.Statement.{statement_of}
-use Rattle.rv_store.specs.Locals.{AreParted, last_up_to, first_above, local_line_in, AreRising, is_some_line, is_last, with_line, with_label, is_local_label, has_local_labels, with_labels, AreWithLabels}
+use Rattle.rv_store.specs.Locals.{AreParted, last_up_to, first_above, local_line_in, AreRising, is_local_label, has_local_labels}
 use Rattle.rv_store.specs.Program.{Program, program_of, lines_that, last_line, first_line, no_statement, statement_at}
 use Rattle.rv_store.specs.References.{has_local, among_local, is_local, local_line}
 use Rattle.rv_store.specs.Rows.{AreLocals}
@@ -207,16 +207,6 @@ last-push xs x =
     at [] = refl
     at (y ∷ ys) = at ys
 
-with_line-twice : (line : ℕ) (xs : List ℕ) → with_line line (with_line line xs) ≡ with_line line xs
-with_line-twice line xs = by (is_last line xs) refl
-  where
-    by : (b : Bool) → is_last line xs ≡ b → with_line line (with_line line xs) ≡ with_line line xs
-    by true e = ap (with_line line) (ap (λ c. if c then xs else xs ++ line ∷ []) e)
-    by false e =
-        let pushed : with_line line xs ≡ xs ++ line ∷ [] = ap (λ c. if c then xs else xs ++ line ∷ []) e in
-        let there : is_last line (xs ++ line ∷ []) ≡ true = ap (is_some_line line) (last-push xs line) ∙ eq-eqb line line refl in
-        ap (with_line line) pushed ∙ ap (λ c. if c then xs ++ line ∷ [] else (xs ++ line ∷ []) ++ line ∷ []) there ∙ sym pushed
-
 -- a line without local labels
 no-local : (k : ℕ) (name : LabelName) → is_local_label name ≡ false → is_local k name ≡ false
 no-local k (label.Local number) other = absurd (true≢false other)
@@ -227,31 +217,6 @@ none-among k [] none = refl
 none-among k (l ∷ ls) none =
     let parts = or_parts (is_local_label l.name) (has_local_labels ls) none in
     or_from _ _ (no-local k l.name parts.0) (none-among k ls parts.1)
-
-pub no-local_labels : (line : ℕ) (ls : List Label) (rows : List (List ℕ)) → has_local_labels ls ≡ false → AreWithLabels line ls rows rows
-no-local_labels line ls rows none = λ k. sym (ap (λ b. if b then with_line line (get_or rows k []) else get_or rows k []) (none-among k ls none))
-
--- one more label of a line
-pub with_labels-more : (line k : ℕ) (ls : List Label) (l : Label) (xs : List ℕ) → with_labels line k (ls ++ l ∷ []) xs ≡ with_label line k l (with_labels line k ls xs)
-with_labels-more line k ls l xs = ap (λ b. if b then with_line line xs else xs) (among-more ls) ∙ by (among_local k ls) (is_local k l.name)
-  where
-    among-more : (ls : List Label) → among_local k (ls ++ l ∷ []) ≡ (among_local k ls || is_local k l.name)
-    among-more [] = or-false (is_local k l.name)
-      where
-        or-false : (b : Bool) → (b || false) ≡ b
-        or-false true = refl
-        or-false false = refl
-    among-more (m ∷ ms) = ap (λ b. is_local k m.name || b) (among-more ms) ∙ or-assoc (is_local k m.name) (among_local k ms) (is_local k l.name)
-      where
-        or-assoc : (a b c : Bool) → (a || (b || c)) ≡ ((a || b) || c)
-        or-assoc true b c = refl
-        or-assoc false b c = refl
-
-    by : (a b : Bool) → (if a || b then with_line line xs else xs) ≡ (if b then with_line line (if a then with_line line xs else xs) else (if a then with_line line xs else xs))
-    by true true = sym (with_line-twice line xs)
-    by true false = refl
-    by false true = refl
-    by false false = refl
 
 -- the lines that pass a test are at most the last one looked at, and rise
 IsBelow : List ℕ → ℕ → Type 0
@@ -281,33 +246,3 @@ lines-rising test (suc n) = one-more-rising (test (suc n)) (lines_that test n) n
 
 pub rows-AreRising : (program : Program) (k : ℕ) (rows : List (List ℕ)) → AreLocals program k rows → AreRising rows
 rows-AreRising program k rows are number = subst IsNonDecreasing (sym (are number)) (lines-rising (has_local program number) k)
-
--- one more line
-is_some_line-past : (line : ℕ) (o : Option ℕ) → ((x : ℕ) → o ≡ Some x → x < line) → is_some_line line o ≡ false
-is_some_line-past line None below = refl
-is_some_line-past line (Some x) below = ne_eqb x line (λ e. let l = below x refl in omega (arith, e, l))
-
-with_line-next : (test : ℕ → Bool) (n : ℕ) → with_line (suc n) (lines_that test n) ≡ lines_that test n ++ suc n ∷ []
-unfolding IsBelow
-with_line-next test n =
-    let xs = lines_that test n in
-    let past : is_last (suc n) xs ≡ false =
-    is_some_line-past (suc n) (slice_get xs (length xs - 1))
-    (λ x e. let m = slice_get_within xs (length xs - 1) x e in let b = lines-IsBelow test n x (omega (arith, m)) in let g = get_or_from_slice_get xs (length xs - 1) x x e in omega (arith, b, g)) in
-    ap (λ b. if b then xs else xs ++ suc n ∷ []) past
-
-pub AreLocals-next : (program : Program) (i : ℕ) (old new : List (List ℕ)) → AreLocals program i old → AreWithLabels (suc i) (statement_at program (suc i)).labels old new → AreLocals program (suc i) new
-AreLocals-next program i old new are with_them = λ k. with_them k ∙ ap (with_labels (suc i) k (statement_at program (suc i)).labels) (are k) ∙ by k (has_local program k (suc i))
-  where
-    by : (k : ℕ) (b : Bool) → (if b then with_line (suc i) (lines_that (has_local program k) i) else lines_that (has_local program k) i) ≡ lines_that (has_local program k) i ++ (if b then suc i ∷ [] else [])
-    by k true = with_line-next (has_local program k) i
-    by k false = sym (append-nil (lines_that (has_local program k) i))
-
--- behind a line without local labels the rows are the same
-pub locals-past : (lines : List (List ℕ)) (i : ℕ) (line : List ℕ) (rows : List (List ℕ)) → i < length lines → line ≡ get_or lines i line → has_local_labels (statement_of line).labels ≡ false → AreLocals (program_of lines) i rows → AreLocals (program_of lines) (i + 1) rows
-locals-past lines i line rows within is none are =
-    let program = program_of lines in
-    let next : suc i ≡ i + 1 = omega arith in
-    let statement : statement_of line ≡ statement_at program (suc i) = sym (statement-of-line lines i line within is) ∙ ap (statement_at program) (sym next) in
-    subst (λ k. AreLocals program k rows) next
-    (AreLocals-next program i rows rows are (subst (λ s. AreWithLabels (suc i) s.labels rows rows) statement (no-local_labels (suc i) (statement_of line).labels rows none)))

@@ -32,6 +32,7 @@ pub mod LinesOfTexts
 pub mod LinesWithout
 pub mod Locals
 pub mod MovedDefinitions
+pub mod MovedLocals
 pub mod NameSets
 pub mod PairedHighs
 pub mod Pairs

@@ -37,24 +37,7 @@ local_line_in rows line number direction = line_among (get_or rows number []) li
 abbrev pub AreRising : List (List ℕ) → Type 0
 AreRising rows = (number : ℕ) → IsNonDecreasing (get_or rows number [])
 
--- The rows as they are made
-
--- there is a line, and it is this one
-abbrev pub is_some_line : (line : ℕ) → Option ℕ → Bool
-is_some_line line None = false
-is_some_line line (Some l) = l == line
-
--- a line is the last of some
-abbrev pub is_last : (line : ℕ) → List ℕ → Bool
-is_last line lines = is_some_line line (slice_get lines (length lines - 1))
-
--- some lines and this one, where it is not the last of them already
-abbrev pub with_line : (line : ℕ) → List ℕ → List ℕ
-with_line line lines = if is_last line lines then lines else lines ++ line ∷ []
-
--- the list of the number k, with a line that has this label
-abbrev pub with_label : (line k : ℕ) → Label → List ℕ → List ℕ
-with_label line k l lines = if is_local k l.name then with_line line lines else lines
+-- Local labels of a line
 
 -- one of some labels is a local one
 abbrev pub is_local_label : LabelName → Bool
@@ -63,11 +46,3 @@ is_local_label (label.Symbol symbol) = false
 
 abbrev pub has_local_labels : List Label → Bool
 has_local_labels labels = list_any (λ l. is_local_label l.name) labels
-
--- the list of the number k, with a line that has these labels
-abbrev pub with_labels : (line k : ℕ) → List Label → List ℕ → List ℕ
-with_labels line k ls lines = if among_local k ls then with_line line lines else lines
-
--- the rows with a line that has these labels
-abbrev pub AreWithLabels : (line : ℕ) → List Label → (old new : List (List ℕ)) → Type 0
-AreWithLabels line labels old new = (k : ℕ) → get_or new k [] ≡ with_labels line k labels (get_or old k [])

@@ -1,19 +1,14 @@
 //! The lines of local labels.
 
-ghost use Rattle.std.specs.Prelude.{◌≡◌, ◌≤◌, ◌<◌, ◌^◌, ℕ, [], nat_le, true, false, List, length, get_or, IfOk, IsTrue};
+ghost use Rattle.std.specs.Prelude.{◌≡◌, ◌≤◌, [], nat_le, true, false, length, IsTrue};
 ghost use Rattle.std.specs.List.{AllWithin};
 ghost use Rattle.std.specs.List.Sorted.{IsNonDecreasing};
-ghost use Rattle.rv_stmt.specs.Statement.{statement_of};
-ghost use Rattle.rv_store.specs.Locals.{AreParted, line_among, local_line_in, with_line, with_label, has_local_labels, AreWithLabels};
-ghost use Rattle.rv_store.specs.Program.{program_of};
-ghost use Rattle.rv_store.specs.Rows.{AreLocals};
+ghost use Rattle.rv_store.specs.Locals.{AreParted, AreRising, line_among, local_line_in, has_local_labels};
 
-use crate::limits::MAX_LINES;
-use crate::line::Line;
 use rv_expr::Direction;
 use rv_stmt::{Label, LabelName};
 use rv_text::Sequence;
-use std::alloc::{AllocError, Global};
+use std::alloc::Global;
 use std::marker::Model;
 
 // How far from a guess a count is looked for first.
@@ -34,78 +29,6 @@ impl Model for Locals {
     ghost view = { λ l. l.rows.items };
 
     ghost invariant = { λ l. AreRising l.rows.items };
-}
-
-// Empty lists up to that of this number.
-fn fill(alloc: Global, rows: &mut Vec<Sequence<u32>>, number: usize) -> Result<(), AllocError>
-    requires { number < 2 ^ 16 }
-    ensures lists { IfOk result (λ _. (k : ℕ) → get_or rows.new.items k [] ≡ get_or rows.old.items k []) }
-    ensures within { IfOk result (λ _. number < length rows.new.items) }
-{
-    'fill: while rows.len() <= number {
-        rows.push(Sequence::new(alloc))?;
-    }
-    Ok(())
-}
-
-// A line at the end of the list, where it is not there yet.
-fn add_line(lines: &mut Sequence<u32>, line: u32) -> Result<(), AllocError>
-    ensures { IfOk result (λ _. lines.new ≡ with_line line lines.old) }
-{
-    if lines.as_slice().last() != Some(&line) {
-        lines.push(line)?;
-    }
-    Ok(())
-}
-
-// A label of a line.
-fn add_label(
-    alloc: Global,
-    rows: &mut Vec<Sequence<u32>>,
-    label: &Label,
-    line: u32,
-) -> Result<(), AllocError>
-    ensures { IfOk result (λ _. (k : ℕ) → get_or rows.new.items k [] ≡ with_label line k label.now (get_or rows.old.items k [])) }
-{
-    match label.name {
-        LabelName::Local(number) => {
-            let number = usize::from(number);
-            fill(alloc, rows, number)?;
-            add_line(&mut rows[number], line)
-        }
-        LabelName::Symbol(_) => Ok(()),
-    }
-}
-
-// The labels of a line.
-fn add_labels(
-    alloc: Global,
-    rows: &mut Vec<Sequence<u32>>,
-    labels: &[Label],
-    line: u32,
-) -> Result<(), AllocError>
-    ensures { IfOk result (λ _. AreWithLabels line labels.now rows.old.items rows.new.items) }
-{
-    for label in labels {
-        add_label(alloc, rows, label, line)?;
-    }
-    Ok(())
-}
-
-// The first of some lines, from this place on, that has local labels, or their end. Those without are gone past without a look at their
-// statements.
-fn first_labelled(lines: &[Line], i: usize) -> usize
-    requires within { i ≤ length lines.now }
-    ensures up { i ≤ result }
-    ensures within { result ≤ length lines.now }
-    ensures passed { (rows : List (List ℕ)) → AreLocals (program_of lines.now) i rows → AreLocals (program_of lines.now) result rows }
-{
-    for k in i..lines.len() {
-        if lines[k].brief().local_labels {
-            return k;
-        }
-    }
-    lines.len()
 }
 
 /// Whether one of some labels is a local one.
@@ -210,26 +133,19 @@ impl Locals {
         }
     }
 
-    /// Whether there are none.
-    pub fn is_empty(&self) -> bool
-        ensures { result ≡ true → self.now ≡ [] }
+    /// Those of these rows.
+    pub fn of_rows(rows: Vec<Sequence<u32>>) -> Self
+        requires { AreRising rows.items }
+        ensures { result ≡ rows.items }
     {
-        self.rows.is_empty()
+        Locals { rows }
     }
 
-    /// The local labels of a text.
-    pub fn of(alloc: Global, lines: &[Line]) -> Result<Locals, AllocError>
-        requires few { length lines.now ≤ MAX_LINES }
-        ensures { IfOk result (λ l. AreLocals (program_of lines.now) (length lines.now) l) }
+    /// The rows.
+    pub fn rows(&self) -> &[Sequence<u32>]
+        ensures { result.now ≡ self.now }
     {
-        let mut rows = Vec::new(alloc);
-        let mut i = first_labelled(lines, 0);
-        while i < lines.len() {
-            let labels = lines[i].stmt().labels.as_slice();
-            add_labels(alloc, &mut rows, labels, i as u32 + 1)?;
-            i = first_labelled(lines, i + 1);
-        }
-        Ok(Locals { rows })
+        self.rows.as_slice()
     }
 
     /// How many lines up to this one have the local label of a number: looked for first where it would be if they stood evenly.
