@@ -15,3 +15,16 @@ pub mod BinLaw
 pub mod BinSteps
 pub mod Reports
 pub mod LineMarks
+pub mod Outcomes
+pub mod LoadForms
+pub mod LoadOperands
+pub mod RegularBodies
+pub mod StringBytes
+pub mod PayloadBytes
+pub mod PayloadSizes
+pub mod LineSizes
+pub mod SectionSizes
+pub mod SegmentOrder
+pub mod TextSegments
+pub mod FileTexts
+pub mod TextEdits

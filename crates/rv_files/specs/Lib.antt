@@ -10,4 +10,5 @@ pub mod Loading
 pub mod OddAddresses
 pub mod Segments
 pub mod Symbols
+pub mod TextLimits
 pub mod TextReports

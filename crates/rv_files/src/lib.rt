@@ -26,6 +26,8 @@ pub use elf::{Elf, write_elf};
 pub use hex::write_hex;
 pub use laws::{
     bin_holds_the_segments, elf_is_loaded, hex_is_loaded, hex_rows_are_unique, lines_are_the_file,
+    lines_have_their_sizes, segments_of_texts_are_loadable, texts_are_loaded,
+    texts_are_within_limits,
 };
 pub use limits::LoadError;
 pub use lines::Lines;
