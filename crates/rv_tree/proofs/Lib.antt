@@ -3,3 +3,4 @@ pub mod Exits
 pub mod Fewest
 pub mod Heights
 pub mod Prefixes
+pub mod Rows

@@ -3,6 +3,7 @@ pub mod Passes
 pub mod PassLaws
 pub mod Refusals
 pub mod Root
+pub mod Rows
 pub mod Shape
 pub mod SumLaws
 pub mod Sums

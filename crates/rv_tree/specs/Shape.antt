@@ -1,5 +1,5 @@
 -- What a node is seen as, and what holds of each node.
-use Rattle.std.specs.Prelude.{◌≡◌, ℕ, zero, suc, ◌+◌, ◌≤◌, max, [], ◌∷◌, ◌++◌, length}
+use Rattle.std.specs.Prelude.{◌≡◌, ℕ, zero, suc, ◌+◌, ◌≤◌, max, List, ◌++◌, length}
 use Rattle.rv_tree.specs.Contents.{Contents}
 use Rattle.rv_tree.specs.Sums.{total, AllSums}
 use Rattle.rv_tree.specs.declared.node.Node.{Node}
@@ -7,7 +7,7 @@ use Rattle.rv_tree.specs.declared.node.Node.TheVariants.{Leaf, Fork}
 
 -- the items from left to right, and the nodes on the longest path
 abbrev pub contents : {T S : Type 0} → Node T S → Contents T
-contents (Leaf x) = record { items = x ∷ []; height = 1 }
+contents (Leaf xs s) = record { items = xs; height = 1 }
 contents (Fork l r n h s) = record { items = l.value.items ++ r.value.items; height = max l.value.height r.value.height + 1 }
 
 -- the fewest items of a balanced tree whose longest path has so many nodes
@@ -28,6 +28,12 @@ IsNear l r = (l ≤ r + 2) × (r ≤ l + 2)
 abbrev pub IsSettled : ℕ → ℕ → ℕ → Type 0
 IsSettled l r h = (max l r ≤ h) × (h ≤ max l r + 1) × (IsBalanced l r → h ≡ max l r + 1)
 
+-- A leaf has an item, and keeps the sum of its items.
+pub record IsSoundLeaf {T S : Type 0} (is_value : S → Type 0) (empty : S) (op : S → S → S) (sum_of : T → S) (xs : List T) (s : S) : Type 0 where
+  pub some : 1 ≤ length xs
+  pub sum_is : s ≡ total empty op sum_of xs
+  pub sums : AllSums is_value sum_of xs
+
 -- A fork is balanced, and the numbers that it keeps are those of its items.
 pub record IsSoundFork {T S : Type 0} (is_value : S → Type 0) (empty : S) (op : S → S → S) (sum_of : T → S) (l r : Contents T) (n h : ℕ) (s : S) : Type 0 where
   pub len_is : n ≡ length l.items + length r.items
@@ -39,5 +45,5 @@ pub record IsSoundFork {T S : Type 0} (is_value : S → Type 0) (empty : S) (op 
   pub high : (1 ≤ l.height) × (1 ≤ r.height)
 
 abbrev pub IsSound : {T S : Type 0} → (S → Type 0) → S → (S → S → S) → (T → S) → Node T S → Type 0
-IsSound is_value empty op sum_of (Leaf x) = is_value (sum_of x)
+IsSound is_value empty op sum_of (Leaf xs s) = IsSoundLeaf is_value empty op sum_of xs s
 IsSound is_value empty op sum_of (Fork l r n h s) = IsSoundFork is_value empty op sum_of l.value r.value n h s

@@ -14,24 +14,16 @@ impl<T: Summed> Subtree<T> {
         alloc: Global,
         tree: &Rc<Subtree<T>>,
         before: u32,
-        item: T,
+        item: Rc<T>,
     ) -> Result<Rc<Subtree<T>>, AllocError>
         requires place { before ≤ length tree.now.value.items }
         requires room { length tree.now.value.items < MAX_ITEMS }
-        ensures items { IfOk result (λ t. t.value.items ≡ insert tree.now.value.items before item) }
+        ensures items { IfOk result (λ t. t.value.items ≡ insert tree.now.value.items before item.value) }
         ensures height { IfOk result (λ t. (tree.now.value.height ≤ t.value.height) × (t.value.height ≤ tree.now.value.height + 1)) }
     {
         let here: &Subtree<T> = tree;
         match &here.node {
-            Node::Leaf(_) => {
-                let new = Rc::new(alloc, Subtree::leaf(item))?;
-                let old = Rc::clone(tree)?;
-                if before == 0 {
-                    Subtree::joined(alloc, new, old)
-                } else {
-                    Subtree::joined(alloc, old, new)
-                }
-            }
+            Node::Leaf { row, .. } => Subtree::inserted_in_leaf(alloc, tree, row, before, item),
             Node::Fork { left, right, .. } => {
                 let left_len = left.len();
                 if before <= left_len {
@@ -45,7 +37,8 @@ impl<T: Summed> Subtree<T> {
         }
     }
 
-    // Takes out the item behind the first `before`. Of a single item nothing is left.
+    // Takes out the item behind the first `before`. Of a single item nothing is left, and two leaves whose items fit in one
+    // become one.
     pub(crate) fn deleted(
         alloc: Global,
         tree: &Subtree<T>,
@@ -56,8 +49,11 @@ impl<T: Summed> Subtree<T> {
         ensures items { IfOk result (λ o. MatchOption o (remove tree.now.items before ≡ []) (λ t. t.value.items ≡ remove tree.now.items before)) }
         ensures height { IfOk result (λ o. MatchOption o (tree.now.height ≡ 1) (λ t. (t.value.height ≤ tree.now.height) × (tree.now.height ≤ t.value.height + 1))) }
     {
+        if tree.is_thin() {
+            return Ok(Some(Subtree::united(alloc, tree, before)?));
+        }
         match &tree.node {
-            Node::Leaf(_) => Ok(None),
+            Node::Leaf { row, .. } => Subtree::deleted_from_leaf(alloc, row, before),
             Node::Fork { left, right, .. } => {
                 let left_len = left.len();
                 if before < left_len {
@@ -80,15 +76,15 @@ impl<T: Summed> Subtree<T> {
         alloc: Global,
         tree: &Subtree<T>,
         before: u32,
-        item: T,
+        item: Rc<T>,
     ) -> Result<Rc<Subtree<T>>, AllocError>
         requires place { before < length tree.now.items }
         requires few { length tree.now.items ≤ MAX_ITEMS }
-        ensures items { IfOk result (λ t. t.value.items ≡ slice_set tree.now.items before item) }
+        ensures items { IfOk result (λ t. t.value.items ≡ slice_set tree.now.items before item.value) }
         ensures height { IfOk result (λ t. t.value.height ≡ tree.now.height) }
     {
         match &tree.node {
-            Node::Leaf(_) => Ok(Rc::new(alloc, Subtree::leaf(item))?),
+            Node::Leaf { row, .. } => Subtree::replaced_in_leaf(alloc, row, before, item),
             Node::Fork { left, right, .. } => {
                 let left_len = left.len();
                 if before < left_len {

@@ -6,11 +6,14 @@ mod balance;
 mod edits;
 mod error;
 mod items;
+mod leaf_edits;
 mod limits;
 mod look_up;
 mod node;
 mod passes;
 mod rewriting;
+mod row;
+mod row_rewriting;
 mod sums;
 mod tree;
 

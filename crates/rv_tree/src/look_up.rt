@@ -13,7 +13,7 @@ impl<T: Summed> Subtree<T> {
         ensures { slice_get self.now.items before ≡ Some result.now }
     {
         match &self.node {
-            Node::Leaf(item) => item,
+            Node::Leaf { row, .. } => row.get(before),
             Node::Fork { left, right, .. } => {
                 let left_len = left.len();
                 if before < left_len {
@@ -31,14 +31,7 @@ impl<T: Summed> Subtree<T> {
         ensures { result ≡ total T.Sum.empty T.Sum.op T.sum_of (take count self.now.items) }
     {
         match &self.node {
-            Node::Leaf(item) => {
-                let unit = T::Sum::unit();
-                if count == 0 {
-                    unit
-                } else {
-                    item.sum().join(&unit)
-                }
-            }
+            Node::Leaf { row, .. } => row.sum(count),
             Node::Fork { left, right, .. } => {
                 let left_len = left.len();
                 if count <= left_len {

@@ -1,11 +1,13 @@
 //! The nodes of a tree. Items stand in its leaves, and each other node has two sides whose heights are at most 1 apart.
 
-ghost use Rattle.std.specs.Prelude.{◌≡◌, ◌+◌, ◌≤◌, max, length, [], ◌∷◌, ◌++◌};
+ghost use Rattle.std.specs.Prelude.{◌≡◌, ◌+◌, ◌≤◌, max, length, [], ◌∷◌, ◌++◌, IfOk};
 ghost use Rattle.rv_tree.specs.Sums.{total, AllSums};
 ghost use Rattle.rv_tree.specs.Shape.{IsBalanced, fewest};
 
 use crate::limits::{MAX_HEIGHT, MAX_ITEMS};
+use crate::row::Row;
 use crate::sums::{Joined, Summed};
+use std::alloc::{AllocError, Global};
 use std::marker::Model;
 use std::rc::Rc;
 
@@ -19,7 +21,11 @@ pub(crate) struct Subtree<T: Summed> {
 #[cycle(subtree)]
 #[derive(Drop)]
 pub(crate) enum Node<T: Summed> {
-    Leaf(T),
+    Leaf {
+        row: Row<T>,
+        // The sum of all items.
+        sum: T::Sum,
+    },
     Fork {
         left: Rc<Subtree<T>>,
         right: Rc<Subtree<T>>,
@@ -51,14 +57,31 @@ impl<T: Summed> Model for Subtree<T> {
 }
 
 impl<T: Summed> Subtree<T> {
-    pub(crate) fn leaf(item: T) -> Subtree<T>
-        ensures items { result.items ≡ item ∷ [] }
+    fn leaf(row: Row<T>) -> Subtree<T>
+        requires { 1 ≤ length row }
+        ensures items { result.items ≡ row }
         ensures height { result.height ≡ 1 }
     {
-        item.sum().known();
+        let sum = row.sum(row.len());
         Subtree {
-            node: Node::Leaf(item),
+            node: Node::Leaf { row, sum },
         }
+    }
+
+    // The tree of the items of a row.
+    pub(crate) fn of_row(alloc: Global, row: Row<T>) -> Result<Rc<Subtree<T>>, AllocError>
+        requires { 1 ≤ length row }
+        ensures items { IfOk result (λ t. t.value.items ≡ row) }
+        ensures height { IfOk result (λ t. t.value.height ≡ 1) }
+    {
+        Ok(Rc::new(alloc, Subtree::leaf(row))?)
+    }
+
+    pub(crate) fn of_one(alloc: Global, item: Rc<T>) -> Result<Rc<Subtree<T>>, AllocError>
+        ensures items { IfOk result (λ t. t.value.items ≡ item.value ∷ []) }
+        ensures height { IfOk result (λ t. t.value.height ≡ 1) }
+    {
+        Subtree::of_row(alloc, Row::of_one(alloc, item)?)
     }
 
     // How many items there are.
@@ -66,7 +89,7 @@ impl<T: Summed> Subtree<T> {
         ensures { result ≡ length self.now.items }
     {
         match &self.node {
-            Node::Leaf(_) => 1,
+            Node::Leaf { row, .. } => row.len(),
             Node::Fork { len, .. } => *len,
         }
     }
@@ -80,30 +103,31 @@ impl<T: Summed> Subtree<T> {
         ensures bounded { length self.now.items ≤ MAX_ITEMS → self.now.height ≤ MAX_HEIGHT }
     {
         match &self.node {
-            Node::Leaf(_) => 1,
+            Node::Leaf { .. } => 1,
             Node::Fork { height, .. } => *height,
         }
     }
 
-    // The sum of all items.
-    pub(crate) fn sum(&self) -> T::Sum
-        ensures value { result ≡ total T.Sum.empty T.Sum.op T.sum_of self.now.items }
-        ensures sums { AllSums T.Sum.IsValue T.sum_of self.now.items }
+    // The items of a leaf.
+    pub(crate) fn row(&self) -> &Row<T>
+        requires { self.now.height ≡ 1 }
+        ensures items { result.now ≡ self.now.items }
+        ensures some { 1 ≤ length result.now }
     {
-        match &self.node {
-            Node::Leaf(item) => item.sum().join(&T::Sum::unit()),
-            Node::Fork { sum, .. } => sum.join(&T::Sum::unit()),
-        }
+        let Node::Leaf { row, .. } = &self.node else {
+            unreachable!()
+        };
+        row
     }
 
-    // The sum of some items before the tree and of all of its own.
-    pub(crate) fn sum_behind(&self, before: &T::Sum) -> T::Sum
-        ensures value { result ≡ T.Sum.op before.now (total T.Sum.empty T.Sum.op T.sum_of self.now.items) }
+    // The sum of all items.
+    pub(crate) fn sum(&self) -> &T::Sum
+        ensures value { result.now ≡ total T.Sum.empty T.Sum.op T.sum_of self.now.items }
         ensures sums { AllSums T.Sum.IsValue T.sum_of self.now.items }
     {
         match &self.node {
-            Node::Leaf(item) => before.join(&item.sum().join(&T::Sum::unit())),
-            Node::Fork { sum, .. } => before.join(sum),
+            Node::Leaf { sum, .. } => sum,
+            Node::Fork { sum, .. } => sum,
         }
     }
 
@@ -117,7 +141,7 @@ impl<T: Summed> Subtree<T> {
         let second: &Subtree<T> = &right;
         let len = first.len() + second.len();
         let height = first.height().max(second.height()) + 1;
-        let sum = second.sum_behind(&first.sum());
+        let sum = first.sum().join(second.sum());
         Subtree {
             node: Node::Fork {
                 left,

@@ -1,13 +1,13 @@
 //! A pass over all items. A part whose items are all kept is shared, not made anew.
 
-ghost use Rattle.std.specs.Prelude.{◌≡◌, ◌+◌, ◌≤◌, max, length, [], ◌∷◌, ◌++◌, List, IfOk, OnErr, IsTrue, false};
+ghost use Rattle.std.specs.Prelude.{◌≡◌, ◌+◌, ◌≤◌, max, length, ◌++◌, List, IfOk, OnErr, false};
 ghost use Rattle.rv_tree.specs.Passes.{Runs, Stops};
 ghost use Rattle.rv_tree.specs.Shape.{IsBalanced};
-ghost use Rattle.rv_tree.specs.Sums.{total, AllSums};
 
 use crate::limits::MAX_ITEMS;
 use crate::node::{Node, Subtree};
 use crate::passes::Pass;
+use crate::row::Row;
 use crate::sums::{Joined, Summed};
 use std::alloc::{AllocError, Global};
 use std::rc::Rc;
@@ -21,20 +21,6 @@ pub(crate) struct Rewritten<T: Summed> {
 }
 
 impl<T: Summed> Subtree<T> {
-    // Whether a pass passes over all items, behind new items of this sum. It is asked where there are several.
-    fn is_passed_over<P: Pass<T>>(&self, before: &T::Sum, pass: &P) -> bool
-        ensures keeps { IsTrue result → P.keeps pass.now before.now (total T.Sum.empty T.Sum.op T.sum_of self.now.items) }
-        ensures sums { AllSums T.Sum.IsValue T.sum_of self.now.items }
-    {
-        match &self.node {
-            Node::Leaf(item) => {
-                item.sum().known();
-                false
-            }
-            Node::Fork { sum, .. } => pass.skips(before, sum),
-        }
-    }
-
     // `before` is the sum of the new items before the tree.
     pub(crate) fn rewritten<P: Pass<T>>(
         alloc: Global,
@@ -51,48 +37,49 @@ impl<T: Summed> Subtree<T> {
     {
         before.known();
         let here: &Subtree<T> = tree;
-        if here.is_passed_over(before, pass) {
+        if pass.skips(before, here.sum()) {
             return Ok(Rewritten {
                 tree: Rc::clone(tree)?,
                 changed: false,
             });
         }
         match &here.node {
-            Node::Leaf(item) => Ok(Subtree::rewritten_leaf(alloc, tree, item, before, pass)?),
+            Node::Leaf { row, .. } => Ok(Subtree::rewritten_leaf(alloc, tree, row, before, pass)?),
             Node::Fork { left, right, .. } => {
                 let first = Subtree::rewritten(alloc, left, before, pass)?;
                 let made: &Subtree<T> = &first.tree;
-                let middle = made.sum_behind(before);
+                let middle = before.join(made.sum());
                 let second = Subtree::rewritten(alloc, right, &middle, pass)?;
                 Ok(Subtree::rejoined(alloc, tree, first, second)?)
             }
         }
     }
 
-    // A tree of one item.
+    // A leaf of the items of `row`.
     fn rewritten_leaf<P: Pass<T>>(
         alloc: Global,
         tree: &Rc<Subtree<T>>,
-        item: &T,
+        row: &Row<T>,
         before: &T::Sum,
         pass: &mut P,
     ) -> Result<Rewritten<T>, AllocError>
-        requires accepted { (rest : List T) × P.accepts pass.old before.now (item.now ∷ rest) }
-        requires items { tree.now.value.items ≡ item.now ∷ [] }
+        requires some { 1 ≤ length row.now }
+        requires accepted { (rest : List T) × P.accepts pass.old before.now (row.now ++ rest) }
+        requires items { tree.now.value.items ≡ row.now }
         requires height { tree.now.value.height ≡ 1 }
-        ensures runs { IfOk result (λ r. Runs P.gives T.Sum.op T.sum_of pass.old before.now (item.now ∷ []) r.tree.value.items pass.new) }
+        ensures runs { IfOk result (λ r. Runs P.gives T.Sum.op T.sum_of pass.old before.now row.now r.tree.value.items pass.new) }
         ensures height { IfOk result (λ r. r.tree.value.height ≡ 1) }
-        ensures length { IfOk result (λ r. length r.tree.value.items ≡ 1) }
-        ensures same { IfOk result (λ r. r.changed ≡ false → r.tree.value.items ≡ item.now ∷ []) }
-        ensures stops { OnErr result (Stops P.gives P.refuses T.Sum.op T.sum_of pass.old before.now (item.now ∷ []) pass.new) }
+        ensures length { IfOk result (λ r. length r.tree.value.items ≡ length row.now) }
+        ensures same { IfOk result (λ r. r.changed ≡ false → r.tree.value.items ≡ row.now) }
+        ensures stops { OnErr result (Stops P.gives P.refuses T.Sum.op T.sum_of pass.old before.now row.now pass.new) }
     {
-        match pass.visit(before, item)? {
+        match row.rewritten(alloc, before, pass)? {
             None => Ok(Rewritten {
                 tree: Rc::clone(tree)?,
                 changed: false,
             }),
-            Some(item) => Ok(Rewritten {
-                tree: Rc::new(alloc, Subtree::leaf(item))?,
+            Some(row) => Ok(Rewritten {
+                tree: Subtree::of_row(alloc, row)?,
                 changed: true,
             }),
         }

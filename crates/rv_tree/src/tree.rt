@@ -106,7 +106,7 @@ impl<T: Summed> SumTree<T> {
     {
         match &self.root {
             None => T::Sum::unit(),
-            Some(root) => root.sum(),
+            Some(root) => root.sum().join(&T::Sum::unit()),
         }
     }
 
@@ -127,8 +127,9 @@ impl<T: Summed> SumTree<T> {
         if len >= MAX_ITEMS {
             return Err(TreeError::Full);
         }
+        let item = Rc::new(self.alloc, item)?;
         let root = match &self.root {
-            None => Rc::new(self.alloc, Subtree::leaf(item))?,
+            None => Subtree::of_one(self.alloc, item)?,
             Some(root) => Subtree::inserted(self.alloc, root, k - 1, item)?,
         };
         Ok(SumTree::with_root(self.alloc, root))
@@ -170,6 +171,7 @@ impl<T: Summed> SumTree<T> {
         match &self.root {
             None => Err(TreeError::Place),
             Some(root) => {
+                let item = Rc::new(self.alloc, item)?;
                 let root = Subtree::replaced(self.alloc, root, k - 1, item)?;
                 Ok(SumTree::with_root(self.alloc, root))
             }

@@ -1,6 +1,6 @@
-use Rattle.std.proofs.Common.{rules, ◌≡◌, ◌+◌, ◌≤◌, ◌++◌, ◌∷◌, [], length, max, Some, arith, ap, sym, ◌∙◌}
+use Rattle.std.proofs.Common.{rules, ◌≡◌, ◌+◌, ◌++◌, ◌∷◌, [], length, max, Some, arith, ap, sym, ◌∙◌}
 use Rattle.std.proofs.lemmas.List.{append_assoc, length-append}
-use Rattle.rv_tree.specs.Items.{subtrees, items_left, AreLow}
+use Rattle.rv_tree.specs.Items.{subtrees, items_left}
 use Rattle.rv_tree.specs.ItemLaws.{left_pushed, low_pushed, subtrees_pushed, subtrees_count}
 use Rattle.rv_tree.proofs.items.+first_below.Goals as goal
 

@@ -1,4 +1,4 @@
-use Rattle.std.proofs.Common.{◌≡◌, ℕ, ◌≤◌, ◌<◌, ◌+◌, ◌-◌, ◌++◌, length, length-append, refl, ap, sym, rules, arith}
+use Rattle.std.proofs.Common.{◌≡◌, ℕ, ◌≤◌, ◌<◌, ◌+◌, ◌-◌, ◌++◌, length, length-append, ap, sym, rules, arith}
 use Rattle.std.specs.List.{insert}
 use Rattle.std.proofs.lemmas.List.Edits.{insert-append_left, insert-append_right, length-insert}
 use Rattle.rv_tree.proofs.Heights.{near_after, made_grown, made_grown_right}
@@ -17,8 +17,8 @@ balanced-requires-clause-near g t c =
 pub returns-in_ok-clone-in-Fork-clause-items : goal.returns-in_ok-clone-in-Fork-clause-items
 returns-in_ok-clone-in-Fork-clause-items g t c =
     let is = rw (c.deref-here.ensures, c.in-Fork.is) at c.here.view_is in
-    let items : c.in_ok-side-in-Fork.side.value.items ++ c.in_ok-clone-in-Fork.field-0.value.items ≡ insert c.args.tree.now.value.items c.args.before c.args.item =
-    rw (c.in_ok-side-in-Fork.ensures.items, c.in_ok-clone-in-Fork.ensures.cases, ← ap (λ d. d.items) is) (sym (insert-append_left c.in-Fork.left.value.items c.in-Fork.right.value.items c.args.before c.args.item (rw (c.len-left_len.ensures, c.deref.ensures) at c.if-before-left_len.true))) in
+    let items : c.in_ok-side-in-Fork.side.value.items ++ c.in_ok-clone-in-Fork.field-0.value.items ≡ insert c.args.tree.now.value.items c.args.before c.args.item.value =
+    rw (c.in_ok-side-in-Fork.ensures.items, c.in_ok-clone-in-Fork.ensures.cases, ← ap (λ d. d.items) is) (sym (insert-append_left c.in-Fork.left.value.items c.in-Fork.right.value.items c.args.before c.args.item.value (rw (c.len-left_len.ensures, c.deref.ensures) at c.if-before-left_len.true))) in
     rw items at c.balanced.ensures.items
 
 pub returns-in_ok-clone-in-Fork-clause-height : goal.returns-in_ok-clone-in-Fork-clause-height
@@ -35,8 +35,8 @@ balanced-requires-else-before-left_len-clause-near g t c =
 pub returns-in_ok-clone-in-Fork-2-clause-items : goal.returns-in_ok-clone-in-Fork-2-clause-items
 returns-in_ok-clone-in-Fork-2-clause-items g t c =
     let is = rw (c.deref-here.ensures, c.in-Fork.is) at c.here.view_is in
-    let items : c.in_ok-clone-in-Fork-2.field-0.value.items ++ c.in_ok-side-in-Fork-2.side.value.items ≡ insert c.args.tree.now.value.items c.args.before c.args.item =
-    rw (c.in_ok-side-in-Fork-2.ensures.items, c.in_ok-clone-in-Fork-2.ensures.cases, ← ap (λ d. d.items) is) (sym (insert-append_right c.in-Fork.left.value.items c.in-Fork.right.value.items c.len-left_len.result c.args.before c.args.item (sym (rw c.deref.ensures at c.len-left_len.ensures)) (omega (arith, c.if-before-left_len.false)))) in
+    let items : c.in_ok-clone-in-Fork-2.field-0.value.items ++ c.in_ok-side-in-Fork-2.side.value.items ≡ insert c.args.tree.now.value.items c.args.before c.args.item.value =
+    rw (c.in_ok-side-in-Fork-2.ensures.items, c.in_ok-clone-in-Fork-2.ensures.cases, ← ap (λ d. d.items) is) (sym (insert-append_right c.in-Fork.left.value.items c.in-Fork.right.value.items c.len-left_len.result c.args.before c.args.item.value (sym (rw c.deref.ensures at c.len-left_len.ensures)) (omega (arith, c.if-before-left_len.false)))) in
     rw items at c.balanced-else-before-left_len.ensures.items
 
 pub returns-in_ok-clone-in-Fork-2-clause-height : goal.returns-in_ok-clone-in-Fork-2-clause-height
@@ -45,19 +45,6 @@ returns-in_ok-clone-in-Fork-2-clause-height g t c =
     let ok = rw c.in-Fork.is at c.here.invariant in
     made_grown_right c.balanced-else-before-left_len.result (λ d. d.value.height) c.args.tree.now.value.height c.in-Fork.left.value.height c.in-Fork.right.value.height c.in_ok-side-in-Fork-2.side.value.height (ap (λ d. d.height) is) ok.balanced c.in_ok-side-in-Fork-2.ensures.height (rw c.in_ok-clone-in-Fork-2.ensures.cases at c.balanced-else-before-left_len.ensures.height)
 
-pub returns-then-before-eq0-clause-items : goal.returns-then-before-eq0-clause-items
-returns-then-before-eq0-clause-items g t c =
-    let is = rw (c.deref-here.ensures, c.in-Leaf.is) at c.here.view_is in
-    let items : c.in_ok-new-in-Leaf.new.value.items ++ c.in_ok-old-in-Leaf.old.value.items ≡ insert c.args.tree.now.value.items c.args.before c.args.item = rw (c.in_ok-new-in-Leaf.ensures.ok, c.leaf.ensures.items, c.in_ok-old-in-Leaf.ensures.cases, ← ap (λ d. d.items) is, c.if-before-eq0.true) refl in
-    rw items at c.joined.ensures.items
-
-pub returns-else-before-eq0-clause-items : goal.returns-else-before-eq0-clause-items
-returns-else-before-eq0-clause-items g t c =
-    let is = rw (c.deref-here.ensures, c.in-Leaf.is) at c.here.view_is in
-    let last : c.args.before ≡ 1 = omega (arith, c.requires.place, ap (λ d. length d.items) is, c.if-before-eq0.false) in
-    let items : c.in_ok-old-in-Leaf.old.value.items ++ c.in_ok-new-in-Leaf.new.value.items ≡ insert c.args.tree.now.value.items c.args.before c.args.item = rw (c.in_ok-new-in-Leaf.ensures.ok, c.leaf.ensures.items, c.in_ok-old-in-Leaf.ensures.cases, ← ap (λ d. d.items) is, last) refl in
-    rw items at c.joined-else-before-eq0.ensures.items
-
 pub overflow_sub-before : goal.overflow_sub-before
 overflow_sub-before g t c = omega (arith, c.if-before-left_len.false)
 
@@ -65,7 +52,7 @@ pub balanced-requires-clause-few : goal.balanced-requires-clause-few
 balanced-requires-clause-few g t c =
     let is = rw (c.deref-here.ensures, c.in-Fork.is) at c.here.view_is in
     let place = rw (c.len-left_len.ensures, c.deref.ensures) at c.if-before-left_len.true in
-    rw (c.in_ok-side-in-Fork.ensures.items, c.in_ok-clone-in-Fork.ensures.cases, length-insert c.in-Fork.left.value.items c.args.before c.args.item place)
+    rw (c.in_ok-side-in-Fork.ensures.items, c.in_ok-clone-in-Fork.ensures.cases, length-insert c.in-Fork.left.value.items c.args.before c.args.item.value place)
     (omega (arith, c.requires.room, ap (λ d. length d.items) is, length-append c.in-Fork.left.value.items c.in-Fork.right.value.items))
 
 pub balanced-requires-else-before-left_len-clause-few : goal.balanced-requires-else-before-left_len-clause-few
@@ -74,7 +61,7 @@ balanced-requires-else-before-left_len-clause-few g t c =
     let len = rw c.deref.ensures at c.len-left_len.ensures in
     let both = length-append c.in-Fork.left.value.items c.in-Fork.right.value.items in
     let place : c.args.before - c.len-left_len.result ≤ length c.in-Fork.right.value.items = omega (arith, c.requires.place, ap (λ d. length d.items) is, both, len) in
-    rw (c.in_ok-side-in-Fork-2.ensures.items, c.in_ok-clone-in-Fork-2.ensures.cases, length-insert c.in-Fork.right.value.items (c.args.before - c.len-left_len.result) c.args.item place)
+    rw (c.in_ok-side-in-Fork-2.ensures.items, c.in_ok-clone-in-Fork-2.ensures.cases, length-insert c.in-Fork.right.value.items (c.args.before - c.len-left_len.result) c.args.item.value place)
     (omega (arith, c.requires.room, ap (λ d. length d.items) is, both))
 
 pub inserted-requires : goal.inserted-requires
@@ -92,33 +79,3 @@ inserted-requires-else-before-left_len g t c = λ κs w.
     let place : c.args.before - c.len-left_len.result ≤ length c.in-Fork.right.value.items = omega (arith, c.requires.place, ap (λ d. length d.items) is, both, len) in
     let room : length c.in-Fork.right.value.items < 16384 = omega (arith, c.requires.room, ap (λ d. length d.items) is, both) in
     (search rules, (search rules, (search rules, (place, room))))
-
-pub joined-requires-clause-left_low : goal.joined-requires-clause-left_low
-joined-requires-clause-left_low g t c =
-    let is = rw (c.deref-here.ensures, c.in-Leaf.is) at c.here.view_is in
-    rw (c.in_ok-new-in-Leaf.ensures.ok, c.leaf.ensures.height, c.in_ok-old-in-Leaf.ensures.cases, ← ap (λ d. d.height) is) (omega arith)
-
-pub joined-requires-clause-right_low : goal.joined-requires-clause-right_low
-joined-requires-clause-right_low g t c =
-    let is = rw (c.deref-here.ensures, c.in-Leaf.is) at c.here.view_is in
-    rw (c.in_ok-new-in-Leaf.ensures.ok, c.leaf.ensures.height, c.in_ok-old-in-Leaf.ensures.cases, ← ap (λ d. d.height) is) (omega arith)
-
-pub joined-requires-clause-few : goal.joined-requires-clause-few
-joined-requires-clause-few g t c =
-    let is = rw (c.deref-here.ensures, c.in-Leaf.is) at c.here.view_is in
-    rw (c.in_ok-new-in-Leaf.ensures.ok, c.leaf.ensures.items, c.in_ok-old-in-Leaf.ensures.cases, ← ap (λ d. d.items) is) (omega arith)
-
-pub joined-requires-else-before-eq0-clause-left_low : goal.joined-requires-else-before-eq0-clause-left_low
-joined-requires-else-before-eq0-clause-left_low g t c =
-    let is = rw (c.deref-here.ensures, c.in-Leaf.is) at c.here.view_is in
-    rw (c.in_ok-new-in-Leaf.ensures.ok, c.leaf.ensures.height, c.in_ok-old-in-Leaf.ensures.cases, ← ap (λ d. d.height) is) (omega arith)
-
-pub joined-requires-else-before-eq0-clause-right_low : goal.joined-requires-else-before-eq0-clause-right_low
-joined-requires-else-before-eq0-clause-right_low g t c =
-    let is = rw (c.deref-here.ensures, c.in-Leaf.is) at c.here.view_is in
-    rw (c.in_ok-new-in-Leaf.ensures.ok, c.leaf.ensures.height, c.in_ok-old-in-Leaf.ensures.cases, ← ap (λ d. d.height) is) (omega arith)
-
-pub joined-requires-else-before-eq0-clause-few : goal.joined-requires-else-before-eq0-clause-few
-joined-requires-else-before-eq0-clause-few g t c =
-    let is = rw (c.deref-here.ensures, c.in-Leaf.is) at c.here.view_is in
-    rw (c.in_ok-new-in-Leaf.ensures.ok, c.leaf.ensures.items, c.in_ok-old-in-Leaf.ensures.cases, ← ap (λ d. d.items) is) (omega arith)

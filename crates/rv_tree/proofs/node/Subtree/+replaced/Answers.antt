@@ -16,13 +16,13 @@ joined-requires-clause-right_low g t c =
 pub joined-requires-clause-few : goal.joined-requires-clause-few
 joined-requires-clause-few g t c =
     let is = rw c.in-Fork.is at c.tree.view_is in
-    rw (c.in_ok-side-in-Fork.ensures.items, c.deref-then-before-left_len.ensures, c.in_ok-clone-in-Fork.ensures.cases, length-set c.in-Fork.left.value.items c.args.before c.args.item) (omega (arith, c.requires.few, ap (λ d. length d.items) is, length-append c.in-Fork.left.value.items c.in-Fork.right.value.items))
+    rw (c.in_ok-side-in-Fork.ensures.items, c.deref-then-before-left_len.ensures, c.in_ok-clone-in-Fork.ensures.cases, length-set c.in-Fork.left.value.items c.args.before c.args.item.value) (omega (arith, c.requires.few, ap (λ d. length d.items) is, length-append c.in-Fork.left.value.items c.in-Fork.right.value.items))
 
 pub returns-in_ok-clone-in-Fork-clause-items : goal.returns-in_ok-clone-in-Fork-clause-items
 returns-in_ok-clone-in-Fork-clause-items g t c =
     let is = rw c.in-Fork.is at c.tree.view_is in
-    let items : c.in_ok-side-in-Fork.side.value.items ++ c.in_ok-clone-in-Fork.field-0.value.items ≡ set c.args.tree.now.items c.args.before c.args.item =
-    rw (c.in_ok-side-in-Fork.ensures.items, c.deref-then-before-left_len.ensures, c.in_ok-clone-in-Fork.ensures.cases, ← ap (λ d. d.items) is) (sym (set-append_left c.in-Fork.left.value.items c.in-Fork.right.value.items c.args.before c.args.item (rw (c.len-left_len.ensures, c.deref.ensures) at c.if-before-left_len.true))) in
+    let items : c.in_ok-side-in-Fork.side.value.items ++ c.in_ok-clone-in-Fork.field-0.value.items ≡ set c.args.tree.now.items c.args.before c.args.item.value =
+    rw (c.in_ok-side-in-Fork.ensures.items, c.deref-then-before-left_len.ensures, c.in_ok-clone-in-Fork.ensures.cases, ← ap (λ d. d.items) is) (sym (set-append_left c.in-Fork.left.value.items c.in-Fork.right.value.items c.args.before c.args.item.value (rw (c.len-left_len.ensures, c.deref.ensures) at c.if-before-left_len.true))) in
     rw items at c.joined.ensures.items
 
 pub returns-in_ok-clone-in-Fork-clause-height : goal.returns-in_ok-clone-in-Fork-clause-height
@@ -44,13 +44,13 @@ joined-requires-else-before-left_len-clause-right_low g t c =
 pub joined-requires-else-before-left_len-clause-few : goal.joined-requires-else-before-left_len-clause-few
 joined-requires-else-before-left_len-clause-few g t c =
     let is = rw c.in-Fork.is at c.tree.view_is in
-    rw (c.in_ok-side-in-Fork-2.ensures.items, c.deref-else-before-left_len.ensures, c.in_ok-clone-in-Fork-2.ensures.cases, length-set c.in-Fork.right.value.items (c.args.before - c.len-left_len.result) c.args.item) (omega (arith, c.requires.few, ap (λ d. length d.items) is, length-append c.in-Fork.left.value.items c.in-Fork.right.value.items))
+    rw (c.in_ok-side-in-Fork-2.ensures.items, c.deref-else-before-left_len.ensures, c.in_ok-clone-in-Fork-2.ensures.cases, length-set c.in-Fork.right.value.items (c.args.before - c.len-left_len.result) c.args.item.value) (omega (arith, c.requires.few, ap (λ d. length d.items) is, length-append c.in-Fork.left.value.items c.in-Fork.right.value.items))
 
 pub returns-in_ok-clone-in-Fork-2-clause-items : goal.returns-in_ok-clone-in-Fork-2-clause-items
 returns-in_ok-clone-in-Fork-2-clause-items g t c =
     let is = rw c.in-Fork.is at c.tree.view_is in
-    let items : c.in_ok-clone-in-Fork-2.field-0.value.items ++ c.in_ok-side-in-Fork-2.side.value.items ≡ set c.args.tree.now.items c.args.before c.args.item =
-    rw (c.in_ok-side-in-Fork-2.ensures.items, c.deref-else-before-left_len.ensures, c.in_ok-clone-in-Fork-2.ensures.cases, ← ap (λ d. d.items) is) (sym (set-append_right c.in-Fork.left.value.items c.in-Fork.right.value.items c.len-left_len.result c.args.before c.args.item (sym (rw c.deref.ensures at c.len-left_len.ensures)) c.if-before-left_len.false)) in
+    let items : c.in_ok-clone-in-Fork-2.field-0.value.items ++ c.in_ok-side-in-Fork-2.side.value.items ≡ set c.args.tree.now.items c.args.before c.args.item.value =
+    rw (c.in_ok-side-in-Fork-2.ensures.items, c.deref-else-before-left_len.ensures, c.in_ok-clone-in-Fork-2.ensures.cases, ← ap (λ d. d.items) is) (sym (set-append_right c.in-Fork.left.value.items c.in-Fork.right.value.items c.len-left_len.result c.args.before c.args.item.value (sym (rw c.deref.ensures at c.len-left_len.ensures)) c.if-before-left_len.false)) in
     rw items at c.joined-else-before-left_len.ensures.items
 
 pub returns-in_ok-clone-in-Fork-2-clause-height : goal.returns-in_ok-clone-in-Fork-2-clause-height

@@ -16,11 +16,11 @@ invariant_of-result g c =
     let l = rw c.deref-first.ensures at c.height.ensures in
     let r = rw c.deref-second.ensures at c.height-2.ensures in
     let ls = rw c.deref-first.ensures at c.sum.ensures in
-    let rs = rw c.deref-second.ensures at c.sum_behind-sum.ensures in
+    let rs = rw c.deref-second.ensures at c.sum-2.ensures in
     record {
       len_is = cc;
       height_is = rw (c.max-height.ensures, l.value, r.value) refl;
-      sum_is = rw (rs.value, ls.value) (sym (total-append laws g.T.Summed.sum_of _ _ ls.sums rs.sums));
+      sum_is = rw (c.join-sum.ensures, rs.value, ls.value) (sym (total-append laws g.T.Summed.sum_of _ _ ls.sums rs.sums));
       sums = all_sums-append j.IsValue g.T.Summed.sum_of _ _ ls.sums rs.sums;
       balanced = c.requires.balanced;
       full = omega (arith, fewest_fork _ _ c.requires.balanced (omega (arith, l.value, l.positive)) (omega (arith, r.value, r.positive)), l.full, r.full);

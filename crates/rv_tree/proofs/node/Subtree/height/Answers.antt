@@ -3,7 +3,9 @@ use Rattle.rv_tree.proofs.Fewest.{fewest_one, fewest_bounds, height_bound}
 use Rattle.rv_tree.proofs.node.Subtree.height.Goals as goal
 
 pub returns-in-Leaf-clause-full : goal.returns-in-Leaf-clause-full
-returns-in-Leaf-clause-full g c = rw (← c.self.view_is, c.in-Leaf.is) (omega (arith, fewest_one))
+returns-in-Leaf-clause-full g c =
+    let ok = rw c.in-Leaf.is at c.self.invariant in
+    rw (← c.self.view_is, c.in-Leaf.is) (omega (arith, fewest_one, ok.some))
 
 pub returns-in-Fork-clause-low : goal.returns-in-Fork-clause-low
 returns-in-Fork-clause-low g c =

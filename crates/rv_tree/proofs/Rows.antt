@@ -1,0 +1,65 @@
+-- The items of a row.
+use Rattle.std.proofs.Common.{◌≡◌, ℕ, zero, suc, ◌+◌, ◌<◌, List, [], ◌∷◌, ◌++◌, length, take, drop, Some, arith, ap, ap₂, sym, ◌∙◌, refl, add-one}
+use Rattle.std.specs.Prelude.{slice_get, slice_index_or}
+use Rattle.std.specs.List.{insert, remove, AllZip}
+use Rattle.std.proofs.lemmas.List.{map-append, take-map, drop-map, drop-drop, drop_more, take-append-drop}
+use Rattle.std.specs.declared.rc.Rc.{Rc}
+use Rattle.std.specs.declared.alloc.Global.{Global}
+use Rattle.rv_tree.specs.Rows.{values, one_behind}
+
+-- items that are shared once more
+pub values-cloned : {T : Type 0} (xs ys : List (Rc T Global)) → AllZip (λ x y. y.value ≡ x.value) xs ys → values ys ≡ values xs
+values-cloned [] [] same = refl
+values-cloned [] (y ∷ ys) same = absurd same
+values-cloned (x ∷ xs) [] same = absurd same
+values-cloned (x ∷ xs) (y ∷ ys) same = ap₂ (λ z zs. z ∷ zs) same.0 (values-cloned xs ys same.1)
+
+pub values-append : {T : Type 0} (xs ys : List (Rc T Global)) → values (xs ++ ys) ≡ values xs ++ values ys
+values-append xs ys = map-append (λ x. x.value) xs ys
+
+pub values-insert : {T : Type 0} (xs : List (Rc T Global)) (i : ℕ) (x : Rc T Global) → values (insert xs i x) ≡ insert (values xs) i x.value
+values-insert xs i x =
+    map-append (λ y. y.value) (take i xs) (x ∷ drop i xs)
+    ∙ ap₂ (λ ys zs. ys ++ x.value ∷ zs) (sym (take-map (λ y. y.value) i xs)) (sym (drop-map (λ y. y.value) i xs))
+
+pub values-remove : {T : Type 0} (xs : List (Rc T Global)) (i : ℕ) → values (remove xs i) ≡ remove (values xs) i
+values-remove xs i =
+    map-append (λ y. y.value) (take i xs) (drop (suc i) xs)
+    ∙ ap₂ (λ ys zs. ys ++ zs) (sym (take-map (λ y. y.value) i xs)) (sym (drop-map (λ y. y.value) (suc i) xs))
+
+-- a shared item, and those behind it
+pub values-from : {T : Type 0} (xs : List (Rc T Global)) (i : ℕ) (x : Rc T Global) → i < length xs → x ≡ slice_index_or xs i x → drop i (values xs) ≡ x.value ∷ drop (i + 1) (values xs)
+values-from xs i x lt e =
+    let first : drop i xs ≡ x ∷ drop (i + 1) xs = drop_more xs i x lt ∙ ap (λ y. y ∷ drop (i + 1) xs) (sym e) in
+    drop-map (λ y. y.value) i xs ∙ ap values first ∙ ap (λ ys. x.value ∷ ys) (sym (drop-map (λ y. y.value) (i + 1) xs))
+
+-- an item, and those behind it, in the first n of a list
+pub drop_get : {X : Type 0} (xs : List X) (i n : ℕ) (x : X) → i < n → slice_get xs i ≡ Some x → drop i (take n xs) ≡ x ∷ drop (suc i) (take n xs)
+drop_get [] i n x lt e = absurd (cc e)
+drop_get (y ∷ ys) zero zero x lt e = absurd (omega arith)
+drop_get (y ∷ ys) zero (suc n) x lt e = let same : y ≡ x = cc e in ap (λ z. z ∷ take n ys) same
+drop_get (y ∷ ys) (suc i) zero x lt e = absurd (omega arith)
+drop_get (y ∷ ys) (suc i) (suc n) x lt e = drop_get ys i n x (omega arith) e
+
+drop_from : {X : Type 0} (xs : List X) (i : ℕ) (x : X) → slice_get xs i ≡ Some x → drop i xs ≡ x ∷ drop (suc i) xs
+drop_from [] i x e = absurd (cc e)
+drop_from (y ∷ ys) zero x e = let same : y ≡ x = cc e in ap (λ z. z ∷ ys) same
+drop_from (y ∷ ys) (suc i) x e = drop_from ys i x e
+
+-- the same in the whole list
+pub drop_at : {X : Type 0} (xs : List X) (i : ℕ) (x : X) → slice_get xs i ≡ Some x → drop i xs ≡ x ∷ drop (i + 1) xs
+drop_at xs i x e = rw add-one (drop_from xs i x e)
+
+taken : {X : Type 0} (xs : List X) (i : ℕ) → take (suc i) xs ≡ take i xs ++ one_behind i xs
+taken [] zero = refl
+taken [] (suc i) = refl
+taken (x ∷ xs) zero = refl
+taken (x ∷ xs) (suc i) = ap (λ ys. x ∷ ys) (taken xs i)
+
+-- one item more
+pub one_more_taken : {X : Type 0} (xs : List X) (i : ℕ) → take (i + 1) xs ≡ take i xs ++ one_behind i xs
+one_more_taken xs i = rw add-one (taken xs i)
+
+-- one item, and those behind it
+pub one_and_rest : {X : Type 0} (xs : List X) (i : ℕ) → one_behind i xs ++ drop (i + 1) xs ≡ drop i xs
+one_and_rest xs i = ap (λ ys. one_behind i xs ++ ys) (sym (drop-drop 1 i xs)) ∙ take-append-drop 1 (drop i xs)

@@ -1,0 +1,64 @@
+use Rattle.std.proofs.Common.{◌≡◌, ◌+◌, ◌∷◌, [], ◌++◌, ◌∙◌, drop, take, ap, sym}
+use Rattle.std.specs.Prelude.{unwrap_or}
+use Rattle.std.proofs.lemmas.List.{drop-set}
+use Rattle.rv_tree.specs.Passes.{none, one_more, Stops, here, refused, later}
+use Rattle.rv_tree.specs.Rows.{one_behind}
+use Rattle.rv_tree.specs.Sums.{total}
+use Rattle.rv_tree.proofs.Exits.{on_err}
+use Rattle.rv_tree.proofs.Rows.{drop_at}
+use Rattle.rv_tree.proofs.row.Row.hand_over.Goals as goal
+
+pub visit-requires : goal.visit-requires
+visit-requires g c =
+    let old = drop_at c.args.self.now c.args.at c.get-item.result.now c.get-item.ensures in
+    record { accepted = (drop (c.args.at + 1) c.args.self.now ++ c.requires.accepted.0, rw old at c.requires.accepted.1) }
+
+pub returns-in_err-visit-clause-stops : goal.returns-in_err-visit-clause-stops
+returns-in_err-visit-clause-stops g c =
+    let old = drop_at c.args.self.now c.args.at c.get-item.result.now c.get-item.ensures in
+    let stops : Stops g.P.Pass.gives g.P.Pass.refuses g.T.Sum.Joined.op g.T.Summed.sum_of c.args.pass.now c.args.before.now (drop c.args.at c.args.self.now) c.visit.new.self = rw old (refused c.in_err-visit.ensures.refused) in
+    on_err _ _ stops
+
+pub returns-in_err-change-in-Some-clause-stops : goal.returns-in_err-change-in-Some-clause-stops
+returns-in_err-change-in-Some-clause-stops g c =
+    let old = drop_at c.args.self.now c.args.at c.get-item.result.now c.get-item.ensures in
+    let stops : Stops g.P.Pass.gives g.P.Pass.refuses g.T.Sum.Joined.op g.T.Summed.sum_of c.args.pass.now c.args.before.now (drop c.args.at c.args.self.now) c.visit.new.self = rw old (later (rw c.in-Some.is at c.in_ok-visit.ensures.given) here) in
+    on_err _ _ stops
+
+pub returns-in-None-clause-runs : goal.returns-in-None-clause-runs
+returns-in-None-clause-runs g c =
+    let x = c.get-item.result.now in
+    let old = drop_at c.args.self.now c.args.at x c.get-item.ensures in
+    let one : one_behind c.args.at c.args.self.now ≡ x ∷ [] = ap (take 1) old in
+    let made : one_behind c.args.at (unwrap_or c.args.made.now c.args.self.now) ≡ x ∷ [] = ap (take 1) (c.requires.behind ∙ old) in
+    rw (one, made) (one_more (rw c.in-None.is at c.in_ok-visit.ensures.given) none)
+
+pub returns-in-None-clause-sum : goal.returns-in-None-clause-sum
+returns-in-None-clause-sum g c =
+    let j = g.T.Sum.Joined in
+    let of = g.T.Summed.sum_of in
+    let x = c.get-item.result.now in
+    let old = drop_at c.args.self.now c.args.at x c.get-item.ensures in
+    let made : one_behind c.args.at (unwrap_or c.args.made.now c.args.self.now) ≡ x ∷ [] = ap (take 1) (c.requires.behind ∙ old) in
+    let value : j.IsValue (of x) = rw c.sum-sum.ensures at c.known.ensures in
+    let sum = c.sum-sum.ensures ∙ sym (g.met.T.Sum.Joined.laws.right_unit (of x) value) ∙ ap (total j.empty j.op of) (sym made) in
+    c.join.ensures ∙ ap (j.op c.args.before.now) sum
+
+pub returns-in-None-clause-sums : goal.returns-in-None-clause-sums
+returns-in-None-clause-sums g c =
+    let x = c.get-item.result.now in
+    let old = drop_at c.args.self.now c.args.at x c.get-item.ensures in
+    let made : one_behind c.args.at (unwrap_or c.args.made.now c.args.self.now) ≡ x ∷ [] = ap (take 1) (c.requires.behind ∙ old) in
+    let value : g.T.Sum.Joined.IsValue (g.T.Summed.sum_of x) = rw c.sum-sum.ensures at c.known.ensures in
+    rw made (value, tt)
+
+pub returns-in_ok-change-in-Some-clause-runs : goal.returns-in_ok-change-in-Some-clause-runs
+returns-in_ok-change-in-Some-clause-runs g c =
+    let self = c.args.self.now in
+    let x = c.get-item.result.now in
+    let y = c.in-Some.item in
+    let was = unwrap_or c.args.made.now self in
+    let new = ap (drop c.args.at) c.in_ok-change-in-Some.ensures ∙ drop-set was c.args.at y (rw c.requires.same c.requires.within) in
+    let one : one_behind c.args.at self ≡ x ∷ [] = ap (take 1) (drop_at self c.args.at x c.get-item.ensures) in
+    let made : one_behind c.args.at (unwrap_or c.change.new.made self) ≡ y ∷ [] = ap (take 1) new in
+    rw (one, made) (one_more (rw c.in-Some.is at c.in_ok-visit.ensures.given) none)

@@ -1,0 +1,139 @@
+//! One item put in, taken out or replaced in a leaf.
+
+ghost use Rattle.std.specs.Prelude.{◌≡◌, ◌≤◌, ◌<◌, length, [], IfOk, IfSome, IsTrue, MatchOption, slice_set, insert, remove};
+
+use crate::limits::WIDTH;
+use crate::node::{Node, Subtree};
+use crate::row::Row;
+use crate::sums::Summed;
+use std::alloc::{AllocError, Global};
+use std::rc::Rc;
+
+impl<T: Summed> Subtree<T> {
+    // A leaf of the items of `row`, and one more behind the first `before`.
+    pub(crate) fn inserted_in_leaf(
+        alloc: Global,
+        tree: &Rc<Subtree<T>>,
+        row: &Row<T>,
+        before: u32,
+        item: Rc<T>,
+    ) -> Result<Rc<Subtree<T>>, AllocError>
+        requires items { tree.now.value.items ≡ row.now }
+        requires height { tree.now.value.height ≡ 1 }
+        requires place { before ≤ length row.now }
+        ensures items { IfOk result (λ t. t.value.items ≡ insert row.now before item.value) }
+        ensures height { IfOk result (λ t. (1 ≤ t.value.height) × (t.value.height ≤ 2)) }
+    {
+        if row.len() >= WIDTH {
+            return Subtree::inserted_in_full_leaf(alloc, tree, row, before, item);
+        }
+        let mut row = row.copied(alloc)?;
+        row.insert(before, item)?;
+        Subtree::of_row(alloc, row)
+    }
+
+    // Two leaves of the items of a full `row`, and one more behind the first `before`. At either end it gets a leaf of its own.
+    fn inserted_in_full_leaf(
+        alloc: Global,
+        tree: &Rc<Subtree<T>>,
+        row: &Row<T>,
+        before: u32,
+        item: Rc<T>,
+    ) -> Result<Rc<Subtree<T>>, AllocError>
+        requires full { length row.now ≡ WIDTH }
+        requires items { tree.now.value.items ≡ row.now }
+        requires height { tree.now.value.height ≡ 1 }
+        requires place { before ≤ WIDTH }
+        ensures items { IfOk result (λ t. t.value.items ≡ insert row.now before item.value) }
+        ensures height { IfOk result (λ t. t.value.height ≡ 2) }
+    {
+        if before == 0 {
+            let new = Subtree::of_one(alloc, item)?;
+            return Subtree::joined(alloc, new, Rc::clone(tree)?);
+        }
+        if before == WIDTH {
+            let new = Subtree::of_one(alloc, item)?;
+            return Subtree::joined(alloc, Rc::clone(tree)?, new);
+        }
+        Subtree::cut_in_two(alloc, row, before, item)
+    }
+
+    // Two leaves of the items of a full `row`, and one more behind the first `before`.
+    fn cut_in_two(
+        alloc: Global,
+        row: &Row<T>,
+        before: u32,
+        item: Rc<T>,
+    ) -> Result<Rc<Subtree<T>>, AllocError>
+        requires full { length row.now ≡ WIDTH }
+        requires place { before ≤ WIDTH }
+        ensures items { IfOk result (λ t. t.value.items ≡ insert row.now before item.value) }
+        ensures height { IfOk result (λ t. t.value.height ≡ 2) }
+    {
+        let (first, second) = row.divided(alloc, before, item)?;
+        let left = Subtree::of_row(alloc, first)?;
+        let right = Subtree::of_row(alloc, second)?;
+        Subtree::joined(alloc, left, right)
+    }
+
+    // A leaf of the items of `row` without the one behind the first `before`.
+    pub(crate) fn deleted_from_leaf(
+        alloc: Global,
+        row: &Row<T>,
+        before: u32,
+    ) -> Result<Option<Rc<Subtree<T>>>, AllocError>
+        requires place { before < length row.now }
+        ensures items { IfOk result (λ o. MatchOption o (remove row.now before ≡ []) (λ t. t.value.items ≡ remove row.now before)) }
+        ensures height { IfOk result (λ o. IfSome o (λ t. t.value.height ≡ 1)) }
+    {
+        if row.len() == 1 {
+            return Ok(None);
+        }
+        let mut row = row.copied(alloc)?;
+        row.remove(before);
+        Ok(Some(Subtree::of_row(alloc, row)?))
+    }
+
+    // Whether it has two leaves whose items fit in one.
+    pub(crate) fn is_thin(&self) -> bool
+        ensures { IsTrue result → (self.now.height ≡ 2) × (length self.now.items ≤ WIDTH) }
+    {
+        self.height() == 2 && self.len() <= WIDTH
+    }
+
+    // One leaf of the items of two, without the one behind the first `before`.
+    pub(crate) fn united(
+        alloc: Global,
+        tree: &Subtree<T>,
+        before: u32,
+    ) -> Result<Rc<Subtree<T>>, AllocError>
+        requires leaves { tree.now.height ≡ 2 }
+        requires few { length tree.now.items ≤ WIDTH }
+        requires place { before < length tree.now.items }
+        ensures items { IfOk result (λ t. t.value.items ≡ remove tree.now.items before) }
+        ensures height { IfOk result (λ t. t.value.height ≡ 1) }
+    {
+        let Node::Fork { left, right, .. } = &tree.node else {
+            unreachable!()
+        };
+        let mut row = left.row().joined(alloc, right.row())?;
+        row.remove(before);
+        Subtree::of_row(alloc, row)
+    }
+
+    // A leaf of the items of `row`, with another one behind the first `before`.
+    pub(crate) fn replaced_in_leaf(
+        alloc: Global,
+        row: &Row<T>,
+        before: u32,
+        item: Rc<T>,
+    ) -> Result<Rc<Subtree<T>>, AllocError>
+        requires place { before < length row.now }
+        ensures items { IfOk result (λ t. t.value.items ≡ slice_set row.now before item.value) }
+        ensures height { IfOk result (λ t. t.value.height ≡ 1) }
+    {
+        let mut row = row.copied(alloc)?;
+        row.replace(before, item);
+        Subtree::of_row(alloc, row)
+    }
+}

@@ -1,0 +1,177 @@
+//! The items of a leaf, side by side.
+
+ghost use Rattle.std.specs.Prelude.{◌≡◌, ◌+◌, ◌≤◌, ◌<◌, length, [], ◌∷◌, ◌++◌, IfOk, OnOk, slice_get, slice_set, Some, take, drop, insert, remove};
+ghost use Rattle.rv_tree.specs.Rows.{values};
+ghost use Rattle.rv_tree.specs.Sums.{total, AllSums};
+
+use crate::limits::{HALF, WIDTH};
+use crate::sums::{Joined, Summed};
+use std::alloc::{AllocError, Global};
+use std::marker::Model;
+use std::rc::Rc;
+
+/// Up to `WIDTH` items. Rows share their items, so a copy of a row copies none.
+#[derive(Drop)]
+pub(crate) struct Row<T: Summed> {
+    items: Vec<Rc<T>>,
+}
+
+impl<T: Summed> Model for Row<T> {
+    ghost use Rattle.std.specs.Prelude.{List, ◌≤◌, length};
+    ghost use Rattle.rv_tree.specs.declared.limits.TheConstants.{WIDTH};
+    ghost use Rattle.rv_tree.specs.Rows.{values};
+
+    ghost Value = { List T };
+
+    ghost view = { λ r. values r.items.items };
+
+    ghost invariant = { λ r. length r.items.items ≤ WIDTH };
+}
+
+impl<T: Summed> Row<T> {
+    pub(crate) fn of_one(alloc: Global, item: Rc<T>) -> Result<Row<T>, AllocError>
+        ensures { IfOk result (λ r. r ≡ item.value ∷ []) }
+    {
+        let mut items = Vec::with_capacity(alloc, 1)?;
+        items.push(item)?;
+        Ok(Row { items })
+    }
+
+    // No items, and room for so many.
+    fn with_room(alloc: Global, room: usize) -> Result<Row<T>, AllocError>
+        ensures { IfOk result (λ r. r ≡ []) }
+    {
+        Ok(Row {
+            items: Vec::with_capacity(alloc, room)?,
+        })
+    }
+
+    // Shares items, behind those that are there.
+    fn share(&mut self, shared: &[Rc<T>]) -> Result<(), AllocError>
+        requires { length self.old + length shared.now ≤ WIDTH }
+        ensures { OnOk result (self.new ≡ self.old ++ values shared.now) }
+    {
+        self.items.extend_with_clones(shared)
+    }
+
+    // A row of these items, with room for one more.
+    fn of(alloc: Global, shared: &[Rc<T>]) -> Result<Row<T>, AllocError>
+        requires { length shared.now ≤ WIDTH }
+        ensures { IfOk result (λ r. r ≡ values shared.now) }
+    {
+        let mut row = Row::with_room(alloc, shared.len() + 1)?;
+        row.share(shared)?;
+        Ok(row)
+    }
+
+    // The items of this row, and behind them those of another.
+    pub(crate) fn joined(&self, alloc: Global, other: &Row<T>) -> Result<Row<T>, AllocError>
+        requires { length self.now + length other.now ≤ WIDTH }
+        ensures { IfOk result (λ r. r ≡ self.now ++ other.now) }
+    {
+        let mut row = Row::with_room(alloc, self.items.len() + other.items.len())?;
+        row.share(self.items.as_slice())?;
+        row.share(other.items.as_slice())?;
+        Ok(row)
+    }
+
+    pub(crate) fn copied(&self, alloc: Global) -> Result<Row<T>, AllocError>
+        ensures { IfOk result (λ r. r ≡ self.now) }
+    {
+        Row::of(alloc, self.items.as_slice())
+    }
+
+    pub(crate) fn len(&self) -> u32
+        ensures value { result ≡ length self.now }
+        ensures few { result ≤ WIDTH }
+    {
+        self.items.len() as u32
+    }
+
+    pub(crate) fn items(&self) -> &[Rc<T>]
+        ensures value { values result.now ≡ self.now }
+    {
+        self.items.as_slice()
+    }
+
+    // The item behind the first `before`.
+    pub(crate) fn get(&self, before: u32) -> &T
+        requires { before < length self.now }
+        ensures { slice_get self.now before ≡ Some result.now }
+    {
+        &self.items[before as usize]
+    }
+
+    // Puts an item in behind the first `before`.
+    pub(crate) fn insert(&mut self, before: u32, item: Rc<T>) -> Result<(), AllocError>
+        requires place { before ≤ length self.old }
+        requires room { length self.old < WIDTH }
+        ensures { OnOk result (self.new ≡ insert self.old before item.value) }
+    {
+        Ok(self.items.insert(before as usize, item)?)
+    }
+
+    // Takes the item behind the first `before` out.
+    pub(crate) fn remove(&mut self, before: u32)
+        requires { before < length self.old }
+        ensures { self.new ≡ remove self.old before }
+    {
+        let _removed = self.items.remove(before as usize);
+    }
+
+    // Puts an item in the place of the one behind the first `before`.
+    pub(crate) fn replace(&mut self, before: u32, item: Rc<T>)
+        requires { before < length self.old }
+        ensures { self.new ≡ slice_set self.old before item.value }
+    {
+        self.items[before as usize] = item;
+    }
+
+    // The first `HALF` items of a full row, and the others.
+    fn halves(&self, alloc: Global) -> Result<(Row<T>, Row<T>), AllocError>
+        requires full { length self.now ≡ WIDTH }
+        ensures items { IfOk result (λ r. self.now ≡ r.0 ++ r.1) }
+        ensures first { IfOk result (λ r. length r.0 ≡ HALF) }
+    {
+        let (first, second) = self.items.as_slice().split_at(HALF as usize);
+        Ok((Row::of(alloc, first)?, Row::of(alloc, second)?))
+    }
+
+    // The items of a full row, and one more behind the first `before`, in two rows.
+    pub(crate) fn divided(
+        &self,
+        alloc: Global,
+        before: u32,
+        item: Rc<T>,
+    ) -> Result<(Row<T>, Row<T>), AllocError>
+        requires full { length self.now ≡ WIDTH }
+        requires place { before ≤ WIDTH }
+        ensures items { IfOk result (λ r. r.0 ++ r.1 ≡ insert self.now before item.value) }
+        ensures some { IfOk result (λ r. (1 ≤ length r.0) × (1 ≤ length r.1)) }
+    {
+        let (mut first, mut second) = self.halves(alloc)?;
+        if before <= HALF {
+            first.insert(before, item)?;
+            return Ok((first, second));
+        }
+        second.insert(before - HALF, item)?;
+        Ok((first, second))
+    }
+
+    // The sum of the first `count` items.
+    pub(crate) fn sum(&self, count: u32) -> T::Sum
+        requires { count ≤ length self.now }
+        ensures value { result ≡ total T.Sum.empty T.Sum.op T.sum_of (take count self.now) }
+        ensures sums { AllSums T.Sum.IsValue T.sum_of (take count self.now) }
+    {
+        let mut sum = T::Sum::unit();
+        let mut left = count;
+        while left > 0 {
+            left -= 1;
+            let item = self.get(left).sum();
+            item.known();
+            sum = item.join(&sum);
+        }
+        sum
+    }
+}
