@@ -1,17 +1,18 @@
 //! Statements as text: each label with its span, and then the body.
 
-use rv_expr::{Direction, Expr, LabelReference, Name, Node};
+use rv_expr::{Direction, Expr, LabelReference, Node};
 use rv_ops::name_of;
 use rv_stmt::{
-    Body, Data, DataContent, Definition, Instruction, Label, LabelName, Operand, OperandValue, Stmt,
+    Body, Data, DataContent, Definition, Instruction, Label, LabelName, LabelSlice, Operand,
+    OperandValue, Stmt,
 };
 use rv_text::Span;
 use std::alloc::Global;
 use std::fmt::Write;
 use std::test::Fail;
 
-fn push_name(text: &mut String, name: &Name) -> Result<(), Fail> {
-    Ok(text.push_str(str::from_utf8(name.bytes())?)?)
+fn push_name(text: &mut String, name: &[u8]) -> Result<(), Fail> {
+    Ok(text.push_str(str::from_utf8(name)?)?)
 }
 
 fn push_local(text: &mut String, number: u16, direction: Direction) -> Result<(), Fail> {
@@ -25,7 +26,7 @@ fn push_local(text: &mut String, number: u16, direction: Direction) -> Result<()
 fn push_node(text: &mut String, node: &Node) -> Result<(), Fail> {
     match node {
         Node::Number(number) => Ok(write!(text, "{number}")?),
-        Node::Symbol(name) => push_name(text, name),
+        Node::Symbol(name) => push_name(text, name.bytes()),
         Node::Local(number, direction) => push_local(text, *number, *direction),
         Node::Here => Ok(text.push('.')?),
         Node::Unary(op, _) => Ok(write!(text, "{op:?}")?),
@@ -49,7 +50,7 @@ fn push_expression(text: &mut String, expr: &Expr) -> Result<(), Fail> {
 
 fn push_label_reference(text: &mut String, label: &LabelReference) -> Result<(), Fail> {
     match label {
-        LabelReference::Symbol(name) => push_name(text, name),
+        LabelReference::Symbol(name) => push_name(text, name.bytes()),
         LabelReference::Local(number, direction) => push_local(text, *number, *direction),
         LabelReference::Here => Ok(text.push('.')?),
     }
@@ -110,13 +111,21 @@ fn push_instruction(text: &mut String, kind: &str, instruction: &Instruction) ->
     Ok(write!(text, " {op} {rd} {rs1} {rs2} {value}")?)
 }
 
-fn push_label(text: &mut String, label: &Label) -> Result<(), Fail> {
-    match &label.name {
+fn push_label(text: &mut String, label: Label<'_>) -> Result<(), Fail> {
+    match label.name {
         LabelName::Symbol(name) => push_name(text, name)?,
         LabelName::Local(number) => write!(text, "{number}")?,
     }
     let (from, to) = (label.span.from, label.span.to);
     Ok(write!(text, "@{from}-{to} ")?)
+}
+
+fn push_labels(text: &mut String, mut labels: LabelSlice<'_>) -> Result<(), Fail> {
+    while let Some((label, later)) = labels.split_first() {
+        push_label(text, label)?;
+        labels = later;
+    }
+    Ok(())
 }
 
 // The kind, the span of the name, and the bytes if they are known.
@@ -160,9 +169,7 @@ fn push_body(text: &mut String, body: &Body) -> Result<(), Fail> {
 /// The statement as text.
 pub fn text_of(alloc: Global, stmt: &Stmt) -> Result<String, Fail> {
     let mut text = String::new(alloc);
-    for label in stmt.labels.as_slice() {
-        push_label(&mut text, label)?;
-    }
+    push_labels(&mut text, stmt.labels.as_slice())?;
     push_body(&mut text, &stmt.body)?;
     push_operands(&mut text, stmt.body.operands())?;
     Ok(text)

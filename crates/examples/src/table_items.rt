@@ -42,7 +42,7 @@ fn code_of(alloc: Global, text: &str, address: u32) -> Result<Coded, Fail> {
 fn row_at<'a>(alloc: Global, text: &'a str, place: LinePlace) -> Result<Row<'a>, Fail> {
     let code = code_of(alloc, text, place.address)?;
     let stmt = statement_of_line(alloc, text.as_bytes())?;
-    if stmt.labels.as_slice().len() > 1000 {
+    if stmt.labels.len() > 1000 {
         return Err(Fail::new("many labels"));
     }
     Ok(Row {

@@ -21,7 +21,6 @@ use Rattle.rv_stmt.specs.declared.directives.DirectiveKind.TheVariants as kind
 use Rattle.rv_stmt.specs.declared.draft.Draft.{Draft}
 use Rattle.rv_stmt.specs.declared.expansion.Expansion.{Expansion}
 use Rattle.rv_stmt.specs.declared.expansion.Expansion.TheVariants.{Itself, AddressPair, ConstantLoad}
-use Rattle.rv_stmt.specs.declared.label.Label.{Label}
 use Rattle.rv_stmt.specs.declared.operand.Operand.{Operand}
 use Rattle.rv_stmt.specs.declared.operand.Role.{Role}
 use Rattle.rv_stmt.specs.declared.operand.Role.TheVariants as role
@@ -34,6 +33,7 @@ use Rattle.rv_stmt.specs.DirectiveBodies.{next_role, operand_in_role, with_opera
 use Rattle.rv_stmt.specs.Directives.{directive_named}
 use Rattle.rv_stmt.specs.Expansion.{expansion_of}
 use Rattle.rv_stmt.specs.Forms.{Form, form_of}
+use Rattle.rv_stmt.specs.LabelNames.{Label}
 use Rattle.rv_stmt.specs.Labels.{labels_and_body, label_at, with_label}
 use Rattle.rv_stmt.specs.OperandCounts.{takes}
 use Rattle.rv_stmt.specs.Operands.{operand_of_run}

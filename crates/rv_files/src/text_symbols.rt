@@ -3,12 +3,13 @@
 ghost use Rattle.std.specs.Prelude.{◌≡◌, ◌<◌, ◌≤◌, ◌++◌, ◌∷◌, [], if◌then◌else◌, length, map, take, IfOk, OnOk};
 ghost use Rattle.rv_layout.specs.Sections.{section_number};
 ghost use Rattle.rv_list.specs.Shown.{shown_line};
+ghost use Rattle.rv_stmt.specs.LentLabels.{name_lent};
 ghost use Rattle.rv_files.specs.Symbols.{symbol_of_label, symbols_of_labels, symbol_of_body, symbols_on, symbols_of};
 
 use rv_expr::Name;
 use rv_layout::section_number;
 use rv_list::{LinePlace, LineSource, LineView, View};
-use rv_stmt::{Body, Label, LabelName};
+use rv_stmt::{Body, LabelName, LabelSlice};
 use std::alloc::{AllocError, Global};
 use std::marker::Model;
 
@@ -21,6 +22,7 @@ pub struct Symbol {
 }
 
 impl Model for Symbol {
+    ghost use Rattle.rv_stmt.specs.LentLabels.{name_lent};
     ghost use Rattle.rv_files.specs.Symbols.{Symbol};
 
     ghost Value = { Symbol };
@@ -88,16 +90,16 @@ fn push_label<V: View>(
     line: u32,
     place: LinePlace,
     index: u32,
-    name: &LabelName,
+    name: LabelName<'_>,
 ) -> Result<(), AllocError>
-    ensures { OnOk result (symbols.new.items ≡ symbols.old.items ++ symbol_of_label (V.shown view.now) line place index name.now) }
+    ensures { OnOk result (symbols.new.items ≡ symbols.old.items ++ symbol_of_label (V.shown view.now) line place index (name_lent name.entry)) }
 {
     match name {
         LabelName::Symbol(symbol) => {
-            let is_defined = view.definition(symbol.bytes()).is_label(line, index);
+            let is_defined = view.definition(symbol).is_label(line, index);
             let value = Some(i64::from(place.address));
             let section = Some(section_of_label(place));
-            push_if(symbols, alloc, is_defined, symbol.bytes(), value, section)
+            push_if(symbols, alloc, is_defined, symbol, value, section)
         }
         LabelName::Local(_) => Ok(()),
     }
@@ -110,14 +112,14 @@ fn push_labels<V: View>(
     view: &V,
     line: u32,
     place: LinePlace,
-    mut labels: &[Label],
+    mut labels: LabelSlice<'_>,
 ) -> Result<(), AllocError>
-    requires { length labels.now ≤ 1000 }
-    ensures { OnOk result (symbols.new.items ≡ symbols.old.items ++ symbols_of_labels (V.shown view.now) line place 0 labels.entry.now) }
+    requires { length labels ≤ 1000 }
+    ensures { OnOk result (symbols.new.items ≡ symbols.old.items ++ symbols_of_labels (V.shown view.now) line place 0 labels.entry) }
 {
     let mut index = 0;
-    'labels: while let [label, later @ ..] = labels {
-        push_label(symbols, alloc, view, line, place, index, &label.name)?;
+    'labels: while let Some((label, later)) = labels.split_first() {
+        push_label(symbols, alloc, view, line, place, index, label.name)?;
         index += 1;
         labels = later;
     }

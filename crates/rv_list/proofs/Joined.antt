@@ -1,5 +1,5 @@
 -- Lists one after another, and texts that are gathered one after another.
-use Rattle.std.proofs.Common.{◌≡◌, ℕ, zero, suc, ◌+◌, ◌-◌, ◌<◌, ◌≤◌, List, [], ◌∷◌, ◌++◌, length, refl, ap, sym, ◌∙◌, arith, append_assoc}
+use Rattle.std.proofs.Common.{◌≡◌, ℕ, zero, suc, ◌+◌, ◌-◌, ◌<◌, ◌≤◌, List, [], ◌∷◌, ◌++◌, length, refl, ap, ◌∙◌, arith, append_assoc}
 use Rattle.std.proofs.lemmas.List.{append-nil, length-append, nil_from_length}
 use Rattle.std.proofs.lemmas.List.Folds.{concat-append}
 use Rattle.std.specs.List.{concat}
@@ -8,7 +8,7 @@ use Rattle.rv_text.specs.Streams.{WritesPrefix}
 use Rattle.rv_text.specs.Blocks.{Waits}
 use Rattle.rv_text.specs.BlockLaws.{waits_then, waits_lost, lost_first}
 use Rattle.rv_list.specs.Joined.{joined}
-use Rattle.rv_list.specs.JoinedLaws.{Then, joined_more, joined_then}
+use Rattle.rv_list.specs.JoinedLaws.{joined_more, joined_then}
 
 -- no fewer than the first ones
 pub joined_within : {A : Type 0} (f : ℕ → List A) (k n : ℕ) → k ≤ n → length (joined f k) ≤ length (joined f n)

@@ -6,12 +6,10 @@ use Rattle.rv_text.specs.declared.faults.FaultNumber.{FaultNumber}
 use Rattle.rv_text.specs.declared.faults.FaultNumber.TheVariants.{BadByte, BadNumber, BadString, NoStatement, UnknownName, OperandCount, BadRegister, RegisterRange, BadOperand, TooDeep, NotConstant, Undefined, LaterEqu, FaultyEqu, Arithmetic, Range, Multiple, NoPartner, Duplicate, OddAddress, InBss}
 use Rattle.rv_text.specs.declared.lexeme.Span.{Span}
 use Rattle.rv_text.specs.Faults.{fault_number}
-use Rattle.rv_stmt.specs.declared.label.Label.{Label}
-use Rattle.rv_stmt.specs.declared.label.LabelName.{LabelName}
-use Rattle.rv_stmt.specs.declared.label.LabelName.TheVariants.{Symbol, Local}
 use Rattle.rv_stmt.specs.declared.section.Sect.{Sect}
 use Rattle.rv_stmt.specs.declared.statement.Body.{Body}
 use Rattle.rv_stmt.specs.declared.statement.Body.TheVariants.{Instr, Pseudo, Equ}
+use Rattle.rv_stmt.specs.LabelNames.{Label, LabelName, Symbol, Local}
 use Rattle.rv_stmt.specs.Statement.{name_of}
 use Rattle.rv_layout.specs.Sections.{section_number}
 use Rattle.rv_list.specs.declared.view.LinePlace.{LinePlace}

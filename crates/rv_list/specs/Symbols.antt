@@ -2,11 +2,9 @@
 use Rattle.std.specs.Prelude.{ℕ, ℤ, ◌+◌, List, [], ◌∷◌, ◌++◌, Option, Some, None, codes, if◌then◌else◌}
 use Rattle.std.specs.Fmt.{signed_decimal}
 use Rattle.rv_text.specs.Rows.{hex}
-use Rattle.rv_stmt.specs.declared.label.Label.{Label}
-use Rattle.rv_stmt.specs.declared.label.LabelName.{LabelName}
-use Rattle.rv_stmt.specs.declared.label.LabelName.TheVariants.{Symbol, Local}
 use Rattle.rv_stmt.specs.declared.statement.Body.{Body}
 use Rattle.rv_stmt.specs.declared.statement.Body.TheVariants.{Equ}
+use Rattle.rv_stmt.specs.LabelNames.{Label, LabelName, Symbol, Local}
 use Rattle.rv_list.specs.Rows.{field, counted}
 use Rattle.rv_list.specs.Shown.{Shown, ShownLine, from_lines, is_label, is_equ}
 

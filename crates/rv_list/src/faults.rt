@@ -4,6 +4,7 @@ ghost use Rattle.std.specs.Prelude.{◌≡◌, ◌-◌, ◌^◌, ◌*◌, ◌+�
 ghost use Rattle.std.specs.List.{concat, list_any};
 ghost use Rattle.rv_text.specs.Blocks.{Gathers};
 ghost use Rattle.rv_text.specs.Streams.{failures_after, Writes};
+ghost use Rattle.rv_stmt.specs.LentLabels.{name_lent};
 ghost use Rattle.rv_list.specs.Faults.{fault_if, fault_at_name, is_later_label, label_faults, equ_faults, body_faults, is_instruction, is_at_odd_address, is_lost_in_bss, faults_of, found, is_set, fault_name, fault_row, fault_rows, fault_text};
 ghost use Rattle.rv_list.specs.Shown.{shown_line};
 
@@ -14,7 +15,7 @@ use crate::view::{LinePlace, LineView, TestedLines, View, shows_bytes};
 use arrayvec::ArrayVec;
 use rv_fix::Payload;
 use rv_layout::section_number;
-use rv_stmt::{Body, Label, LabelName, Sect};
+use rv_stmt::{Body, LabelName, LabelSlice, Sect};
 use rv_text::{Failed, Fault, FaultNumber, OutputBlock, OutputRow, Sink, Span};
 
 /// How many faults a line has at most: one for each label, and four more.
@@ -53,11 +54,11 @@ fn push_at_name(
 }
 
 // Whether a label's symbol has its definition elsewhere.
-fn is_later_label<V: View>(view: &V, line: u32, index: u32, name: &LabelName) -> bool
-    ensures { result ≡ is_later_label (V.shown view.now) line index name.now }
+fn is_later_label<V: View>(view: &V, line: u32, index: u32, name: LabelName<'_>) -> bool
+    ensures { result ≡ is_later_label (V.shown view.now) line index (name_lent name.entry) }
 {
     match name {
-        LabelName::Symbol(symbol) => !view.definition(symbol.bytes()).is_label(line, index),
+        LabelName::Symbol(symbol) => !view.definition(symbol).is_label(line, index),
         LabelName::Local(_) => false,
     }
 }
@@ -67,16 +68,16 @@ fn push_label_faults<V: View>(
     faults: &mut ArrayVec<Option<Fault>, MAX_FAULTS>,
     view: &V,
     line: u32,
-    mut labels: &[Label],
+    mut labels: LabelSlice<'_>,
 )
-    requires labels { length labels.now ≤ 1000 }
+    requires labels { length labels ≤ 1000 }
     requires faults { length faults.old.items ≤ 4 }
-    ensures faults { faults.new.items ≡ faults.old.items ++ map Some (label_faults (V.shown view.now) line 0 labels.entry.now) }
+    ensures faults { faults.new.items ≡ faults.old.items ++ map Some (label_faults (V.shown view.now) line 0 labels.entry) }
     ensures few { length faults.new.items ≤ length faults.old.items + 1000 }
 {
     let mut index = 0;
-    'labels: while let [label, later @ ..] = labels {
-        let later_label = is_later_label(view, line, index, &label.name);
+    'labels: while let Some((label, later)) = labels.split_first() {
+        let later_label = is_later_label(view, line, index, label.name);
         push_if(faults, later_label, FaultNumber::Duplicate, label.span);
         index += 1;
         labels = later;

@@ -5,12 +5,13 @@ ghost use Rattle.std.specs.List.{concat};
 ghost use Rattle.rv_text.specs.Blocks.{Gathers};
 ghost use Rattle.rv_text.specs.Streams.{failures_after, Writes};
 ghost use Rattle.rv_list.specs.Shown.{shown_line};
+ghost use Rattle.rv_stmt.specs.LentLabels.{name_lent};
 ghost use Rattle.rv_list.specs.Symbols.{label_columns, label_row, value_text, equ_columns, equ_row, label_symbols, labels_symbols, body_symbols, line_symbols, symbol_rows, symbol_text};
 
 use crate::error::ListError;
 use crate::rows::{push_count, push_field, push_number, push_row};
 use crate::view::{LineSource, LineView, View};
-use rv_stmt::{Body, Label, LabelName};
+use rv_stmt::{Body, LabelName, LabelSlice};
 use rv_text::{Failed, OutputBlock, OutputRow, Sink};
 
 // The columns before the name of a label.
@@ -88,28 +89,26 @@ fn push_equ_row<W: Sink>(
 }
 
 // How many symbols a label of a line defines: one, or none.
-fn count_label<V: View>(view: &V, line: u32, index: u32, name: &LabelName) -> u32
-    ensures count { (address : ℕ) → result ≡ length (label_symbols (V.shown view.now) line address index name.now) }
+fn count_label<V: View>(view: &V, line: u32, index: u32, name: LabelName<'_>) -> u32
+    ensures count { (address : ℕ) → result ≡ length (label_symbols (V.shown view.now) line address index (name_lent name.entry)) }
     ensures few { result ≤ 1 }
 {
     match name {
-        LabelName::Symbol(symbol) => {
-            u32::from(view.definition(symbol.bytes()).is_label(line, index))
-        }
+        LabelName::Symbol(symbol) => { u32::from(view.definition(symbol).is_label(line, index)) }
         LabelName::Local(_) => 0,
     }
 }
 
 // How many symbols the labels of a line define.
-fn count_labels<V: View>(view: &V, line: u32, mut labels: &[Label]) -> u32
-    requires { length labels.now ≤ 1000 }
-    ensures count { (address : ℕ) → result ≡ length (labels_symbols (V.shown view.now) line address 0 labels.entry.now) }
+fn count_labels<V: View>(view: &V, line: u32, mut labels: LabelSlice<'_>) -> u32
+    requires { length labels ≤ 1000 }
+    ensures count { (address : ℕ) → result ≡ length (labels_symbols (V.shown view.now) line address 0 labels.entry) }
     ensures few { result ≤ 1000 }
 {
     let mut index = 0;
     let mut count = 0;
-    'labels: while let [label, later @ ..] = labels {
-        count += count_label(view, line, index, &label.name);
+    'labels: while let Some((label, later)) = labels.split_first() {
+        count += count_label(view, line, index, label.name);
         index += 1;
         labels = later;
     }
@@ -161,19 +160,19 @@ fn push_label<V: View, W: Sink>(
     line: u32,
     address: u32,
     index: u32,
-    name: &LabelName,
+    name: LabelName<'_>,
 ) -> Result<(), Failed>
     requires { W.failures sink.old < 2 ^ 64 - 1 }
-    ensures text { Gathers (W.taken sink.old) block.old (concat (label_symbols (V.shown view.now) line address index name.now)) result (W.taken sink.new) block.new }
+    ensures text { Gathers (W.taken sink.old) block.old (concat (label_symbols (V.shown view.now) line address index (name_lent name.entry))) result (W.taken sink.new) block.new }
     ensures count { W.failures sink.new ≡ failures_after (W.failures sink.old) result }
 {
     let LabelName::Symbol(symbol) = name else {
         return Ok(());
     };
-    if !view.definition(symbol.bytes()).is_label(line, index) {
+    if !view.definition(symbol).is_label(line, index) {
         return Ok(());
     }
-    push_label_row(block, sink, line, address, symbol.bytes())
+    push_label_row(block, sink, line, address, symbol)
 }
 
 // Adds the rows of the labels of a line.
@@ -183,16 +182,16 @@ fn push_labels<V: View, W: Sink>(
     view: &V,
     line: u32,
     address: u32,
-    mut labels: &[Label],
+    mut labels: LabelSlice<'_>,
 ) -> Result<(), Failed>
-    requires few { length labels.now ≤ 1000 }
+    requires few { length labels ≤ 1000 }
     requires failures { W.failures sink.old < 2 ^ 64 - 1 }
-    ensures text { Gathers (W.taken sink.old) block.old (concat (labels_symbols (V.shown view.now) line address 0 labels.entry.now)) result (W.taken sink.new) block.new }
+    ensures text { Gathers (W.taken sink.old) block.old (concat (labels_symbols (V.shown view.now) line address 0 labels.entry)) result (W.taken sink.new) block.new }
     ensures count { W.failures sink.new ≡ failures_after (W.failures sink.old) result }
 {
     let mut index = 0;
-    'labels: while let [label, later @ ..] = labels {
-        push_label(block, sink, view, line, address, index, &label.name)?;
+    'labels: while let Some((label, later)) = labels.split_first() {
+        push_label(block, sink, view, line, address, index, label.name)?;
         index += 1;
         labels = later;
     }

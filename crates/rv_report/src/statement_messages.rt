@@ -40,7 +40,7 @@ pub fn push_operand_count(
     requires text { length line.now.text.now ≤ 1000 }
     ensures { OnOk result (out.new ≡ out.old ++ operand_count (part line.now.text.now span) (operands_standing (length line.now.stmt.now.labels) (lexed_line line.now.text.now)) (separation_of (drop span.to line.now.text.now))) }
 {
-    let labels = line.stmt.labels.as_slice().len();
+    let labels = line.stmt.labels.len();
     let standing = operands_standing(alloc, labels, line.text)?;
     let name = part(line.text, span);
     out.push_about(b"", name, b" takes ")?;

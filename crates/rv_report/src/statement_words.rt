@@ -17,7 +17,7 @@ pub fn name_of_statement<'a>(alloc: Global, line: &FaultyLine<'a>) -> Result<&'a
     let Ok(tokens) = tokens(alloc, line.text) else {
         return Err(AllocError);
     };
-    let labels = line.stmt.labels.as_slice().len();
+    let labels = line.stmt.labels.len();
     Ok(word_at(2 * labels, line.text, &tokens))
 }
 
@@ -30,6 +30,6 @@ pub fn word_after_name<'a>(alloc: Global, line: &FaultyLine<'a>) -> Result<&'a [
     let Ok(tokens) = tokens(alloc, line.text) else {
         return Err(AllocError);
     };
-    let labels = line.stmt.labels.as_slice().len();
+    let labels = line.stmt.labels.len();
     Ok(word_at(2 * labels + 1, line.text, &tokens))
 }

@@ -14,7 +14,6 @@ use Rattle.rv_expr.specs.declared.tree.BinaryOp.TheVariants.{Add}
 use Rattle.rv_expr.specs.declared.tree.Direction.TheVariants.{Forward}
 use Rattle.rv_expr.specs.declared.tree.LabelReference.TheVariants as label
 use Rattle.rv_expr.specs.Tree.{Tree, Number, Symbol, Here, Binary}
-use Rattle.rv_stmt.specs.declared.label.LabelName.TheVariants as name
 use Rattle.rv_stmt.specs.declared.operand.Role.{Role}
 use Rattle.rv_stmt.specs.declared.operand.Role.TheVariants.{Immediate, SourceImmediate, Target, PairTarget, Constant}
 use Rattle.rv_stmt.specs.Directives.{directive_named, directive_names}
@@ -26,6 +25,7 @@ use Rattle.rv_stmt.specs.declared.slots.TheConstants.{OPERANDS}
 use Rattle.rv_stmt.specs.declared.statement.Body.{Body}
 use Rattle.rv_stmt.specs.declared.statement.Body.TheVariants.{Empty, Instr, Pseudo, Faulty}
 use Rattle.rv_stmt.specs.Forms.{other_forms, slots_of}
+use Rattle.rv_stmt.specs.LabelNames as name
 use Rattle.rv_stmt.specs.Registers.{set_named, set_names}
 use Rattle.rv_stmt.specs.Statement.{statement_of}
 use Rattle.rv_stmt.specs.Values.{modifier_named, modifier_names}

@@ -4,7 +4,7 @@ use Rattle.std.proofs.lemmas.List.{drop-drop, length-drop}
 use Rattle.std.proofs.lemmas.Option.{none-some}
 use Rattle.std.specs.List.{slice_get}
 use Rattle.rv_text.specs.Lexing.{SpelledToken}
-use Rattle.rv_stmt.specs.declared.label.Label.{Label}
+use Rattle.rv_stmt.specs.LabelNames.{Label}
 use Rattle.rv_stmt.specs.Labels.{labels_and_body, label_at, label_of_token, with_label}
 use Rattle.rv_stmt.specs.Tokens.{is_punctuation_there}
 

@@ -1,4 +1,5 @@
 pub mod DataSizes
+pub mod EntryLemmas
 pub mod LabelLemmas
 pub mod OperandCounts
 pub mod Ranges

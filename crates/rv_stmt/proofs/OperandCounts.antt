@@ -16,7 +16,6 @@ use Rattle.rv_ops.specs.declared.op.Op.{Op}
 use Rattle.rv_stmt.specs.declared.draft.Draft.{Draft}
 use Rattle.rv_stmt.specs.declared.expansion.Expansion.{Expansion}
 use Rattle.rv_stmt.specs.declared.expansion.Expansion.TheVariants.{Itself, AddressPair, ConstantLoad}
-use Rattle.rv_stmt.specs.declared.label.Label.{Label}
 use Rattle.rv_stmt.specs.declared.operand.Operand.{Operand}
 use Rattle.rv_stmt.specs.declared.operand.OperandValue.{OperandValue}
 use Rattle.rv_stmt.specs.declared.operand.Role.{Role}
@@ -34,6 +33,7 @@ use Rattle.rv_stmt.specs.declared.statement.Body.TheVariants.{Empty, Instr, Pseu
 use Rattle.rv_stmt.specs.DirectiveBodies as directives
 use Rattle.rv_stmt.specs.DirectiveBodies.{next_role, operand_in_role, with_operands, first_operand, section_in, symbol_in, definition_in, body_of_kind, body_or_fault, is_ignored}
 use Rattle.rv_stmt.specs.Directives.{directive_named}
+use Rattle.rv_stmt.specs.LabelNames.{Label}
 use Rattle.rv_stmt.specs.OperandCounts.{takes}
 use Rattle.rv_stmt.specs.Strings.{with_strings}
 use Rattle.rv_stmt.specs.declared.statement.Instruction.{Instruction}

@@ -6,9 +6,7 @@ use Rattle.rv_text.specs.declared.lexeme.TokenKind.TheVariants as kinds
 use Rattle.rv_text.specs.Lexing.{SpelledToken}
 use Rattle.rv_text.specs.Numbers.{is_local_number}
 use Rattle.rv_expr.specs.TokenRoles.{label_number}
-use Rattle.rv_stmt.specs.declared.label.Label.{Label}
-use Rattle.rv_stmt.specs.declared.label.LabelName.{LabelName}
-use Rattle.rv_stmt.specs.declared.label.LabelName.TheVariants.{Symbol, Local}
+use Rattle.rv_stmt.specs.LabelNames.{Label, LabelName, Symbol, Local}
 use Rattle.rv_stmt.specs.Tokens.{punctuation_at}
 
 -- an identifier other than `.`, or the number of a local label

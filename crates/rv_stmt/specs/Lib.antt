@@ -5,7 +5,10 @@ pub mod Draft
 pub mod Expansion
 pub mod FirstRun
 pub mod Forms
+pub mod LabelEntries
+pub mod LabelNames
 pub mod Labels
+pub mod LentLabels
 pub mod Memory
 pub mod OperandCounts
 pub mod Operands

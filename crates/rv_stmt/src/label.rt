@@ -1,20 +1,19 @@
 //! Labels.
 
-use rv_expr::Name;
 use rv_text::Span;
 
 /// What a label defines.
-#[derive(Drop)]
-pub enum LabelName {
+#[derive(Clone, Copy)]
+pub enum LabelName<'a> {
     /// A symbol.
-    Symbol(Name),
+    Symbol(&'a [u8]),
     /// A local label, by its number.
     Local(u16),
 }
 
 /// A label; the span is that of its name, without the `:`.
-#[derive(Drop)]
-pub struct Label {
-    pub name: LabelName,
+#[derive(Clone, Copy)]
+pub struct Label<'a> {
+    pub name: LabelName<'a>,
     pub span: Span,
 }

@@ -10,6 +10,7 @@ mod expansion;
 mod form;
 mod forms;
 mod label;
+mod label_list;
 mod labels;
 mod laws;
 mod line;
@@ -39,6 +40,7 @@ pub use expansion::{Expansion, Instructions, MachineInstruction, expansion_of, i
 pub use form::{Form, form_of, operand_slots};
 pub use forms::{FORMS, FormRow};
 pub use label::{Label, LabelName};
+pub use label_list::{LabelSlice, Labels};
 pub use laws::{data_are_few, operands_are_few, parts_are_the_value, values_keep_sizes};
 pub use line::read_line;
 pub use operand::{AlignmentUnit, DataWidth, Operand, OperandValue, Role};

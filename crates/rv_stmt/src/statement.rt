@@ -11,7 +11,7 @@ use crate::directives::{DirectiveKind, directive_named};
 use crate::draft::Draft;
 use crate::expansion::{Expansion, expansion_of};
 use crate::form::{Form, form_of};
-use crate::label::Label;
+use crate::label_list::Labels;
 use crate::labels::labels;
 use crate::operand::Operand;
 use crate::runs::{Run, runs};
@@ -64,7 +64,7 @@ pub enum Body {
 #[derive(Drop)]
 pub struct Stmt {
     /// The labels, from left to right.
-    pub labels: Sequence<Label>,
+    pub labels: Labels,
     pub body: Body,
 }
 

@@ -10,10 +10,10 @@ use Rattle.rv_expr.specs.declared.tree.Direction.TheVariants.{Back, Forward}
 use Rattle.rv_expr.specs.declared.tree.LabelReference.{LabelReference}
 use Rattle.rv_expr.specs.declared.tree.LabelReference.TheVariants as reference
 use Rattle.rv_expr.specs.Value.{Environment}
-use Rattle.rv_stmt.specs.declared.label.Label.{Label}
 use Rattle.rv_stmt.specs.declared.statement.Body.{Body}
 use Rattle.rv_stmt.specs.declared.statement.Body.TheVariants as body
 use Rattle.rv_stmt.specs.declared.statement.Stmt.{Stmt}
+use Rattle.rv_stmt.specs.LabelNames.{Label}
 use Rattle.rv_stmt.specs.Readings.{and_then}
 use Rattle.rv_layout.specs.Effects.{layout_of}
 use Rattle.rv_layout.specs.Places.{section_of, line_size_of, address_of}

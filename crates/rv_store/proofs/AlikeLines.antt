@@ -3,10 +3,8 @@ use Rattle.std.proofs.Common.{◌≡◌, Bool, true, false, not, ◌==◌, List,
 use Rattle.std.specs.Option.{is_some}
 use Rattle.std.proofs.lemmas.Bool.{eqb-true, and_parts, not-true}
 use Rattle.rv_ops.specs.NameLaws.{bytes_eq-true}
-use Rattle.rv_stmt.specs.declared.label.Label.{Label}
-use Rattle.rv_stmt.specs.declared.label.LabelName.{LabelName}
-use Rattle.rv_stmt.specs.declared.label.LabelName.TheVariants.{Symbol, Local}
 use Rattle.rv_stmt.specs.declared.statement.Stmt.{Stmt}
+use Rattle.rv_stmt.specs.LabelNames.{Label, LabelName, Symbol, Local}
 use Rattle.rv_store.specs.declared.brief.Brief.{Brief}
 use Rattle.rv_store.specs.Alike.{same_name, same_labels, label_names, IsPlain, DefinesSame}
 use Rattle.rv_store.specs.Briefs.{brief_of}

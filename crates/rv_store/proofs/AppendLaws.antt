@@ -9,11 +9,11 @@ use Rattle.rv_expr.specs.declared.tree.Direction.{Direction}
 use Rattle.rv_expr.specs.declared.tree.Direction.TheVariants.{Back, Forward}
 use Rattle.rv_expr.specs.declared.tree.LabelReference.{LabelReference}
 use Rattle.rv_expr.specs.declared.tree.LabelReference.TheVariants as reference
-use Rattle.rv_stmt.specs.declared.label.Label.{Label}
 use Rattle.rv_stmt.specs.declared.statement.Body.{Body}
 use Rattle.rv_stmt.specs.declared.statement.Body.TheVariants as body
 use Rattle.rv_stmt.specs.declared.statement.Stmt.{Stmt}
 use Rattle.rv_stmt.specs.declared.section.Sect.TheVariants.{Text}
+use Rattle.rv_stmt.specs.LabelNames.{Label}
 use Rattle.rv_stmt.specs.Readings.{and_then}
 use Rattle.rv_layout.specs.declared.measured.Measured.TheVariants as measured
 use Rattle.rv_layout.specs.PlaceLaws.{number_below}

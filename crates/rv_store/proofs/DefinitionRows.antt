@@ -7,10 +7,10 @@ use Rattle.std.proofs.lemmas.List.{take_all}
 use Rattle.std.proofs.lemmas.Slice.Eq.{bytes_eq-Decides}
 use Rattle.rv_text.specs.Lexing.{SpelledToken, lexed_line, spelled_tokens}
 use Rattle.rv_text.specs.TokenLaws.{few_spelled_tokens}
-use Rattle.rv_stmt.specs.declared.label.Label.{Label}
 use Rattle.rv_stmt.specs.declared.statement.Body.{Body}
 use Rattle.rv_stmt.specs.declared.statement.Body.TheVariants.{Equ as EquBody}
 use Rattle.rv_stmt.specs.declared.statement.Stmt.{Stmt}
+use Rattle.rv_stmt.specs.LabelNames.{Label}
 use Rattle.rv_stmt.specs.Labels.{label_at, with_label, labels_and_body}
 use Rattle.rv_stmt.specs.Statement.{statement_of}
 use Rattle.rv_list.specs.declared.view.DefinitionPlace.{DefinitionPlace}
@@ -72,19 +72,14 @@ count-next (x ∷ xs) i n some e =
     let sum : i + suc (length xs) ≡ n = e in omega (arith, all, sum)
 
 -- what is left of labels after the first one
-pub labels-next : (f g : Definitions) (line index : ℕ) (ls : List Label) (l : Label) → 1 ≤ length ls → l ≡ get_or ls 0 l → g ≡ then_also f (of_label line index l) → then_also g (place_among_labels line (index + 1) (take (length ls - 1) (drop 1 ls))) ≡ then_also f (place_among_labels line index ls)
-labels-next f g line index [] l some is next = absurd (let no : 1 ≤ 0 = some in omega (arith, no))
-labels-next f g line index (k ∷ ls) l some is next =
-    let count : suc (length ls) - 1 ≡ length ls = omega arith in
-    let all : take (suc (length ls) - 1) ls ≡ ls = ap (λ n. take n ls) count ∙ take_all (length ls) ls (omega arith) in
-    ap (λ rest. then_also g (place_among_labels line (index + 1) rest)) all
-    ∙ ap (λ h. then_also h (place_among_labels line (index + 1) ls)) (next ∙ ap (λ x. then_also f (of_label line index x)) is)
-    ∙ then_also-assoc f (of_label line index k) (place_among_labels line (index + 1) ls)
-    ∙ ap (then_also f) (labels-step line index k ls)
+pub labels-next : (f g : Definitions) (line index : ℕ) (ls later : List Label) (l : Label) → ls ≡ l ∷ later → g ≡ then_also f (of_label line index l) → then_also g (place_among_labels line (index + 1) later) ≡ then_also f (place_among_labels line index ls)
+labels-next f g line index ls later l is next =
+    ap (λ h. then_also h (place_among_labels line (index + 1) later)) next
+    ∙ then_also-assoc f (of_label line index l) (place_among_labels line (index + 1) later)
+    ∙ ap (then_also f) (labels-step line index l later ∙ ap (place_among_labels line index) (sym is))
 
-pub no_labels_left : (f : Definitions) (line index : ℕ) (ls : List Label) → length ls < 1 → then_also f (place_among_labels line index ls) ≡ f
-no_labels_left f line index [] none = then_also-nowhere f
-no_labels_left f line index (l ∷ ls) none = absurd (omega (arith, none))
+pub no_labels_left : (f : Definitions) (line index : ℕ) (ls : List Label) → ls ≡ [] → then_also f (place_among_labels line index ls) ≡ f
+no_labels_left f line index ls none = ap (λ rest. then_also f (place_among_labels line index rest)) none ∙ then_also-nowhere f
 
 -- the same of lines
 pub lines-next : (f g : Definitions) (line : ℕ) (texts : List (List ℕ)) (text : List ℕ) → 1 ≤ length texts → text ≡ get_or texts 0 text → g ≡ then_also f (place_in_statement line (statement_of text)) → then_also g (first_place (line + 1) (program_of (take (length texts - 1) (drop 1 texts)))) ≡ then_also f (first_place line (program_of texts))

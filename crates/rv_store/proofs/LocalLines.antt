@@ -1,17 +1,16 @@
 -- The row of local labels: how it grows by a line, and that it tells the line of a local label.
-use Rattle.std.proofs.Common.{◌≡◌, ℕ, zero, suc, ◌+◌, ◌-◌, nat_le, ◌<◌, ◌≤◌, Bool, true, false, ◌||◌, List, [], ◌∷◌, ◌++◌, length, length-append, take, drop, get_or, slice_get, Option, Some, None, if◌then◌else◌, ◌⊎◌, inl, inr, arith, ap, sym, ◌∙◌, refl, subst}
+use Rattle.std.proofs.Common.{◌≡◌, ℕ, zero, suc, ◌+◌, ◌-◌, nat_le, ◌<◌, ◌≤◌, Bool, true, false, List, [], ◌∷◌, ◌++◌, length, length-append, take, drop, get_or, slice_get, Option, Some, None, if◌then◌else◌, ◌⊎◌, inl, inr, arith, ap, sym, ◌∙◌, refl, subst}
 use Rattle.std.specs.List.{AllWithin}
 use Rattle.std.specs.List.Sorted.{IsNonDecreasing}
 use Rattle.std.specs.Option.{option_or}
-use Rattle.std.proofs.lemmas.Bool.{le-leb, lt-leb, cases_lt, eq-eqb, ne_eqb, true≢false, or_parts, or_from}
+use Rattle.std.proofs.lemmas.Bool.{le-leb, lt-leb, cases_lt, true≢false, or_parts, or_from}
 use Rattle.std.proofs.lemmas.List.{append-nil, get_or-map, get_or-take, get_or-drop, length-take, length-drop}
 use Rattle.std.proofs.lemmas.List.Sorted.{IsNonDecreasingBy-push}
-use Rattle.std.proofs.lemmas.Option.{slice_get-get_or, slice_get_within, get_or_from_slice_get}
+use Rattle.std.proofs.lemmas.Option.{slice_get-get_or, get_or_from_slice_get}
 use Rattle.rv_expr.specs.declared.tree.Direction.{Direction}
 use Rattle.rv_expr.specs.declared.tree.Direction.TheVariants.{Back, Forward}
-use Rattle.rv_stmt.specs.declared.label.Label.{Label}
-use Rattle.rv_stmt.specs.declared.label.LabelName.{LabelName}
-use Rattle.rv_stmt.specs.declared.label.LabelName.TheVariants as label
+use Rattle.rv_stmt.specs.LabelNames.{Label, LabelName}
+use Rattle.rv_stmt.specs.LabelNames as label
 use Rattle.rv_stmt.specs.Statement.{statement_of}
 use Rattle.rv_store.specs.Locals.{AreParted, last_up_to, first_above, local_line_in, AreRising, is_local_label, has_local_labels}
 use Rattle.rv_store.specs.Program.{Program, program_of, lines_that, last_line, first_line, no_statement, statement_at}

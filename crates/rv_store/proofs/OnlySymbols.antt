@@ -5,12 +5,11 @@ use Rattle.std.proofs.Math.Path.{fun_ext}
 use Rattle.std.proofs.lemmas.Bool.{or_parts}
 use Rattle.std.proofs.lemmas.List.{get_or-map}
 use Rattle.std.proofs.lemmas.Slice.Eq.{bytes_eq-Decides}
-use Rattle.rv_stmt.specs.declared.label.Label.{Label}
-use Rattle.rv_stmt.specs.declared.label.LabelName.{LabelName}
-use Rattle.rv_stmt.specs.declared.label.LabelName.TheVariants as label
 use Rattle.rv_stmt.specs.declared.statement.Body.{Body}
 use Rattle.rv_stmt.specs.declared.statement.Body.TheVariants.{Equ as EquBody}
 use Rattle.rv_stmt.specs.declared.statement.Stmt.{Stmt}
+use Rattle.rv_stmt.specs.LabelNames.{Label, LabelName}
+use Rattle.rv_stmt.specs.LabelNames as label
 use Rattle.rv_stmt.specs.Statement.{statement_of}
 use Rattle.rv_list.specs.declared.view.DefinitionPlace.TheVariants.{Nowhere, Label as ByLabel, Equ}
 use Rattle.rv_store.specs.Appended.{defines_in_body, defines, symbol_of_label, symbol_of_equ, one_symbol, only_symbol, place_of_symbol, IsUnknown, IsApart}

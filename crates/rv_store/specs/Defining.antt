@@ -1,6 +1,6 @@
 -- Definitions of names, joined in the order of the text.
 use Rattle.std.specs.Prelude.{◌≡◌, ℕ, ◌≤◌, List, length, bytes_eq, if◌then◌else◌}
-use Rattle.rv_stmt.specs.declared.label.Label.{Label}
+use Rattle.rv_stmt.specs.LabelNames.{Label}
 use Rattle.rv_list.specs.declared.view.DefinitionPlace.{DefinitionPlace}
 use Rattle.rv_list.specs.declared.view.DefinitionPlace.TheVariants.{Nowhere, Label as ByLabel}
 use Rattle.rv_store.specs.Definitions.{defines_symbol, or_place}

@@ -1,11 +1,10 @@
 -- Where the names of a text are defined. (docs/LANGUAGE.md, Symbols)
 use Rattle.std.specs.Prelude.{ℕ, ◌+◌, ◌==◌, Bool, false, List, [], ◌∷◌, bytes_eq, Option, Some, None, if◌then◌else◌}
-use Rattle.rv_stmt.specs.declared.label.Label.{Label}
-use Rattle.rv_stmt.specs.declared.label.LabelName.{LabelName}
-use Rattle.rv_stmt.specs.declared.label.LabelName.TheVariants as label
 use Rattle.rv_stmt.specs.declared.statement.Body.{Body}
 use Rattle.rv_stmt.specs.declared.statement.Body.TheVariants.{Equ as EquBody}
 use Rattle.rv_stmt.specs.declared.statement.Stmt.{Stmt}
+use Rattle.rv_stmt.specs.LabelNames.{Label, LabelName}
+use Rattle.rv_stmt.specs.LabelNames as label
 use Rattle.rv_list.specs.declared.view.DefinitionPlace.{DefinitionPlace}
 use Rattle.rv_list.specs.declared.view.DefinitionPlace.TheVariants.{Nowhere, Label as ByLabel, Equ}
 use Rattle.rv_store.specs.Program.{Program}

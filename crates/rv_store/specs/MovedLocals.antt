@@ -1,9 +1,8 @@
 -- The lines of a local label after an edit, by those before it.
 use Rattle.std.specs.Prelude.{ℕ, ◌+◌, ◌-◌, ◌^◌, min, max, nat_le, nat_lt, Bool, List, [], ◌∷◌, ◌++◌, Option, Some, None, if◌then◌else◌}
 use Rattle.std.specs.List.{filter, flat_map}
-use Rattle.rv_stmt.specs.declared.label.Label.{Label}
-use Rattle.rv_stmt.specs.declared.label.LabelName.{LabelName}
-use Rattle.rv_stmt.specs.declared.label.LabelName.TheVariants as label
+use Rattle.rv_stmt.specs.LabelNames.{Label, LabelName}
+use Rattle.rv_stmt.specs.LabelNames as label
 use Rattle.rv_stmt.specs.Statement.{statement_of}
 use Rattle.rv_store.specs.Edits.{place_of_edit}
 use Rattle.rv_store.specs.Text.{Edit, Insert, Delete, Replace}

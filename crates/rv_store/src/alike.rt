@@ -1,6 +1,7 @@
 //! Lines that can stand in each other's places.
 
 ghost use Rattle.std.specs.Prelude.{◌≡◌, ℕ, ◌<◌, ◌-◌, ◌^◌, None, false, IsTrue, IfSome};
+ghost use Rattle.rv_stmt.specs.LentLabels.{name_lent};
 ghost use Rattle.rv_stmt.specs.Statement.{statement_of};
 ghost use Rattle.rv_layout.specs.Places.{IsLimited};
 ghost use Rattle.rv_layout.specs.Shapes.{shape_of};
@@ -12,16 +13,16 @@ ghost use Rattle.rv_store.specs.Uses.{is_sized};
 
 use crate::line::Line;
 use rv_layout::{Consts, Measured, measure, shapes_are_limited};
-use rv_stmt::{Label, LabelName};
+use rv_stmt::{LabelName, LabelSlice};
 use rv_text::Count;
 
 // Whether two labels define the same.
-fn is_same_name(name: &LabelName, other: &LabelName) -> bool
-    ensures { result ≡ same_name name.now other.now }
+fn is_same_name(name: LabelName<'_>, other: LabelName<'_>) -> bool
+    ensures { result ≡ same_name (name_lent name.entry) (name_lent other.entry) }
 {
     match name {
         LabelName::Symbol(symbol) => match other {
-            LabelName::Symbol(another) => symbol.bytes() == another.bytes(),
+            LabelName::Symbol(another) => symbol == another,
             LabelName::Local(_) => false,
         },
         LabelName::Local(number) => match other {
@@ -32,12 +33,12 @@ fn is_same_name(name: &LabelName, other: &LabelName) -> bool
 }
 
 /// Whether the labels of two lines define the same.
-pub fn are_same_labels(mut labels: &[Label], mut others: &[Label]) -> bool
-    ensures { result ≡ same_labels labels.entry.now others.entry.now }
+pub fn are_same_labels(mut labels: LabelSlice<'_>, mut others: LabelSlice<'_>) -> bool
+    ensures { result ≡ same_labels labels.entry others.entry }
 {
-    while let [label, rest @ ..] = labels {
-        match others {
-            [other, later @ ..] if is_same_name(&label.name, &other.name) => {
+    while let Some((label, rest)) = labels.split_first() {
+        match others.split_first() {
+            Some((other, later)) if is_same_name(label.name, other.name) => {
                 labels = rest;
                 others = later;
             }

@@ -51,7 +51,7 @@ impl Brief {
         let address = uses_address(body);
         let uncompared = is_uncompared(body);
         Brief {
-            labels: !stmt.labels.as_slice().is_empty(),
+            labels: !stmt.labels.is_empty(),
             local_labels: has_local_labels(stmt.labels.as_slice()),
             equ: is_equ(body),
             pcrel_high: pcrel_high(body).is_some(),

@@ -3,6 +3,7 @@
 ghost use Rattle.std.specs.Prelude.{◌≡◌, ◌≤◌, ◌<◌, ◌+◌, ◌^◌, ◌==◌, not, ◌||◌, true, false, Some, None, length, IfSome, IfOk};
 ghost use Rattle.rv_stmt.specs.declared.directive.Definition.{Definition};
 ghost use Rattle.rv_stmt.specs.declared.statement.Body.TheVariants.{Equ as EquBody};
+ghost use Rattle.rv_stmt.specs.LentLabels.{label_lent};
 ghost use Rattle.rv_stmt.specs.Statement.{statement_of};
 ghost use Rattle.rv_list.specs.declared.view.DefinitionPlace.TheVariants.{Nowhere};
 ghost use Rattle.rv_store.specs.declared.limits.TheConstants.{MAX_LINES};
@@ -15,7 +16,7 @@ ghost use Rattle.rv_store.specs.Uses.{is_equ};
 use crate::line::Line;
 use crate::names::NameTable;
 use rv_list::DefinitionPlace;
-use rv_stmt::{Body, Definition, Label, LabelName, Stmt};
+use rv_stmt::{Body, Definition, Label, LabelName, LabelSlice, Stmt};
 use std::alloc::{AllocError, Global};
 
 // Whether it is the `.equ` of this line.
@@ -116,19 +117,19 @@ fn define(
 // Writes what a label defines. Local labels define no symbol.
 fn define_label(
     alloc: Global,
-    label: &Label,
+    label: Label<'_>,
     line: u32,
     index: u32,
     names: &mut NameTable,
     row: &mut Vec<DefinitionPlace>,
 ) -> Result<(), AllocError>
     requires { length row.old.items ≤ length names.old }
-    ensures row { IfOk result (λ _. Holds names.new row.new.items (then_also (in_row names.old row.old.items Nowhere) (of_label line index label.now))) }
+    ensures row { IfOk result (λ _. Holds names.new row.new.items (then_also (in_row names.old row.old.items Nowhere) (of_label line index (label_lent label.entry)))) }
     ensures names { Grows names.old names.new }
 {
     let place = DefinitionPlace::Label(line, index);
-    match &label.name {
-        LabelName::Symbol(symbol) => define(alloc, symbol.bytes(), place, names, row),
+    match label.name {
+        LabelName::Symbol(symbol) => define(alloc, symbol, place, names, row),
         LabelName::Local(_) => Ok(()),
     }
 }
@@ -136,18 +137,18 @@ fn define_label(
 // Writes what the labels of a line define.
 fn define_labels(
     alloc: Global,
-    mut labels: &[Label],
+    mut labels: LabelSlice<'_>,
     line: u32,
     names: &mut NameTable,
     row: &mut Vec<DefinitionPlace>,
 ) -> Result<(), AllocError>
-    requires few { length labels.now ≤ 1000 }
+    requires few { length labels ≤ 1000 }
     requires within { length row.old.items ≤ length names.old }
-    ensures row { IfOk result (λ _. Holds names.new row.new.items (then_also (in_row names.old row.old.items Nowhere) (place_among_labels line 0 labels.entry.now))) }
+    ensures row { IfOk result (λ _. Holds names.new row.new.items (then_also (in_row names.old row.old.items Nowhere) (place_among_labels line 0 labels.entry))) }
     ensures names { Grows names.old names.new }
 {
     let mut index = 0;
-    while let [label, later @ ..] = labels {
+    while let Some((label, later)) = labels.split_first() {
         define_label(alloc, label, line, index, names, row)?;
         index += 1;
         labels = later;

@@ -6,7 +6,7 @@ ghost use Rattle.std.specs.List.Sorted.{IsNonDecreasing};
 ghost use Rattle.rv_store.specs.Locals.{AreParted, AreRising, line_among, local_line_in, has_local_labels};
 
 use rv_expr::Direction;
-use rv_stmt::{Label, LabelName};
+use rv_stmt::{LabelName, LabelSlice};
 use rv_text::Sequence;
 use std::alloc::Global;
 use std::marker::Model;
@@ -32,10 +32,10 @@ impl Model for Locals {
 }
 
 /// Whether one of some labels is a local one.
-pub fn has_local_labels(mut labels: &[Label]) -> bool
-    ensures { result ≡ has_local_labels labels.entry.now }
+pub fn has_local_labels(mut labels: LabelSlice<'_>) -> bool
+    ensures { result ≡ has_local_labels labels.entry }
 {
-    while let [label, rest @ ..] = labels {
+    while let Some((label, rest)) = labels.split_first() {
         if let LabelName::Local(_) = label.name {
             return true;
         }

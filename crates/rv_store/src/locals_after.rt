@@ -1,6 +1,7 @@
 //! The local labels of a text after an edit, by those before it.
 
 ghost use Rattle.std.specs.Prelude.{◌≡◌, ◌≤◌, ◌^◌, ◌++◌, ℕ, [], None, length, get_or, IfOk, OnOk};
+ghost use Rattle.rv_stmt.specs.LentLabels.{name_lent};
 ghost use Rattle.rv_store.specs.Before.{IsBefore, lines_before, edit_on};
 ghost use Rattle.rv_store.specs.Edits.{edit_of};
 ghost use Rattle.rv_store.specs.MovedLocals.{labels_put_in, line_moved, lines_below, lines_moved, number_behind, numbers_end, row_after};
@@ -15,66 +16,68 @@ use crate::limits::MAX_LINES;
 use crate::line::Line;
 use crate::lines::Lines;
 use crate::locals::Locals;
-use rv_stmt::{Label, LabelName};
+use rv_stmt::{LabelName, LabelSlice};
 use rv_text::Sequence;
 use std::alloc::{AllocError, Global};
 
 // The labels of the line that an edit puts in.
-fn labels_put_in<'a>(old: &Lines<'_>, lines: &'a [Line], edit: &LineEdit<'_>) -> &'a [Label]
+fn labels_put_in<'a>(old: &Lines<'_>, lines: &'a [Line], edit: &LineEdit<'_>) -> LabelSlice<'a>
     requires allowed { refusal_of old.now (edit_of edit.now) ≡ None }
     requires edited { lines.now ≡ lines_after old.now (edit_of edit.now) }
-    ensures { result.now ≡ labels_put_in (edit_of edit.now) }
+    ensures { result ≡ labels_put_in (edit_of edit.now) }
 {
     match *edit {
         LineEdit::Insert(k, _) | LineEdit::Replace(k, _) => {
             lines[k as usize - 1].stmt().labels.as_slice()
         }
-        LineEdit::Delete(_) => &[],
+        LineEdit::Delete(_) => LabelSlice::empty(),
     }
 }
 
 // Whether a label is the local one of a number.
-fn is_local(name: &LabelName, number: usize) -> bool
-    ensures { result ≡ is_local number name.now }
+fn is_local(name: LabelName<'_>, number: usize) -> bool
+    ensures { result ≡ is_local number (name_lent name.entry) }
 {
     match name {
-        LabelName::Local(local) => usize::from(*local) == number,
+        LabelName::Local(local) => usize::from(local) == number,
         LabelName::Symbol(_) => false,
     }
 }
 
 // Whether one of some labels is.
-fn is_among(mut labels: &[Label], number: usize) -> bool
-    ensures { result ≡ among_local number labels.entry.now }
+fn is_among(labels: &LabelSlice<'_>, number: usize) -> bool
+    ensures { result ≡ among_local number labels.now }
 {
-    'labels: while let [label, later @ ..] = labels {
-        if is_local(&label.name, number) {
+    let mut rest = labels.copy();
+    'labels: while let Some((label, later)) = rest.split_first() {
+        if is_local(label.name, number) {
             return true;
         }
-        labels = later;
+        rest = later;
     }
     false
 }
 
 // The number behind that of a local label.
-fn number_behind(name: &LabelName) -> usize
-    ensures value { result ≡ number_behind name.now }
+fn number_behind(name: LabelName<'_>) -> usize
+    ensures value { result ≡ number_behind (name_lent name.entry) }
     ensures few { result ≤ 2 ^ 16 }
 {
     match name {
-        LabelName::Local(number) => usize::from(*number) + 1,
+        LabelName::Local(number) => usize::from(number) + 1,
         LabelName::Symbol(_) => 0,
     }
 }
 
 // The least number behind those of some labels.
-fn numbers_end(mut labels: &[Label]) -> usize
-    ensures { result ≡ numbers_end labels.entry.now }
+fn numbers_end(labels: &LabelSlice<'_>) -> usize
+    ensures { result ≡ numbers_end labels.now }
 {
     let mut end = 0;
-    'labels: while let [label, later @ ..] = labels {
-        end = number_behind(&label.name).max(end);
-        labels = later;
+    let mut rest = labels.copy();
+    'labels: while let Some((label, later)) = rest.split_first() {
+        end = number_behind(label.name).max(end);
+        rest = later;
     }
     end
 }
@@ -159,7 +162,7 @@ fn rows_after(
     alloc: Global,
     edit: &LineEdit<'_>,
     rows: &[Sequence<u32>],
-    labels: &[Label],
+    labels: &LabelSlice<'_>,
 ) -> Result<Vec<Sequence<u32>>, AllocError>
     ensures { IfOk result (λ after. (number : ℕ) → get_or after.items number [] ≡ row_after (edit_of edit.now) (among_local number labels.now) (get_or rows.now number [])) }
 {
@@ -191,6 +194,6 @@ pub fn locals_after(
 {
     let text = &before.symbols.text;
     let labels = labels_put_in(text.lines, lines, &before.edit);
-    let rows = rows_after(alloc, &before.edit, text.locals.rows(), labels)?;
+    let rows = rows_after(alloc, &before.edit, text.locals.rows(), &labels)?;
     Ok(Locals::of_rows(rows))
 }

@@ -3,6 +3,7 @@
 ghost use Rattle.std.specs.Prelude.{◌≡◌, ◌≤◌, List, ℕ, None, true, false, length, bytes_eq, IsTrue};
 ghost use Rattle.std.specs.List.{list_any};
 ghost use Rattle.std.specs.Option.{option_map};
+ghost use Rattle.rv_stmt.specs.LentLabels.{name_lent};
 ghost use Rattle.rv_stmt.specs.Statement.{statement_of};
 ghost use Rattle.rv_store.specs.Appended.{defines, symbol_of_label, symbol_of_equ, only_symbol, IsApart, IsUnknown, IsAlone};
 ghost use Rattle.rv_store.specs.NameSets.{bucket_of};
@@ -19,11 +20,11 @@ use rv_list::DefinitionPlace;
 use rv_stmt::{Body, Label, LabelName, Stmt};
 
 // The symbol of a label. Local labels are none.
-fn symbol_of_label<'a>(label: &'a Label) -> Option<&'a [u8]>
-    ensures { option_map (λ s. s.now) result ≡ symbol_of_label label.entry.now.name }
+fn symbol_of_label<'a>(label: Label<'a>) -> Option<&'a [u8]>
+    ensures { option_map (λ s. s.now) result ≡ symbol_of_label (name_lent label.entry.name) }
 {
-    match &label.name {
-        LabelName::Symbol(symbol) => Some(symbol.bytes()),
+    match label.name {
+        LabelName::Symbol(symbol) => Some(symbol),
         LabelName::Local(_) => None,
     }
 }
@@ -42,12 +43,14 @@ fn symbol_of_equ<'a>(body: &'a Body) -> Option<&'a [u8]>
 pub fn only_symbol<'a>(stmt: &'a Stmt) -> Option<&'a [u8]>
     ensures { option_map (λ s. s.now) result ≡ only_symbol stmt.entry.now }
 {
-    match stmt.labels.as_slice() {
-        [] => symbol_of_equ(&stmt.body),
-        [_] if is_equ(&stmt.body) => None,
-        [label] => symbol_of_label(label),
-        _ => None,
+    let labels = stmt.labels.as_slice();
+    let Some((label, later)) = labels.split_first() else {
+        return symbol_of_equ(&stmt.body);
+    };
+    if !later.is_empty() || is_equ(&stmt.body) {
+        return None;
     }
+    symbol_of_label(label)
 }
 
 // One name.

@@ -3,7 +3,8 @@
 use crate::calls::call::Answer;
 use rv_expr::{BinaryOp, Expr, Name, Node, ReadFault, UnaryOp, read};
 use rv_stmt::{
-    Body, Data, DataContent, Instruction, Label, LabelName, Operand, OperandValue, Role, read_line,
+    Body, Data, DataContent, Instruction, LabelName, LabelSlice, Operand, OperandValue, Role,
+    read_line,
 };
 use rv_text::{Span, Tally, tokens};
 use std::alloc::Global;
@@ -71,14 +72,16 @@ pub fn expression(alloc: Global) -> Answer {
 }
 
 // Whether these are the labels `start: 1:`.
-fn are_labels(found: &[Label]) -> bool {
-    match found {
-        [start, one] => {
-            matches!(&start.name, LabelName::Symbol(name) if name.bytes() == b"start".as_slice())
-                && matches!(&one.name, LabelName::Local(1))
-        }
-        _ => false,
-    }
+fn are_labels(found: &LabelSlice<'_>) -> bool {
+    let Some((start, later)) = found.split_first() else {
+        return false;
+    };
+    let Some((one, later)) = later.split_first() else {
+        return false;
+    };
+    matches!(start.name, LabelName::Symbol(name) if name == b"start".as_slice())
+        && matches!(one.name, LabelName::Local(1))
+        && later.is_empty()
 }
 
 // Whether this is the expression `x + 4`.
@@ -117,7 +120,9 @@ pub fn instruction(alloc: Global) -> Answer {
         return Answer::Refused;
     };
     match &statement.body {
-        Body::Instr(load) => Answer::of(are_labels(statement.labels.as_slice()) && is_load(load)),
+        Body::Instr(load) => {
+            Answer::of(are_labels(&statement.labels.as_slice()) && is_load(load))
+        },
         _ => Answer::Wrong,
     }
 }
@@ -136,7 +141,7 @@ pub fn directive(alloc: Global) -> Answer {
         return Answer::Refused;
     };
     match &statement.body {
-        Body::Emit(data) => Answer::of(statement.labels.as_slice().is_empty() && are_strings(data)),
+        Body::Emit(data) => Answer::of(statement.labels.is_empty() && are_strings(data)),
         _ => Answer::Wrong,
     }
 }

@@ -2,8 +2,8 @@ use Rattle.std.proofs.Common.{◌≡◌, length}
 use Rattle.rv_store.specs.Alike.{same_labels}
 use Rattle.rv_store.proofs.alike.are_same_labels.Given as goal
 
-abbrev pub invariant-loop-labels : goal.invariant-loop-labels
-invariant-loop-labels l = same_labels l.labels l.others ≡ same_labels l.initial.labels l.initial.others
+abbrev pub invariant-loop-label : goal.invariant-loop-label
+invariant-loop-label l = same_labels l.labels l.others ≡ same_labels l.initial.labels l.initial.others
 
-abbrev pub decreases-loop-labels : goal.decreases-loop-labels
-decreases-loop-labels l = length l.labels
+abbrev pub decreases-loop-label : goal.decreases-loop-label
+decreases-loop-label l = length l.labels

@@ -6,8 +6,8 @@ use Rattle.rv_store.specs.Rows.{in_row, Grows}
 use Rattle.rv_store.proofs.definitions.define_labels.Given as goal
 
 -- what is written, with what the labels that are left define, is what all of them define
-abbrev pub invariant-loop-labels : goal.invariant-loop-labels
-invariant-loop-labels l = record {
+abbrev pub invariant-loop-label : goal.invariant-loop-label
+invariant-loop-label l = record {
   each : then_also (in_row l.names l.row.items Nowhere) (place_among_labels l.line l.index l.labels)
       ≡ then_also (in_row l.initial.names l.initial.row.items Nowhere) (place_among_labels l.line 0 l.initial.labels);
   within : length l.row.items ≤ length l.names;
@@ -15,5 +15,5 @@ invariant-loop-labels l = record {
   count : l.index + length l.labels ≡ length l.initial.labels;
 }
 
-abbrev pub decreases-loop-labels : goal.decreases-loop-labels
-decreases-loop-labels l = length l.labels
+abbrev pub decreases-loop-label : goal.decreases-loop-label
+decreases-loop-label l = length l.labels

@@ -4,7 +4,7 @@ use Rattle.rv_store.proofs.locals_after.is_among.Given as goal
 
 -- none of the labels so far is
 abbrev pub invariant-labels : goal.invariant-labels
-invariant-labels l = among_local l.number l.labels ≡ among_local l.number l.fn.labels
+invariant-labels l = among_local l.number l.rest ≡ among_local l.number l.labels
 
 abbrev pub decreases-labels : goal.decreases-labels
-decreases-labels l = length l.labels
+decreases-labels l = length l.rest

@@ -12,12 +12,12 @@ of_rows-requires c =
     let lines = c.args.lines.now in
     let made = rw c.rows.ensures at c.in_ok-rows.ensures in
     rows-AreRising (program_of lines) (length lines) c.in_ok-rows.rows.items
-    (moved-locals (lines_before before) lines (edit_on before) c.labels_put_in-labels.result.now before.symbols.text.locals.now c.in_ok-rows.rows.items c.requires.before.symbols.text.located c.requires.before.few c.requires.before.allowed c.requires.edited c.labels_put_in-labels.ensures made)
+    (moved-locals (lines_before before) lines (edit_on before) c.labels_put_in-labels.result before.symbols.text.locals.now c.in_ok-rows.rows.items c.requires.before.symbols.text.located c.requires.before.few c.requires.before.allowed c.requires.edited c.labels_put_in-labels.ensures made)
 
 pub returns : goal.returns
 returns c =
     let before = c.args.before.now in
     let lines = c.args.lines.now in
     let made = rw c.rows.ensures at c.in_ok-rows.ensures in
-    let are = moved-locals (lines_before before) lines (edit_on before) c.labels_put_in-labels.result.now before.symbols.text.locals.now c.in_ok-rows.rows.items c.requires.before.symbols.text.located c.requires.before.few c.requires.before.allowed c.requires.edited c.labels_put_in-labels.ensures made in
+    let are = moved-locals (lines_before before) lines (edit_on before) c.labels_put_in-labels.result before.symbols.text.locals.now c.in_ok-rows.rows.items c.requires.before.symbols.text.located c.requires.before.few c.requires.before.allowed c.requires.edited c.labels_put_in-labels.ensures made in
     subst (AreLocals (program_of lines) (length lines)) (sym c.of_rows.ensures) are
