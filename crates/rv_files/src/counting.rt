@@ -42,6 +42,14 @@ fn warning_count<V: View>(view: &V) -> u32
     count
 }
 
+/// How many warnings there are about a text, if these are asked for, and else 0.
+pub fn count_warnings(store: &Store, warns: bool) -> u32
+    ensures value { result ≡ asked_warnings store.now warns }
+    ensures few { result ≤ 16384 }
+{
+    if warns { warning_count(&store) } else { 0 }
+}
+
 /// How many faults a text has, and how many warnings there are about it, if these are asked for, and else 0. Together they are fewer
 /// than 2^32.
 pub fn report_counts(store: &Store, warns: bool) -> Counts
@@ -52,6 +60,6 @@ pub fn report_counts(store: &Store, warns: bool) -> Counts
     let view = &store;
     Counts {
         faults: count_faults(view, view.lines()),
-        warnings: if warns { warning_count(view) } else { 0 },
+        warnings: count_warnings(store, warns),
     }
 }

@@ -2,7 +2,7 @@
 
 ghost use Rattle.std.specs.Prelude.{◌≡◌, ◌+◌, ◌-◌, ◌*◌, ◌≤◌, ◌<◌, ◌==◌, ◌++◌, not, length, map, reverse, Some, IfOk};
 ghost use Rattle.std.specs.List.{flat_map};
-ghost use Rattle.rv_list.specs.Faults.{faults_of, found};
+ghost use Rattle.rv_list.specs.Faults.{fault_rows, faults_of, found};
 ghost use Rattle.rv_list.specs.Shown.{shown_line};
 ghost use Rattle.rv_files.specs.OddAddresses.{all_reported, odd_before, odd_behind, odd_report, odd_run, own_report, parities_of, parity_of, reported_faults};
 
@@ -30,6 +30,13 @@ pub struct Parity {
 pub struct Reported {
     pub fault: Fault,
     pub more: u32,
+}
+
+/// How many faults a text has, and how many of them have a report.
+#[derive(Clone, Copy, Debug, PartialEq, Eq)]
+pub struct FaultCounts {
+    pub faults: u32,
+    pub reported: u32,
 }
 
 // How a line stands to odd addresses.
@@ -165,21 +172,23 @@ fn push_reported(
     }
 }
 
-/// Puts the faults of line number `number` of a text that have a report, in their order, in the place of those in the list. `lines`
-/// says how the lines of the text stand to odd addresses.
+/// Puts the faults of line number `number` of a text that have a report, in their order, in the place of those in the list, and
+/// returns how many faults the line has. `lines` says how the lines of the text stand to odd addresses.
 pub fn find_reported<V: View>(
     reported: &mut ArrayVec<Option<Reported>, MAX_FAULTS>,
     view: &V,
     lines: &[Parity],
     number: u32,
     line: &LineView<'_>,
-)
+) -> u32
     requires labels { length line.now.stmt.now.labels ≤ 1000 }
     requires first { 1 ≤ number }
     requires lines { lines.now ≡ parities_of (V.shown view.now) }
     requires few { length lines.now ≤ 16384 }
     ensures faults { reported.new.items ≡ map Some (reported_faults (V.shown view.now) number (shown_line line.now)) }
     ensures few { length reported.new.items ≤ 1004 }
+    ensures all { result ≡ length (faults_of (V.shown view.now) number (shown_line line.now)) }
+    ensures most { result ≤ 1004 }
 {
     let mut faults = ArrayVec::<Option<Fault>, MAX_FAULTS>::new();
     find_faults(&mut faults, view, number, line);
@@ -191,27 +200,31 @@ pub fn find_reported<V: View>(
         line.place.section,
         faults.as_slice(),
     );
+    faults.len() as u32
 }
 
-/// How many faults of a text have a report.
-pub fn count_reported<V: View>(view: &V, parities: &[Parity]) -> u32
+/// How many faults a text has, and how many of them have a report. `parities` says how its lines stand to odd addresses.
+pub fn fault_counts<V: View>(view: &V, parities: &[Parity]) -> FaultCounts
 where
     V::Lines: TestedLines,
     requires lines { parities.now ≡ parities_of (V.shown view.now) }
     requires few { length parities.now ≤ 16384 }
-    ensures value { result ≡ length (all_reported (V.shown view.now)) }
-    ensures few { result ≤ 1004 * 16384 }
+    ensures faults { result.faults ≡ length (fault_rows (V.shown view.now)) }
+    ensures few { result.faults ≤ 1004 * 16384 }
+    ensures reported { result.reported ≡ length (all_reported (V.shown view.now)) }
 {
-    let mut reported = ArrayVec::<Option<Reported>, MAX_FAULTS>::new();
-    let mut count = 0;
+    let mut found = ArrayVec::<Option<Reported>, MAX_FAULTS>::new();
+    let mut faults = 0;
+    let mut reported = 0;
     let mut lines = view.lines();
     for k in 0..view.line_count() {
         lines.advance();
         if !lines.may_have_faults() {
             continue;
         }
-        find_reported(&mut reported, view, parities, k + 1, &lines.line());
-        count += reported.len() as u32;
+        let all = find_reported(&mut found, view, parities, k + 1, &lines.line());
+        faults += all;
+        reported += found.len() as u32;
     }
-    count
+    FaultCounts { faults, reported }
 }

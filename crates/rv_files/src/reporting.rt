@@ -14,8 +14,8 @@ ghost use Rattle.rv_files.specs.OddAddresses.{one_reported, parities_of, reporte
 ghost use Rattle.rv_files.specs.Symbols.{symbols_of};
 ghost use Rattle.rv_files.specs.TextReports.{all_reports, all_warnings, asked_warnings, failures_by_report, fault_count, line_reports, report_count, reports, searched, text_reports};
 
-use crate::counting::{Counts, report_counts};
-use crate::odd_addresses::{Parity, Reported, count_reported, find_reported, parities};
+use crate::counting::{Counts, count_warnings};
+use crate::odd_addresses::{Parity, Reported, fault_counts, find_reported, parities};
 use crate::report_error::ReportError;
 use crate::text_symbols::{first_symbols, names};
 use arrayvec::ArrayVec;
@@ -280,9 +280,14 @@ fn write_some<W: Sink>(
     alloc: Global,
     page: &Page<'_>,
     store: &Store,
+    parities: &[Parity],
+    reported: u32,
     counts: Counts,
     wanted: Wanted,
 ) -> Result<(), ReportError>
+    requires parities { parities.now ≡ parities_of (shown_of store.now) }
+    requires most { length parities.now ≤ 16384 }
+    requires reported { reported ≡ report_count store.now }
     requires faults { counts.faults ≡ fault_count store.now }
     requires warnings { counts.warnings ≡ asked_warnings store.now wanted.warnings }
     requires few { counts.faults + counts.warnings < 2 ^ 32 }
@@ -290,8 +295,6 @@ fn write_some<W: Sink>(
     ensures text { Writes (W.taken sink.old) (text_reports page.now.style (source_of page.now) store.now wanted.most wanted.warnings) result (W.taken sink.new) }
     ensures count { W.failures sink.new ≡ failures_by_report (W.failures sink.old) result }
 {
-    let parities = parities(alloc, &store)?;
-    let reported = count_reported(&store, parities.as_slice());
     let searched = (COMPARED / reported.min(wanted.most).max(1)) as usize;
     let symbols = first_symbols(alloc, &store, searched)?;
     let (first, _) = symbols.as_slice().split_at(symbols.len().min(searched));
@@ -302,7 +305,7 @@ fn write_some<W: Sink>(
         page,
         store,
         names.as_slice(),
-        parities.as_slice(),
+        parities,
         reported,
         wanted,
     )?;
@@ -333,9 +336,17 @@ pub fn write_reports<W: Sink>(
     ensures warnings { IfOk result (λ counts. counts.warnings ≡ asked_warnings store.now wanted.warnings) }
     ensures count { W.failures sink.new ≡ failures_by_report (W.failures sink.old) result }
 {
-    let counts = report_counts(store, wanted.warnings);
-    if counts.faults + counts.warnings > 0 {
-        write_some(sink, alloc, page, store, counts, wanted)?;
+    let parities = parities(alloc, &store)?;
+    let counted = fault_counts(&store, parities.as_slice());
+    let counts = Counts {
+        faults: counted.faults,
+        warnings: count_warnings(store, wanted.warnings),
+    };
+    if counts.faults + counts.warnings == 0 {
+        return Ok(counts);
     }
+    let parities = parities.as_slice();
+    let reported = counted.reported;
+    write_some(sink, alloc, page, store, parities, reported, counts, wanted)?;
     Ok(counts)
 }
