@@ -15,7 +15,6 @@ use Rattle.rv_stmt.specs.declared.statement.Body.TheVariants as body
 use Rattle.rv_stmt.specs.declared.statement.Stmt.{Stmt}
 use Rattle.rv_stmt.specs.LabelNames.{Label}
 use Rattle.rv_stmt.specs.Readings.{and_then}
-use Rattle.rv_layout.specs.Effects.{layout_of}
 use Rattle.rv_layout.specs.Places.{section_of, line_size_of, address_of}
 use Rattle.rv_layout.specs.Sections.{is_code, section_number}
 use Rattle.rv_layout.specs.Shapes.{constants, shape_of}
@@ -26,12 +25,13 @@ use Rattle.rv_store.specs.Alike.{label_names, room_of, IsPlain, DefinesSame, IsA
 use Rattle.rv_store.specs.Codes.{values_of_body, values_by_shape, values_at, code_by_values, code_at}
 use Rattle.rv_store.specs.Constants.{defined_value, constant_of, constant_through}
 use Rattle.rv_store.specs.Definitions.{defines_symbol, place_among_labels, place_in_body, or_place, place_in_statement, first_place, definition_of, is_equ_on}
+use Rattle.rv_store.specs.Ends.{ends_of}
 use Rattle.rv_store.specs.Layout.{shape_at, shapes_of, section_at, address_at, size_at, place_at}
 use Rattle.rv_store.specs.Pairs.{pcrel_high_of, high_by, high_at, next_with_bytes, high_at_line, paired_high_of, names_at}
 use Rattle.rv_store.specs.Program.{Program, no_statement, statement_at, body_at, for_lines, last_line, first_line}
 use Rattle.rv_store.specs.References.{is_local, among_local, has_local, local_line, line_of_place, label_line, by_definition, address_of_line, names_on, no_pairs, equ_value, symbol_through, usable_equs, reference_of, references_at}
 use Rattle.rv_store.specs.Uses.{is_equ}
-use Rattle.rv_store.proofs.Rooms.{map-for_lines, section-rooms, address-rooms, size-rooms, layout-rooms}
+use Rattle.rv_store.proofs.Rooms.{map-for_lines, section-rooms, address-rooms, size-rooms, ends-rooms}
 
 -- Labels that define the same
 
@@ -93,7 +93,7 @@ first_place-same line (s ∷ ss) (suc j) t name same =
 
 -- The text with a statement in the place of that of line k
 
-same_number : (x y : ℕ) → (x ≡ y) ⊎ (x ≡ y → ⊥)
+pub same_number : (x y : ℕ) → (x ≡ y) ⊎ (x ≡ y → ⊥)
 same_number x y = at (cases_lt x y) (cases_lt y x)
   where
     at : (x < y) ⊎ (y ≤ x) → (y < x) ⊎ (x ≤ y) → (x ≡ y) ⊎ (x ≡ y → ⊥)
@@ -160,7 +160,7 @@ module _ (p : Program) (k : ℕ) (t : Stmt) (first : 1 ≤ k) (last : k ≤ leng
       let value = defined-same (suc m) (constants (constant_through put m)) (constants (constant_through p m)) (ap constants before) in
       λ i name. if is_equ_on (suc m) (definitions-same i name) then result_ok (value i) else before i name
 
-  -- The layout
+  -- Where lines lie
 
   -- that of another line
   pub shape-other : (i : ℕ) → (i - 1 ≡ k - 1 → ⊥) → shape_at put i ≡ shape_at p i
@@ -186,8 +186,8 @@ module _ (p : Program) (k : ℕ) (t : Stmt) (first : 1 ≤ k) (last : k ≤ leng
       ∙ (λ j. for_lines (λ i. room-same i j) (length-put j))
       ∙ sym (map-for_lines room_of (shape_at p) (length p))
 
-  pub layout-same : layout_of (shapes_of put) ≡ layout_of (shapes_of p)
-  layout-same = sym (layout-rooms (shapes_of put)) ∙ ap layout_of rooms-same ∙ layout-rooms (shapes_of p)
+  pub ends-same : ends_of (shapes_of put) ≡ ends_of (shapes_of p)
+  ends-same = sym (ends-rooms (shapes_of put)) ∙ ap ends_of rooms-same ∙ ends-rooms (shapes_of p)
 
   pub section-same : (i : ℕ) → section_at put i ≡ section_at p i
   section-same i = sym (section-rooms (shapes_of put) i) ∙ ap (λ ms. section_of ms i) rooms-same ∙ section-rooms (shapes_of p) i

@@ -1,16 +1,11 @@
 -- What is kept of a text where a line is put in the place of one that it is alike, and what such an edit may take.
-use Rattle.std.proofs.Common.{◌≡◌, ℕ, zero, suc, ◌+◌, ◌-◌, ◌<◌, ◌≤◌, ◌⊎◌, inl, inr, Bool, true, false, List, [], ◌∷◌, ◌++◌, length, set, get_or, Option, Some, None, if◌then◌else◌, arith, ap, sym, subst, ◌∙◌, refl}
-use Rattle.std.specs.List.{list_any}
-use Rattle.std.proofs.lemmas.Bool.{cases_lt, ne_eqb, eq-eqb, or_parts, not_from_true}
+use Rattle.std.proofs.Common.{◌≡◌, ℕ, zero, suc, ◌+◌, ◌-◌, ◌<◌, ◌≤◌, ◌⊎◌, inl, inr, Bool, true, false, List, [], ◌∷◌, ◌++◌, length, set, get_or, Some, None, if◌then◌else◌, arith, ap, sym, subst, ◌∙◌, refl}
+use Rattle.std.proofs.lemmas.Bool.{cases_lt, ne_eqb, eq-eqb, not_from_true}
 use Rattle.std.proofs.lemmas.List.{length-set, map-set, get_or-set_same, length-append}
-use Rattle.rv_stmt.specs.declared.operand.Operand.{Operand}
-use Rattle.rv_stmt.specs.declared.statement.Body.{Body}
-use Rattle.rv_stmt.specs.declared.statement.Body.TheVariants as body
 use Rattle.rv_stmt.specs.Statement.{statement_of}
 use Rattle.rv_layout.specs.declared.measured.Measured.{Measured}
-use Rattle.rv_layout.specs.Effects.{layout_of}
 use Rattle.rv_layout.specs.Places.{IsLimited, AreLimited}
-use Rattle.rv_layout.specs.Shapes.{constants, is_size, size_operand, count_of_operand, size_operands, shape_of_instructions, shape_of_fill, shape_of_alignment, shape_of}
+use Rattle.rv_layout.specs.Shapes.{size_operands, shape_of}
 use Rattle.rv_store.specs.declared.item.Item.{Item}
 use Rattle.rv_store.specs.declared.survey.Survey.{Survey}
 use Rattle.rv_store.specs.Alike.{IsAlike}
@@ -18,6 +13,7 @@ use Rattle.rv_store.specs.Changes.{program_after, is_new_or, differs_in_code, di
 use Rattle.rv_store.specs.Codes.{values_at, code_at}
 use Rattle.rv_store.specs.Constants.{constant_of}
 use Rattle.rv_store.specs.Edits.{line_before_edit}
+use Rattle.rv_store.specs.Ends.{ends_of}
 use Rattle.rv_store.specs.Items.{IsItem, AreItems}
 use Rattle.rv_store.specs.Layout.{shape_at, shapes_of}
 use Rattle.rv_store.specs.Pairs.{high_at, paired_high_of}
@@ -25,45 +21,12 @@ use Rattle.rv_store.specs.Program.{Program, program_of, body_at, for_lines, line
 use Rattle.rv_store.specs.Rows.{AreDefinitions, AreConstants, AreEquValues, AreShapes, ArePlaces, HoldHighs, AreHighs, ArePairedHighs, AreLocals}
 use Rattle.rv_store.specs.Surveys.{IsSurvey}
 use Rattle.rv_store.specs.Text.{Replace, lines_after}
-use Rattle.rv_store.specs.Uses.{is_sized}
-use Rattle.rv_store.specs.Work.{value_operands}
-use Rattle.rv_store.proofs.AlikeLaws.{put, length-put, definitions-same, constants-same, shape-other, shape-put, layout-same, place-same, has_local-same, equ_values-same, highs-same, paired_highs-same, values-same, code-same}
+use Rattle.rv_store.specs.Work.{survey_operands, value_operands}
+use Rattle.rv_store.proofs.AlikeLaws.{put, length-put, definitions-same, constants-same, shape-other, shape-put, ends-same, place-same, has_local-same, equ_values-same, highs-same, paired_highs-same, values-same, code-same}
 use Rattle.rv_store.proofs.Programs.{length-for_lines, length-program}
 use Rattle.rv_store.proofs.Sameness.{same_code-Decides}
 use Rattle.rv_store.proofs.WorkLaws.{work-invalidated, work-up}
 use Rattle.rv_store.proofs.WorkSums.{work-within}
-
--- A shape that follows from no operand
-
-no_size : (os : List Operand) → list_any (λ o. is_size o.role) os ≡ false → size_operand os ≡ None
-no_size [] h = refl
-no_size (o ∷ os) h =
-    let parts = or_parts (is_size o.role) (list_any (λ o. is_size o.role) os) h in
-    (λ i. if parts.0 i then Some o else size_operand os) ∙ no_size os parts.1
-
--- it follows from no constant
-pub shape_unsized : (f g : List ℕ → Option _) (b : Body) → is_sized b ≡ false → shape_of f b ≡ shape_of g b
-shape_unsized f g (body.Instr i) h =
-    let none = no_size i.operands h in
-    ap (shape_of_instructions (constants f) i) none ∙ sym (ap (shape_of_instructions (constants g) i) none)
-shape_unsized f g (body.Pseudo i) h =
-    let none = no_size i.operands h in
-    ap (shape_of_instructions (constants f) i) none ∙ sym (ap (shape_of_instructions (constants g) i) none)
-shape_unsized f g (body.Fill d) h =
-    let none = no_size d.operands h in
-    ap (shape_of_fill (constants f)) none ∙ sym (ap (shape_of_fill (constants g)) none)
-shape_unsized f g (body.Align d) h =
-    let none = no_size d.operands h in
-    ap (shape_of_alignment (constants f)) none ∙ sym (ap (shape_of_alignment (constants g)) none)
-shape_unsized f g b h = refl
-
--- and nothing is computed for it
-pub size_unsized : (b : Body) → is_sized b ≡ false → size_operands b ≡ 0
-size_unsized (body.Instr i) h = ap count_of_operand (no_size i.operands h)
-size_unsized (body.Pseudo i) h = ap count_of_operand (no_size i.operands h)
-size_unsized (body.Fill d) h = ap count_of_operand (no_size d.operands h)
-size_unsized (body.Align d) h = ap count_of_operand (no_size d.operands h)
-size_unsized b h = refl
 
 -- Rows by lines
 
@@ -145,7 +108,7 @@ module _ (test : ℕ → Bool) (k : ℕ) (first : 1 ≤ k) (here : test k ≡ tr
             let no = others (suc n) (omega arith) (λ e. omega (arith, e, below)) in
             λ i. rest below i ++ (if no i then suc n ∷ [] else [])
 
-limited-set : (ms : List Measured) (i : ℕ) (m : Measured) → AreLimited ms → IsLimited m → AreLimited (set ms i m)
+pub limited-set : (ms : List Measured) (i : ℕ) (m : Measured) → AreLimited ms → IsLimited m → AreLimited (set ms i m)
 limited-set [] i m are is = are
 limited-set (n ∷ ms) zero m are is = (is, are.1)
 limited-set (n ∷ ms) (suc i) m are is = (are.0, limited-set ms i m are.1 is)
@@ -156,7 +119,7 @@ pub record Stays (base : ℕ) (program : Program) (names : List (List ℕ)) (s :
   pub constants : AreConstants program (length program) names s.constants.items
   pub shapes : AreShapes program row
   pub limited : AreLimited row
-  pub total : s.total ≡ layout_of row
+  pub ends : s.ends ≡ ends_of row
   pub places : ArePlaces base program s.places.items
   pub locals : AreLocals program (length program) s.locals
   pub equ_values : AreEquValues base program (length program) names s.equ_values.items
@@ -195,7 +158,7 @@ module _ (base : ℕ) (lines : List (List ℕ)) (k : ℕ) (line : List ℕ) (fir
         constants = record { each = is.constants.each ∙ sym (λ j. constants-same p k t first last' alike (count j) j); within = is.constants.within };
         shapes = shapes;
         limited = limited-set s.shapes.items (k - 1) shape is.limited limited;
-        total = is.total ∙ ap layout_of is.shapes ∙ sym (layout-same p k t first last' alike) ∙ sym (ap layout_of shapes);
+        ends = is.ends ∙ ap ends_of is.shapes ∙ sym (ends-same p k t first last' alike) ∙ sym (ap ends_of shapes);
         places = is.places ∙ sym (λ j. for_lines (place-same p k t first last' alike base j) (count j));
         locals = λ number. is.locals number ∙ sym (λ j. lines_that (has_local-same p k t first last' alike number j) (count j));
         equ_values = record { each = is.equ_values.each ∙ sym (λ j. equ_values-same p k t first last' alike base (count j) j); within = is.equ_values.within };
@@ -262,15 +225,17 @@ module _ (base : ℕ) (lines : List (List ℕ)) (k : ℕ) (line : List ℕ) (fir
       ∙ not_from_true _ ((same_code-Decides _ _).1 (sym (code-stays i (λ e. differs (omega (arith, e, one, first)))))))
       (length (lines_after lines (Replace k line))) (omega (arith, last, count-after))
 
-  pub values-enough : value_operands (body_at (program_of (set lines (k - 1) line)) k) ≤ most_values base lines (Replace k line)
+  pub values-enough : value_operands (body_at (program_of (set lines (k - 1) line)) k) + size_operands (body_at (program_of (set lines (k - 1) line)) k) ≤ most_values base lines (Replace k line)
   values-enough =
       let n = length (lines_after lines (Replace k line)) in
       let invalidated : is_invalidated base lines (Replace k line) k ≡ true =
       ap (is_new_or (λ j. differs_in_uses base (program_of lines) (program_after lines (Replace k line)) k j (body_at (program_after lines (Replace k line)) k))) is_new in
       let here = work-invalidated value_operands base lines (Replace k line) k first invalidated in
       let up = work-up value_operands base lines (Replace k line) k n (omega (arith, last, count-after)) in
+      let surveyed = work-invalidated survey_operands base lines (Replace k line) k first invalidated in
+      let surveyed_up = work-up survey_operands base lines (Replace k line) k n (omega (arith, last, count-after)) in
       let all = work-within base base lines lines (lines_after lines (Replace k line)) (Replace k line) refl refl refl in
-      omega (arith, here, up, all)
+      omega (arith, here, up, surveyed, surveyed_up, all)
 
   pub codes-enough : 1 ≤ most_codes base lines (Replace k line)
   codes-enough =

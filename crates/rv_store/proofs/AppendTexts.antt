@@ -8,7 +8,6 @@ use Rattle.std.proofs.Math.Seq.{take-append_seam}
 use Rattle.rv_expr.specs.declared.faults.ValueFault.TheVariants.{NoPartner}
 use Rattle.rv_stmt.specs.declared.statement.Stmt.{Stmt}
 use Rattle.rv_stmt.specs.Statement.{statement_of}
-use Rattle.rv_layout.specs.Effects.{layout_of}
 use Rattle.rv_layout.specs.Places.{AreLimited}
 use Rattle.rv_fix.specs.Values.{Entry}
 use Rattle.rv_store.specs.declared.ending.Ending.{Ending}
@@ -18,6 +17,7 @@ use Rattle.rv_store.specs.Appended.{StaySections, shape_at_end, IsEnding, AreSam
 use Rattle.rv_store.specs.Changes.{program_after, is_new_or, differs_in_code, differs_in_uses, differs_in_values, is_changed, changed_lines, is_invalidated, is_reencoded, most_values, most_codes}
 use Rattle.rv_store.specs.Codes.{values_at, code_at}
 use Rattle.rv_store.specs.Edits.{line_before_edit}
+use Rattle.rv_store.specs.Ends.{ends_of}
 use Rattle.rv_store.specs.Items.{IsItem, AreFirstItems, AreItems, IsItemAdded}
 use Rattle.rv_store.specs.Layout.{shape_at, place_at}
 use Rattle.rv_store.specs.Pairs.{high_at, paired_high_of}
@@ -124,7 +124,7 @@ survey-back base lines names names' old new are same symbols =
       constants = constants;
       shapes = same.shapes ∙ are.shapes;
       limited = subst AreLimited (sym same.shapes) are.limited;
-      total = same.total ∙ are.total ∙ ap layout_of (sym same.shapes);
+      ends = same.ends ∙ are.ends ∙ ap ends_of (sym same.shapes);
       places = same.places ∙ are.places;
       locals = λ number. (λ j. get_or (same.locals j) number []) ∙ are.locals number;
       equ_values = equ_values;
@@ -229,7 +229,7 @@ module _ (base : ℕ) (lines : List (List ℕ)) (line : List ℕ) (end : Ending)
           constants = symbols'.constants;
           shapes = same.shapes ∙ extended.shapes ∙ (λ j. are.shapes j ++ is.shape j ∷ []) ∙ sym (shapes-more p s);
           limited = subst AreLimited (sym (same.shapes ∙ extended.shapes)) (limited-push old.shapes.items end.shape are.limited is.limited);
-          total = same.total ∙ extended.total ∙ is.total ∙ (λ j. layout_of (sym are.shapes j ++ end.shape ∷ [])) ∙ ap layout_of (sym (same.shapes ∙ extended.shapes));
+          ends = same.ends ∙ extended.ends ∙ is.ends ∙ (λ j. ends_of (sym are.shapes j ++ end.shape ∷ [])) ∙ ap ends_of (sym (same.shapes ∙ extended.shapes));
           places = same.places ∙ places-more;
           locals = λ number. (λ j. get_or (same.locals j) number []) ∙ locals-more number;
           equ_values = symbols'.equ_values;

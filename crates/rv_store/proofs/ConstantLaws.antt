@@ -1,12 +1,14 @@
 -- The constant of a name on a line, by the row of all constants.
-use Rattle.std.proofs.Common.{◌≡◌, ℕ, zero, suc, ◌+◌, ◌-◌, ◌<◌, ◌≤◌, ℤ, false, List, length, Option, None, arith, ap, sym, refl, subst, ◌∙◌, ◌⊎◌, inl, inr}
-use Rattle.std.proofs.lemmas.Bool.{cases_lt, ne_eqb}
+use Rattle.std.proofs.Common.{◌≡◌, ℕ, zero, suc, ◌+◌, ◌-◌, ◌<◌, ◌≤◌, ℤ, false, List, length, Option, None, if◌then◌else◌, arith, ap, sym, refl, subst, ◌∙◌, ◌⊎◌, inl, inr}
+use Rattle.std.proofs.lemmas.Bool.{cases_lt, ne_eqb, lt-ltb, le-ltb}
+use Rattle.std.proofs.Math.Path.{fun_ext}
 use Rattle.rv_list.specs.declared.view.DefinitionPlace.{DefinitionPlace}
 use Rattle.rv_list.specs.declared.view.DefinitionPlace.TheVariants.{Nowhere, Label as ByLabel, Equ}
 use Rattle.rv_store.specs.Constants.{constant_through, constant_of}
 use Rattle.rv_store.specs.Definitions.{definition_of, is_equ_on}
 use Rattle.rv_store.specs.Program.{Program}
-use Rattle.rv_store.specs.Rows.{in_row, AreConstants}
+use Rattle.rv_store.specs.LineConstants.{constant_behind, constant_on}
+use Rattle.rv_store.specs.Rows.{in_row, AreDefinitions, AreConstants}
 use Rattle.rv_store.proofs.ConstantRows.{constant-kept}
 use Rattle.rv_store.proofs.DefinitionLaws.{IsWithin, definition-within}
 
@@ -48,3 +50,29 @@ constant-of_earlier program names row line name defining are h l =
     ap (λ f. f name) are.each
     ∙ constant-stays program name defining defining (length program) h (omega arith) (omega (arith, within.1))
     ∙ sym (constant-stays program name defining defining (line - 1) h (omega arith) (omega (arith, l)))
+
+-- the constants on a line by both rows
+pub constants-on_line : (program : Program) (names : List (List ℕ)) (definitions : List DefinitionPlace) (row : List (Option ℤ)) (line : ℕ) → AreDefinitions program names definitions → AreConstants program (length program) names row → constant_on names definitions row line ≡ constant_of program line
+constants-on_line program names definitions row line defined are = fun_ext (λ name. at name (in_row names definitions Nowhere name) refl)
+  where
+    at : (name : List ℕ) (place : DefinitionPlace) → in_row names definitions Nowhere name ≡ place → constant_behind (in_row names definitions Nowhere name) (in_row names row None name) line ≡ constant_of program line name
+    at name Nowhere h =
+        ap (λ p. constant_behind p (in_row names row None name) line) h
+        ∙ sym (constant-of_other program line name Nowhere (sym h ∙ ap (λ f. f name) defined.each) (inl refl))
+    at name (ByLabel defining index) h =
+        ap (λ p. constant_behind p (in_row names row None name) line) h
+        ∙ sym (constant-of_other program line name (ByLabel defining index) (sym h ∙ ap (λ f. f name) defined.each) (inr (defining, index, refl)))
+    at name (Equ defining) h = by_line (cases_lt defining line)
+      where
+        is : definition_of program name ≡ Equ defining
+        is = sym (ap (λ f. f name) defined.each) ∙ h
+
+        by_line : (defining < line) ⊎ (line ≤ defining) → constant_behind (in_row names definitions Nowhere name) (in_row names row None name) line ≡ constant_of program line name
+        by_line (inl below) =
+            ap (λ p. constant_behind p (in_row names row None name) line) h
+            ∙ ap (λ b. if b then in_row names row None name else None) (lt-ltb defining line below)
+            ∙ constant-of_earlier program names row line name defining are is below
+        by_line (inr above) =
+            ap (λ p. constant_behind p (in_row names row None name) line) h
+            ∙ ap (λ b. if b then in_row names row None name else None) (le-ltb defining line above)
+            ∙ sym (constant-of_later program line name defining is above)

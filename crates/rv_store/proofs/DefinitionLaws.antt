@@ -15,7 +15,7 @@ IsWithin from to Nowhere = Unit {0}
 IsWithin from to (ByLabel line index) = (from ≤ line) × (line < to)
 IsWithin from to (Equ line) = (from ≤ line) × (line < to)
 
-within-wider : (a b c d : ℕ) (place : DefinitionPlace) → c ≤ a → b ≤ d → IsWithin a b place → IsWithin c d place
+pub within-wider : (a b c d : ℕ) (place : DefinitionPlace) → c ≤ a → b ≤ d → IsWithin a b place → IsWithin c d place
 within-wider a b c d Nowhere l m w = tt
 within-wider a b c d (ByLabel line index) l m w = (omega (arith, l, w.0), omega (arith, m, w.1))
 within-wider a b c d (Equ line) l m w = (omega (arith, l, w.0), omega (arith, m, w.1))
@@ -25,7 +25,7 @@ within-or a b Nowhere other w v = v
 within-or a b (ByLabel line index) other w v = w
 within-or a b (Equ line) other w v = w
 
-within-labels : (line index : ℕ) (ls : List Label) (name : List ℕ) → IsWithin line (line + 1) (place_among_labels line index ls name)
+pub within-labels : (line index : ℕ) (ls : List Label) (name : List ℕ) → IsWithin line (line + 1) (place_among_labels line index ls name)
 within-labels line index [] name = tt
 within-labels line index (l ∷ ls) name = at (defines_symbol l.name name) (within-labels line (index + 1) ls name)
   where
@@ -46,7 +46,8 @@ pub statement-within : (line : ℕ) (s : Stmt) (name : List ℕ) → IsWithin li
 statement-within line s name =
     within-or line (line + 1) (place_among_labels line 0 s.labels name) (place_in_body line s.body name) (within-labels line 0 s.labels name) (within-body line s.body name)
 
-within-lines : (line : ℕ) (program : Program) (name : List ℕ) → IsWithin line (line + length program) (first_place line program name)
+-- on one of the lines
+pub within-lines : (line : ℕ) (program : Program) (name : List ℕ) → IsWithin line (line + length program) (first_place line program name)
 within-lines line [] name = tt
 within-lines line (s ∷ ss) name =
     within-or line (line + length (s ∷ ss)) (place_in_statement line s name) (first_place (line + 1) ss name)

@@ -1,9 +1,10 @@
 -- The row of definitions, line by line.
-use Rattle.std.proofs.Common.{◌≡◌, ℕ, suc, ◌+◌, ◌-◌, ◌<◌, ◌≤◌, nat_le, ◌==◌, Bool, true, false, not, ◌||◌, List, [], ◌∷◌, length, get_or, set, take, drop, bytes_eq, Option, Some, None, if◌then◌else◌, true≢false, arith, ap, sym, ◌∙◌, refl}
+use Rattle.std.proofs.Common.{◌≡◌, ℕ, ◌+◌, ◌<◌, ◌≤◌, nat_le, ◌==◌, Bool, true, false, not, ◌||◌, List, [], ◌∷◌, length, get_or, set, bytes_eq, Option, Some, None, if◌then◌else◌, true≢false, arith, ap, sym, ◌∙◌, refl}
 use Rattle.std.specs.List.{list_any}
 use Rattle.std.proofs.Math.Path.{fun_ext}
 use Rattle.std.proofs.lemmas.Bool.{and_parts, or_parts, leb-true}
-use Rattle.std.proofs.lemmas.List.{take_all}
+use Rattle.std.proofs.lemmas.Bool.Decides.{nat_tests}
+use Rattle.std.proofs.lemmas.Grind.{common_steps}
 use Rattle.std.proofs.lemmas.Slice.Eq.{bytes_eq-Decides}
 use Rattle.rv_text.specs.Lexing.{SpelledToken, lexed_line, spelled_tokens}
 use Rattle.rv_text.specs.TokenLaws.{few_spelled_tokens}
@@ -15,12 +16,12 @@ use Rattle.rv_stmt.specs.Labels.{label_at, with_label, labels_and_body}
 use Rattle.rv_stmt.specs.Statement.{statement_of}
 use Rattle.rv_list.specs.declared.view.DefinitionPlace.{DefinitionPlace}
 use Rattle.rv_list.specs.declared.view.DefinitionPlace.TheVariants.{Nowhere, Label as ByLabel, Equ}
-use Rattle.rv_store.specs.Defining.{Definitions, only, of_label, then_also}
-use Rattle.rv_store.specs.Definitions.{defines_symbol, place_among_labels, place_in_body, place_in_statement, or_place, first_place}
-use Rattle.rv_store.specs.Program.{program_of}
+use Rattle.rv_store.specs.Defining.{Definitions, only, of_label, then_also, is_up_to, or_here, also_on}
+use Rattle.rv_store.specs.Definitions.{defines_symbol, place_among_labels, place_in_body, place_in_statement, or_place}
 use Rattle.rv_store.specs.Rows.{number_of, in_row}
 use Rattle.rv_store.specs.Text.{is_line}
 use Rattle.rv_store.specs.Uses.{is_equ}
+use Rattle.rv_store.proofs.DefinitionLaws.{IsWithin}
 use Rattle.rv_store.proofs.Lists.{no-items}
 use Rattle.rv_store.proofs.NameRows.{row-set, row-at}
 
@@ -36,11 +37,61 @@ or_place-assoc Nowhere b c = refl
 or_place-assoc (ByLabel line index) b c = refl
 or_place-assoc (Equ line) b c = refl
 
-pub then_also-nowhere : (f : Definitions) → then_also f (λ name. Nowhere) ≡ f
-then_also-nowhere f = fun_ext (λ name. or_place-nowhere (f name))
+-- what a line defines, put to the definitions on the others
 
-pub then_also-assoc : (f g h : Definitions) → then_also (then_also f g) h ≡ then_also f (then_also g h)
-then_also-assoc f g h = fun_ext (λ name. or_place-assoc (f name) (g name) (h name))
+module _ (line : ℕ) (other here : DefinitionPlace) where
+  pub here-kept : is_up_to line other ≡ true → or_here line other here ≡ other
+  here-kept up = ap (λ b. if b then other else or_place here other) up
+
+  pub here-first : is_up_to line other ≡ false → or_here line other here ≡ or_place here other
+  here-first behind = ap (λ b. if b then other else or_place here other) behind
+
+pub here-nothing : (line : ℕ) (other : DefinitionPlace) → or_here line other Nowhere ≡ other
+here-nothing line other = at (is_up_to line other)
+  where
+    at : (b : Bool) → (if b then other else other) ≡ other
+    at true = refl
+    at false = refl
+
+-- a definition on a line or before it comes first
+pub here-up : (line : ℕ) (place other : DefinitionPlace) → is_up_to line place ≡ true → or_place place other ≡ place
+here-up line Nowhere other up = absurd (true≢false (sym up))
+here-up line (ByLabel l index) other up = refl
+here-up line (Equ l) other up = refl
+
+pub within-up : (l line : ℕ) → l < line + 1 → nat_le l line ≡ true
+within-up l line below = grind (arith, nat_tests, common_steps)
+
+-- a part of a line, and then another
+pub here-joined : (line : ℕ) (other part later : DefinitionPlace) → IsWithin line (line + 1) part → or_here line (or_here line other part) later ≡ or_here line other (or_place part later)
+here-joined line other part later within = at (is_up_to line other) refl part within
+  where
+    at : (b : Bool) → is_up_to line other ≡ b → (part : DefinitionPlace) → IsWithin line (line + 1) part → or_here line (or_here line other part) later ≡ or_here line other (or_place part later)
+    at true up part within =
+        ap (λ p. or_here line p later) (here-kept line other part up) ∙ here-kept line other later up ∙ sym (here-kept line other (or_place part later) up)
+    at false behind Nowhere within = ap (λ p. or_here line p later) (here-first line other Nowhere behind)
+    at false behind (ByLabel l index) within =
+        ap (λ p. or_here line p later) (here-first line other (ByLabel l index) behind)
+        ∙ here-kept line (ByLabel l index) later (within-up l line within.1)
+        ∙ sym (here-first line other (ByLabel l index) behind)
+    at false behind (Equ l) within =
+        ap (λ p. or_here line p later) (here-first line other (Equ l) behind)
+        ∙ here-kept line (Equ l) later (within-up l line within.1)
+        ∙ sym (here-first line other (Equ l) behind)
+
+pub also_on-nothing : (line : ℕ) (f : Definitions) → also_on line f (λ name. Nowhere) ≡ f
+also_on-nothing line f = fun_ext (λ name. here-nothing line (f name))
+
+pub also_on-joined : (line : ℕ) (f g h : Definitions) → ((name : List ℕ) → IsWithin line (line + 1) (g name)) → also_on line (also_on line f g) h ≡ also_on line f (then_also g h)
+also_on-joined line f g h within =
+    fun_ext (λ name. here-joined line (f name) (g name) (h name) (within name))
+
+label-within : (line index : ℕ) (l : Label) (name : List ℕ) → IsWithin line (line + 1) (of_label line index l name)
+label-within line index l name = at (defines_symbol l.name name)
+  where
+    at : (b : Bool) → IsWithin line (line + 1) (if b then ByLabel line index else Nowhere)
+    at true = (omega arith, omega arith)
+    at false = tt
 
 -- the labels of a line after its first one
 pub labels-step : (line index : ℕ) (l : Label) (ls : List Label) → then_also (of_label line index l) (place_among_labels line (index + 1) ls) ≡ place_among_labels line index (l ∷ ls)
@@ -55,45 +106,21 @@ pub nowhere : (line : ℕ) (b : Body) (name : List ℕ) → is_equ b ≡ false �
 nowhere line (EquBody d) name other = absurd (true≢false other)
 nowhere line b name other = refl
 
-pub nothing-defined : (f : Definitions) (line : ℕ) (s : Stmt) → (not (length s.labels == 0) || is_equ s.body) ≡ false → then_also f (place_in_statement line s) ≡ f
-nothing-defined f line s none =
+pub nothing-defined : (line : ℕ) (s : Stmt) → (not (length s.labels == 0) || is_equ s.body) ≡ false → place_in_statement line s ≡ (λ name. Nowhere)
+nothing-defined line s none =
     let parts = or_parts (not (length s.labels == 0)) (is_equ s.body) none in
     let labels = no-items s.labels parts.0 in
-    let each : place_in_statement line s ≡ (λ name. Nowhere) =
-    fun_ext (λ name. ap (λ ls. or_place (place_among_labels line 0 ls name) (place_in_body line s.body name)) labels ∙ nowhere line s.body name parts.1) in
-    ap (then_also f) each ∙ then_also-nowhere f
-
--- how many are left after the first one
-pub count-next : {A : Type 0} (xs : List A) (i n : ℕ) → 1 ≤ length xs → i + length xs ≡ n → i + 1 + length (take (length xs - 1) (drop 1 xs)) ≡ n
-count-next [] i n some e = absurd (let no : 1 ≤ 0 = some in omega (arith, no))
-count-next (x ∷ xs) i n some e =
-    let count : suc (length xs) - 1 ≡ length xs = omega arith in
-    let all : length (take (suc (length xs) - 1) xs) ≡ length xs = ap length (ap (λ k. take k xs) count ∙ take_all (length xs) xs (omega arith)) in
-    let sum : i + suc (length xs) ≡ n = e in omega (arith, all, sum)
+    fun_ext (λ name. ap (λ ls. or_place (place_among_labels line 0 ls name) (place_in_body line s.body name)) labels ∙ nowhere line s.body name parts.1)
 
 -- what is left of labels after the first one
-pub labels-next : (f g : Definitions) (line index : ℕ) (ls later : List Label) (l : Label) → ls ≡ l ∷ later → g ≡ then_also f (of_label line index l) → then_also g (place_among_labels line (index + 1) later) ≡ then_also f (place_among_labels line index ls)
+pub labels-next : (f g : Definitions) (line index : ℕ) (ls later : List Label) (l : Label) → ls ≡ l ∷ later → g ≡ also_on line f (of_label line index l) → also_on line g (place_among_labels line (index + 1) later) ≡ also_on line f (place_among_labels line index ls)
 labels-next f g line index ls later l is next =
-    ap (λ h. then_also h (place_among_labels line (index + 1) later)) next
-    ∙ then_also-assoc f (of_label line index l) (place_among_labels line (index + 1) later)
-    ∙ ap (then_also f) (labels-step line index l later ∙ ap (place_among_labels line index) (sym is))
+    ap (λ h. also_on line h (place_among_labels line (index + 1) later)) next
+    ∙ also_on-joined line f (of_label line index l) (place_among_labels line (index + 1) later) (label-within line index l)
+    ∙ ap (also_on line f) (labels-step line index l later ∙ ap (place_among_labels line index) (sym is))
 
-pub no_labels_left : (f : Definitions) (line index : ℕ) (ls : List Label) → ls ≡ [] → then_also f (place_among_labels line index ls) ≡ f
-no_labels_left f line index ls none = ap (λ rest. then_also f (place_among_labels line index rest)) none ∙ then_also-nowhere f
-
--- the same of lines
-pub lines-next : (f g : Definitions) (line : ℕ) (texts : List (List ℕ)) (text : List ℕ) → 1 ≤ length texts → text ≡ get_or texts 0 text → g ≡ then_also f (place_in_statement line (statement_of text)) → then_also g (first_place (line + 1) (program_of (take (length texts - 1) (drop 1 texts)))) ≡ then_also f (first_place line (program_of texts))
-lines-next f g line [] text some is next = absurd (let no : 1 ≤ 0 = some in omega (arith, no))
-lines-next f g line (t ∷ texts) text some is next =
-    let count : suc (length texts) - 1 ≡ length texts = omega arith in
-    let all : take (suc (length texts) - 1) texts ≡ texts = ap (λ n. take n texts) count ∙ take_all (length texts) texts (omega arith) in
-    ap (λ rest. then_also g (first_place (line + 1) (program_of rest))) all
-    ∙ ap (λ h. then_also h (first_place (line + 1) (program_of texts))) (next ∙ ap (λ x. then_also f (place_in_statement line (statement_of x))) is)
-    ∙ then_also-assoc f (place_in_statement line (statement_of t)) (first_place (line + 1) (program_of texts))
-
-pub no_lines_left : (f : Definitions) (line : ℕ) (texts : List (List ℕ)) → length texts < 1 → then_also f (first_place line (program_of texts)) ≡ f
-no_lines_left f line [] none = then_also-nowhere f
-no_lines_left f line (t ∷ texts) none = absurd (omega (arith, none))
+pub no_labels_left : (f : Definitions) (line index : ℕ) (ls : List Label) → ls ≡ [] → also_on line f (place_among_labels line index ls) ≡ f
+no_labels_left f line index ls none = ap (λ rest. also_on line f (place_among_labels line index rest)) none ∙ also_on-nothing line f
 
 -- Rows
 
@@ -114,20 +141,27 @@ defined-first names row symbol n place number within none =
     (sym (ap (λ p. or_place p (only symbol place symbol)) (row-at names row Nowhere symbol n number ∙ none) ∙ only-itself symbol place))
     (λ m differs. sym (ap (or_place (in_row names row Nowhere m)) (only-other symbol place m differs) ∙ or_place-nowhere (in_row names row Nowhere m)))
 
--- a definition of a name that has one
-pub defined-before : (names : List (List ℕ)) (row : List DefinitionPlace) (symbol : List ℕ) (n : ℕ) (place : DefinitionPlace) → number_of names symbol ≡ Some n → (get_or row n Nowhere ≡ Nowhere → ⊥) → in_row names row Nowhere ≡ then_also (in_row names row Nowhere) (only symbol place)
-defined-before names row symbol n place number some = fun_ext (λ m. at m (bytes_eq symbol m) refl)
-  where
-    taken : (p other : DefinitionPlace) → (p ≡ Nowhere → ⊥) → p ≡ or_place p other
-    taken Nowhere other not = absurd (not refl)
-    taken (ByLabel line index) other not = refl
-    taken (Equ line) other not = refl
+-- a definition on a line, before those that a row has
+pub defined-here : (names : List (List ℕ)) (row : List DefinitionPlace) (symbol : List ℕ) (n line : ℕ) (place : DefinitionPlace) → number_of names symbol ≡ Some n → n < length row → is_up_to line place ≡ true → is_up_to line (get_or row n Nowhere) ≡ false → in_row names (set row n place) Nowhere ≡ also_on line (in_row names row Nowhere) (only symbol place)
+defined-here names row symbol n line place number within up behind =
+    let before = in_row names row Nowhere in
+    row-set names row Nowhere symbol n place (also_on line before (only symbol place)) number within
+    (sym
+    (ap (or_here line (before symbol)) (only-itself symbol place)
+    ∙ here-first line (before symbol) place (ap (is_up_to line) (row-at names row Nowhere symbol n number) ∙ behind)
+    ∙ here-up line place (before symbol) up))
+    (λ m differs. sym (ap (or_here line (before m)) (only-other symbol place m differs) ∙ here-nothing line (before m)))
 
-    at : (m : List ℕ) (b : Bool) → bytes_eq symbol m ≡ b → in_row names row Nowhere m ≡ or_place (in_row names row Nowhere m) (if b then place else Nowhere)
+-- one of a name that has one on the line or before it
+pub defined-before : (names : List (List ℕ)) (row : List DefinitionPlace) (symbol : List ℕ) (n line : ℕ) (place : DefinitionPlace) → number_of names symbol ≡ Some n → is_up_to line (get_or row n Nowhere) ≡ true → in_row names row Nowhere ≡ also_on line (in_row names row Nowhere) (only symbol place)
+defined-before names row symbol n line place number up = fun_ext (λ m. at m (bytes_eq symbol m) refl)
+  where
+    at : (m : List ℕ) (b : Bool) → bytes_eq symbol m ≡ b → in_row names row Nowhere m ≡ or_here line (in_row names row Nowhere m) (if b then place else Nowhere)
     at m true e =
         let same : symbol ≡ m = (bytes_eq-Decides symbol m).0 e in
-        taken (in_row names row Nowhere m) place (λ none. some (sym (row-at names row Nowhere symbol n number) ∙ ap (in_row names row Nowhere) same ∙ none))
-    at m false e = sym (or_place-nowhere (in_row names row Nowhere m))
+        let held : in_row names row Nowhere m ≡ get_or row n Nowhere = ap (in_row names row Nowhere) (sym same) ∙ row-at names row Nowhere symbol n number in
+        sym (here-kept line (in_row names row Nowhere m) place (ap (is_up_to line) held ∙ up))
+    at m false e = sym (here-nothing line (in_row names row Nowhere m))
 
 -- A line has few labels
 

@@ -6,23 +6,22 @@ use Rattle.std.specs.List.{All}
 use Rattle.std.proofs.lemmas.Bool.{cases_eq, eq-eqb, ne_eqb}
 use Rattle.std.proofs.lemmas.Grind.{same_number_lists}
 use Rattle.std.proofs.lemmas.List.{take_more, get_or_default, get_or-set_same, get_or-set_other, length-set}
-use Rattle.std.proofs.lemmas.List.FromFn.{get_or-map-range_with_len, length-map-range_with_len}
+use Rattle.std.proofs.lemmas.List.FromFn.{length-map-range_with_len}
 use Rattle.rv_text.specs.declared.faults.Fault.{Fault}
 use Rattle.rv_stmt.specs.declared.section.Sect.{Sect}
 use Rattle.rv_stmt.specs.declared.section.Sect.TheVariants.{Text}
-use Rattle.rv_layout.specs.declared.effect.Effect.{Effect}
 use Rattle.rv_layout.specs.declared.measured.Measured.{Measured}
 use Rattle.rv_layout.specs.declared.measured.Measured.TheVariants.{Bytes, Align, Switch, Nothing, Faulty}
-use Rattle.rv_layout.specs.Effects.{layout_of, base_by_layout}
 use Rattle.rv_layout.specs.Places.{section_after, offset_after, section_through, offset_through, size_at, offset_of, section_end_of, section_base_of, sum_below, is_base, IsLimited, AreLimited}
 use Rattle.rv_layout.specs.Sections.{sections, section_number}
 use Rattle.rv_layout.specs.BaseLaws.{base-bound, base_from-fits, sum_below-grows}
-use Rattle.rv_layout.specs.PlaceLaws.{part_within, ends_together, number_below, base-layout}
+use Rattle.rv_layout.specs.PlaceLaws.{part_within, ends_together, number_below}
 use Rattle.rv_store.specs.declared.ends.Ends.{Ends}
 use Rattle.rv_store.specs.declared.places.Reached.{Reached}
 use Rattle.rv_list.specs.declared.view.LinePlace.{LinePlace}
-use Rattle.rv_store.specs.Ends.{by_section, ends_of, ends_at, next_offset, ends_after, next_place, place_by_shapes}
+use Rattle.rv_store.specs.Ends.{by_section, ends_of, ends_at, base_by_ends, next_offset, ends_after, next_place, place_by_shapes}
 use Rattle.rv_store.specs.Program.{for_lines}
+use Rattle.rv_store.proofs.EndBases.{at-number, base-ends}
 use Rattle.rv_store.proofs.Programs.{at-for_lines, length-for_lines}
 
 -- Limits
@@ -67,7 +66,7 @@ offset_through-push t s x [] m = refl
 offset_through-push t s x (n ∷ ms) m =
     offset_through-push t (section_after s n) (if section_number s == t then offset_after x n else x) ms m
 
-offset_after-size : (x : ℕ) (m : Measured) → offset_after x m ≡ x + size_at x m
+pub offset_after-size : (x : ℕ) (m : Measured) → offset_after x m ≡ x + size_at x m
 offset_after-size x (Bytes n) = refl
 offset_after-size x (Align e) = refl
 offset_after-size x (Switch s) = omega arith
@@ -76,10 +75,7 @@ offset_after-size x (Faulty fault) = omega arith
 
 -- The ends of all sections
 
-at-number : (f : ℕ → ℕ) (t : ℕ) → t < sections → slice_index (by_section f) t ≡ f t
-at-number f t l = get_or-map-range_with_len f 0 sections t t 0 l (omega arith)
-
-at-section : (f : ℕ → ℕ) (s : Sect) → slice_index (by_section f) (section_number s) ≡ f (section_number s)
+pub at-section : (f : ℕ → ℕ) (s : Sect) → slice_index (by_section f) (section_number s) ≡ f (section_number s)
 at-section f s = at-number f (section_number s) (number_below s)
 
 -- numbers that are the same for each section
@@ -158,9 +154,8 @@ module _ (r : Reached) (count : length r.ends.offsets ≡ sections) where
 abbrev pub AreBases : (base : ℕ) → List Measured → List ℕ → Type 0
 AreBases base ms bases = (t : ℕ) → t < sections → slice_index bases t ≡ section_base_of base ms t
 
-pub bases-AreBases : (base : ℕ) (ms : List Measured) (total : Effect) (bases : List ℕ) → total ≡ layout_of ms → length ms ≤ 16384 → AreLimited ms → ((t : ℕ) → t < sections → slice_index bases t ≡ base_by_layout base total t) → AreBases base ms bases
-bases-AreBases base ms total bases e few limited at t l =
-    at t l ∙ ap (λ o. base_by_layout base o t) e ∙ base-layout base ms t l limited few
+pub bases-AreBases : (base : ℕ) (ms : List Measured) (ends : Ends) (bases : List ℕ) → ends ≡ ends_of ms → ((t : ℕ) → t < sections → slice_index bases t ≡ base_by_ends base ends t) → AreBases base ms bases
+bases-AreBases base ms ends bases e at t l = at t l ∙ ap (λ o. base_by_ends base o t) e ∙ base-ends base ms t l
 
 -- that of line i + 1
 place_after : (base : ℕ) → List Measured → (i : ℕ) → LinePlace
@@ -179,7 +174,14 @@ next_place-is base ms i m bases are is =
     ∙ ap (λ n. record { section = s; address = section_base_of base ms (section_number s) + section_end_of (take i ms) (section_number s); size = size_at (section_end_of (take i ms) (section_number s)) n }) is
     ∙ ap (place_after base ms) back
 
--- nothing wraps
+-- the offset of the next line does not wrap
+pub next-short : (ms : List Measured) (i : ℕ) → length ms ≤ 16384 → AreLimited ms → next_offset (ends_of (take i ms)) ≤ 2 ^ 30
+next-short ms i few limited =
+    let s = section_through Text (take i ms) in
+    let t = section_number s in
+    let one = sum_below-grows (section_end_of ms) (suc t) sections (number_below s) in
+    omega (arith, at-section (section_end_of (take i ms)) s, part_within t Text 0 i ms, one, ends_together ms limited, few)
+
 pub record PlaceFits (bases : List ℕ) (ends : Ends) : Type 0 where
   pub address : slice_index bases (section_number ends.section) + next_offset ends < 2 ^ 32
   pub short : next_offset ends ≤ 2 ^ 30
@@ -194,11 +196,7 @@ next_place-fits base ms i bases based few limited are =
     let enough : sum_below (section_end_of ms) sections ≤ 2 ^ 30 = omega (arith, together, few) in
     let fits = base_from-fits base (section_end_of ms) t sections (number_below s) (omega arith) (base-bound base based) enough in
     let begins = are t (number_below s) in
-    let one = sum_below-grows (section_end_of ms) (suc t) sections (number_below s) in
-    record {
-      address = omega (arith, x, part, fits, begins);
-      short = omega (arith, x, part, one, enough);
-    }
+    record { address = omega (arith, x, part, fits, begins); short = next-short ms i few limited }
 
 -- the places of lines are small
 pub places-small : (base : ℕ) (ms : List Measured) (n : ℕ) → AreLimited ms → All (λ p. p.size ≤ 65536) (for_lines (place_by_shapes base ms) n)

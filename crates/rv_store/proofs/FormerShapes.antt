@@ -2,12 +2,10 @@
 use Rattle.std.proofs.Common.{◌≡◌, ℕ, suc, ℤ, ◌+◌, ◌-◌, ◌<◌, ◌≤◌, ◌⊎◌, inl, inr, Bool, true, false, ◌&&◌, ◌||◌, List, [], ◌∷◌, ◌++◌, length, get_or, set, drop, Option, Some, None, arith, ap, sym, ◌∙◌, refl}
 use Rattle.std.specs.Prelude.{insert, remove}
 use Rattle.std.specs.List.{list_any}
-use Rattle.std.proofs.Math.Seq.{set-append_seam}
-use Rattle.std.proofs.lemmas.Bool.Decides.{nat_tests}
-use Rattle.std.proofs.lemmas.Grind.{common_steps}
+use Rattle.std.proofs.Math.Seq.{get_or-append_seam, set-append_seam}
 use Rattle.std.proofs.lemmas.List.{append_assoc, drop_all, drop_more, length-append, length-drop}
-use Rattle.std.proofs.lemmas.List.Edits.{length-insert, get_or-insert_below, get_or-insert_above, length-remove, get_or-remove_below, get_or-remove_above}
-use Rattle.std.proofs.lemmas.List.{length-set}
+use Rattle.std.proofs.lemmas.List.Edits.{length-insert, get_or-insert_at, get_or-insert_below, get_or-insert_above, length-remove, get_or-remove_below, get_or-remove_above}
+use Rattle.std.proofs.lemmas.List.{length-set, get_or-set_same, get_or-set_other}
 use Rattle.rv_stmt.specs.declared.directive.Definition.{Definition}
 use Rattle.rv_stmt.specs.declared.statement.Body.{Body}
 use Rattle.rv_stmt.specs.declared.statement.Body.TheVariants.{Equ as EquBody}
@@ -19,8 +17,9 @@ use Rattle.rv_store.specs.Before.{IsBefore, lines_before, edit_on}
 use Rattle.rv_store.specs.Column.{HasPlace}
 use Rattle.rv_store.specs.Constants.{constant_through, constant_of}
 use Rattle.rv_store.specs.Edits.{line_before_edit, place_of_edit}
-use Rattle.rv_store.specs.FormerShapes.{former_shapes, shapes_through}
+use Rattle.rv_store.specs.FormerShapes.{former_shapes, shape_or, former_shape, shapes_through}
 use Rattle.rv_store.specs.Layout.{shape_at}
+use Rattle.rv_store.specs.NewShapes.{IsNewShape}
 use Rattle.rv_store.specs.Program.{Program, program_of, body_at, for_lines}
 use Rattle.rv_store.specs.Rows.{AreConstants}
 use Rattle.rv_store.specs.Text.{Edit, Insert, Delete, Replace, lines_after}
@@ -29,40 +28,42 @@ use Rattle.rv_store.proofs.Columns.{has_place}
 use Rattle.rv_store.proofs.ConstantRows.{constants-kept}
 use Rattle.rv_store.proofs.EarlierLines.{insert_before, delete_before, replace_before}
 use Rattle.rv_store.proofs.KeptShapes.{body-on, differs_from, shape-before, shape-stays}
+use Rattle.rv_store.proofs.NewShapes.{deleted-stood, new-place, shape-at_place}
 use Rattle.rv_store.proofs.Programs.{length-for_lines, length-program}
 
 -- How many there are
 
-pub former-count : (ms : List Measured) (lines : List (List ℕ)) (edit : Edit) → length ms ≡ length lines → HasPlace lines edit → length (former_shapes ms edit) ≡ length (lines_after lines edit)
-former-count ms lines (Insert place line) count has =
-    length-insert ms (place - 1) Nothing (omega (arith, has.0, has.1, count))
+pub former-count : (ms : List Measured) (lines : List (List ℕ)) (edit : Edit) (shape : Measured) → length ms ≡ length lines → HasPlace lines edit → length (former_shapes ms edit shape) ≡ length (lines_after lines edit)
+former-count ms lines (Insert place line) shape count has =
+    length-insert ms (place - 1) shape (omega (arith, has.0, has.1, count))
     ∙ ap (λ n. n + 1) count
     ∙ sym (length-insert lines (place - 1) line (omega (arith, has.0, has.1)))
-former-count ms lines (Delete place) count has =
+former-count ms lines (Delete place) shape count has =
     let shapes = length-remove ms (place - 1) (omega (arith, has.0, has.1, count)) in
     let texts = length-remove lines (place - 1) (omega (arith, has.0, has.1)) in
     omega (arith, shapes, texts, count)
-former-count ms lines (Replace place line) count has = count ∙ sym (length-set lines (place - 1) line)
+former-count ms lines (Replace place line) shape count has =
+    length-set ms (place - 1) shape ∙ count ∙ sym (length-set lines (place - 1) line)
 
 -- That of a line that stood in the text before
 
-pub former-at : (ms : List Measured) (lines : List (List ℕ)) (edit : Edit) (k j : ℕ) (other : Measured) → length ms ≡ length lines → HasPlace lines edit → 1 ≤ k → line_before_edit edit k ≡ Some j → get_or (former_shapes ms edit) (k - 1) other ≡ get_or ms (j - 1) other
-former-at ms lines (Insert place line) k j other count has first h = at (insert_before place line k j h)
+pub former-at : (ms : List Measured) (lines : List (List ℕ)) (edit : Edit) (shape : Measured) (k j : ℕ) (other : Measured) → length ms ≡ length lines → HasPlace lines edit → 1 ≤ k → line_before_edit edit k ≡ Some j → get_or (former_shapes ms edit shape) (k - 1) other ≡ get_or ms (j - 1) other
+former-at ms lines (Insert place line) shape k j other count has first h = at (insert_before place line k j h)
   where
     room : place - 1 ≤ length ms
     room = omega (arith, has.0, has.1, count)
 
-    at : ((k < place) × (j ≡ k)) ⊎ ((place < k) × (j ≡ k - 1)) → get_or (insert ms (place - 1) Nothing) (k - 1) other ≡ get_or ms (j - 1) other
+    at : ((k < place) × (j ≡ k)) ⊎ ((place < k) × (j ≡ k - 1)) → get_or (insert ms (place - 1) shape) (k - 1) other ≡ get_or ms (j - 1) other
     at (inl (less, same)) =
-        get_or-insert_below ms (place - 1) Nothing other (k - 1) (omega (arith, first, less)) room ∙ ap (λ i. get_or ms (i - 1) other) (sym same)
+        get_or-insert_below ms (place - 1) shape other (k - 1) (omega (arith, first, less)) room ∙ ap (λ i. get_or ms (i - 1) other) (sym same)
     at (inr (more, same)) =
         let back : k - 2 + 1 ≡ k - 1 = omega (arith, more, has.0) in
         let above : place - 1 ≤ k - 2 = omega (arith, more) in
         let one : k - 2 ≡ j - 1 = omega (arith, same) in
-        ap (λ i. get_or (insert ms (place - 1) Nothing) i other) (sym back)
-        ∙ get_or-insert_above ms (place - 1) Nothing other (k - 2) above room
+        ap (λ i. get_or (insert ms (place - 1) shape) i other) (sym back)
+        ∙ get_or-insert_above ms (place - 1) shape other (k - 2) above room
         ∙ ap (λ i. get_or ms i other) one
-former-at ms lines (Delete place) k j other count has first h = at (delete_before place k j h)
+former-at ms lines (Delete place) shape k j other count has first h = at (delete_before place k j h)
   where
     there : place - 1 < length ms
     there = omega (arith, has.0, has.1, count)
@@ -73,22 +74,17 @@ former-at ms lines (Delete place) k j other count has first h = at (delete_befor
     at (inr (more, same)) =
         let one : k - 1 + 1 ≡ j - 1 = omega (arith, first, same) in
         get_or-remove_above ms (place - 1) other (k - 1) (omega (arith, more)) there ∙ ap (λ i. get_or ms i other) one
-former-at ms lines (Replace place line) k j other count has first h =
-    ap (λ i. get_or ms (i - 1) other) (sym (replace_before place line k j h).1)
+former-at ms lines (Replace place line) shape k j other count has first h =
+    let is = replace_before place line k j h in
+    let apart : k - 1 ≡ place - 1 → ⊥ = λ e. is.0 (omega (arith, e, first, has.0)) in
+    get_or-set_other ms (place - 1) (k - 1) shape other apart ∙ ap (λ i. get_or ms (i - 1) other) (sym is.1)
 
--- Only the line at the edit's place is new
+-- That of the line that the edit puts in
 
-new-at-place : (edit : Edit) (k : ℕ) → line_before_edit edit k ≡ None → k ≡ place_of_edit edit
-new-at-place (Insert place line) k h = grind (arith, nat_tests, common_steps)
-new-at-place (Delete place) k h = grind (arith, nat_tests, common_steps)
-new-at-place (Replace place line) k h = grind (arith, nat_tests, common_steps)
-
-elsewhere : (edit : Edit) (k : ℕ) → (k ≡ place_of_edit edit → ⊥) → (j : ℕ) × (line_before_edit edit k ≡ Some j)
-elsewhere edit k apart = at (line_before_edit edit k) refl
-  where
-    at : (stood : Option ℕ) → line_before_edit edit k ≡ stood → (j : ℕ) × (line_before_edit edit k ≡ Some j)
-    at None h = absurd (apart (new-at-place edit k h))
-    at (Some j) h = (j, h)
+former-new : (ms : List Measured) (lines : List (List ℕ)) (edit : Edit) (shape : Measured) (other : Measured) → length ms ≡ length lines → HasPlace lines edit → line_before_edit edit (place_of_edit edit) ≡ None → get_or (former_shapes ms edit shape) (place_of_edit edit - 1) other ≡ shape
+former-new ms lines (Insert place line) shape other count has new = get_or-insert_at ms (place - 1) shape other (omega (arith, has.0, has.1, count))
+former-new ms lines (Delete place) shape other count has new = absurd (deleted-stood place new)
+former-new ms lines (Replace place line) shape other count has new = get_or-set_same ms (place - 1) shape other (omega (arith, has.0, has.1, count))
 
 -- Lines without a part in the constants
 
@@ -101,28 +97,57 @@ module _ (before : Before) (is : IsBefore before) where
   pub place : HasPlace (lines_before before) (edit_on before)
   place = has_place (lines_before before) (edit_on before) is.allowed
 
-module _ (before : Before) (is : IsBefore before) (lines : List (List ℕ)) (after : lines ≡ lines_after (lines_before before) (edit_on before)) where
+module _ (before : Before) (is : IsBefore before) (lines : List (List ℕ)) (after : lines ≡ lines_after (lines_before before) (edit_on before)) (shape : Measured) where
   abbrev pub former : List Measured
-  former = former_shapes before.shapes.now (edit_on before)
+  former = former_shapes before.shapes.now (edit_on before) shape
 
   pub former-length : length former ≡ length lines
   former-length =
-      former-count before.shapes.now (lines_before before) (edit_on before) (shape_count before is) (place before is) ∙ sym (ap length after)
+      former-count before.shapes.now (lines_before before) (edit_on before) shape (shape_count before is) (place before is) ∙ sym (ap length after)
 
-  pub former-stays : (i : ℕ) (text : List ℕ) (other : Measured) → i < length lines → text ≡ get_or lines i text → (i + 1 ≡ place_of_edit (edit_on before) → ⊥) → is_sized (statement_of text).body ≡ false → get_or former i other ≡ shape_at (program_of lines) (i + 1)
-  former-stays i text other within read apart unsized =
-      let stood = elsewhere (edit_on before) (i + 1) apart in
-      let j = stood.0 in
-      let body : Body = (statement_of text).body in
-      let program : Program = program_of lines in
-      let differs = λ (name : List ℕ). differs_from (program_of (lines_before before)) j (constant_of program (i + 1)) name in
-      let same : (is_sized body && (uses_symbols body && list_any differs (names_used body))) ≡ false =
-      ap (λ t. t && (uses_symbols body && list_any differs (names_used body))) unsized in
+  pub former-stood : (i j : ℕ) (other : Measured) → i < length lines → line_before_edit (edit_on before) (i + 1) ≡ Some j → get_or former i other ≡ shape_at (program_of (lines_before before)) j
+  former-stood i j other within stood =
       let back : i ≡ i + 1 - 1 = omega arith in
       ap (λ n. get_or former n other) back
-      ∙ former-at before.shapes.now (lines_before before) (edit_on before) (i + 1) j other (shape_count before is) (place before is) (omega arith) stood.1
-      ∙ shape-before before is lines after i j within stood.1 other
-      ∙ sym (shape-stays before is lines after i j within stood.1 (constant_of program (i + 1)) refl body (body-on lines i text within read) same)
+      ∙ former-at before.shapes.now (lines_before before) (edit_on before) shape (i + 1) j other (shape_count before is) (place before is) (omega arith) stood
+      ∙ shape-before before is lines after i j within stood other
+
+  module _ (new : IsNewShape (lines_before before) (edit_on before) shape) where
+    pub former-here : (i : ℕ) (other : Measured) → line_before_edit (edit_on before) (i + 1) ≡ None → get_or former i other ≡ shape_at (program_of lines) (i + 1)
+    former-here i other none =
+        let here : i + 1 ≡ place_of_edit (edit_on before) = new-place (edit_on before) (i + 1) none in
+        let at : i ≡ place_of_edit (edit_on before) - 1 = omega (arith, here) in
+        let there = ap (line_before_edit (edit_on before)) (sym here) ∙ none in
+        ap (λ n. get_or former n other) at
+        ∙ former-new before.shapes.now (lines_before before) (edit_on before) shape other (shape_count before is) (place before is) there
+        ∙ shape-at_place (lines_before before) (edit_on before) shape is.allowed new there
+        ∙ (λ n. shape_at (program_of (sym after n)) (sym here n))
+
+    -- what stands there before the loop over the lines
+    pub former-is : (i : ℕ) (other : Measured) → i < length lines → get_or former i other ≡ former_shape (program_of (lines_before before)) (program_of lines) (edit_on before) (i + 1)
+    former-is i other within = at (line_before_edit (edit_on before) (i + 1)) refl
+      where
+        at : (stood : Option ℕ) → line_before_edit (edit_on before) (i + 1) ≡ stood → get_or former i other ≡ shape_or (shape_at (program_of lines) (i + 1)) (shape_at (program_of (lines_before before))) stood
+        at None h = former-here i other h
+        at (Some j) h = former-stood i j other within h
+
+    pub former-stays : (i : ℕ) (text : List ℕ) (other : Measured) → i < length lines → text ≡ get_or lines i text → is_sized (statement_of text).body ≡ false → get_or former i other ≡ shape_at (program_of lines) (i + 1)
+    former-stays i text other within read unsized = at (line_before_edit (edit_on before) (i + 1)) refl
+      where
+        body : Body
+        body = (statement_of text).body
+
+        program : Program
+        program = program_of lines
+
+        at : (stood : Option ℕ) → line_before_edit (edit_on before) (i + 1) ≡ stood → get_or former i other ≡ shape_at program (i + 1)
+        at None h = former-here i other h
+        at (Some j) h =
+            let differs = λ (name : List ℕ). differs_from (program_of (lines_before before)) j (constant_of program (i + 1)) name in
+            let same : (is_sized body && (uses_symbols body && list_any differs (names_used body))) ≡ false =
+            ap (λ t. t && (uses_symbols body && list_any differs (names_used body))) unsized in
+            former-stood i j other within h
+            ∙ sym (shape-stays before is lines after i j within h (constant_of program (i + 1)) refl body (body-on lines i text within read) same)
 
 pub neither : (a b : Bool) → (a || b) ≡ false → (a ≡ false) × (b ≡ false)
 neither true b h = absurd (let wrong : false ≡ true = sym h in cc)
@@ -156,6 +181,14 @@ module _ (program : Program) (former : List Measured) where
 
   split : (i : ℕ) (other : Measured) → i < length former → shapes_through program former i ≡ for_lines (shape_at program) i ++ get_or former i other ∷ drop (i + 1) former
   split i other within = ap (λ rest. for_lines (shape_at program) i ++ rest) (drop_more former i other within)
+
+  -- what stands at the place of the next line
+  pub through-here : (i : ℕ) (other : Measured) → i < length former → get_or (shapes_through program former i) i other ≡ get_or former i other
+  through-here i other within =
+      let count = length-for_lines (shape_at program) i in
+      ap (λ row. get_or row i other) (split i other within)
+      ∙ ap (λ k. get_or (for_lines (shape_at program) i ++ get_or former i other ∷ drop (i + 1) former) k other) (sym count)
+      ∙ get_or-append_seam (for_lines (shape_at program) i) (get_or former i other) (drop (i + 1) former) other
 
   next : (i : ℕ) → for_lines (shape_at program) i ++ shape_at program (i + 1) ∷ drop (i + 1) former ≡ shapes_through program former (i + 1)
   next i =

@@ -85,9 +85,6 @@ module _ (before : Before) (is : IsBefore before) (lines : List (List ℕ)) (aft
   count : length before.shapes.now ≡ length (lines_before before)
   count = ap length is.shapes ∙ length-for_lines (shape_at old) (length old) ∙ length-program (lines_before before)
 
-  pub has-shape : j - 1 < length before.shapes.now
-  has-shape = omega (arith, count, place.first, place.last)
-
   pub shape-before : (other : Measured) → get_or before.shapes.now (j - 1) other ≡ shape_at old j
   shape-before other =
       ap (λ row. get_or row (j - 1) other) is.shapes

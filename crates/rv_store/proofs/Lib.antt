@@ -5,7 +5,6 @@ pub mod AlikeTexts
 pub mod AppendLaws
 pub mod AppendTexts
 pub mod Alignments
-pub mod ByteRuns
 pub mod CarriedJumps
 pub mod ChangeLaws
 pub mod Columns
@@ -19,9 +18,11 @@ pub mod DefinitionLaws
 pub mod DefinitionRows
 pub mod DifferingNames
 pub mod DueLines
+pub mod EarlierConstants
 pub mod EarlierLines
 pub mod EditExamples
 pub mod EditRefusals
+pub mod EndBases
 pub mod EndLaws
 pub mod Endings
 pub mod EquLaws
@@ -33,7 +34,9 @@ pub mod HighLaws
 pub mod HighRows
 pub mod ImageExamples
 pub mod Items
+pub mod KeptConstants
 pub mod KeptLines
+pub mod KeptRows
 pub mod KeptShapes
 pub mod LineNameLaws
 pub mod LinePairLaws
@@ -46,12 +49,15 @@ pub mod LongerPrograms
 pub mod LongerTexts
 pub mod MovedDefinitions
 pub mod MovedLocals
+pub mod MovedPlaces
 pub mod NameRows
 pub mod NameSets
+pub mod NewShapes
 pub mod OnlySymbols
 pub mod PairedHighs
+pub mod PartedShapes
 pub mod PassedItems
-pub mod PlacedWith
+pub mod PlacesAfter
 pub mod Programs
 pub mod QuietLines
 pub mod RememberedNames

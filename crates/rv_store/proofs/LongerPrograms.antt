@@ -1,22 +1,18 @@
 -- A text with one statement more at its end: what the lines before it define, and their shapes.
-use Rattle.std.proofs.Common.{◌≡◌, ℕ, zero, suc, ◌+◌, ◌-◌, ◌<◌, ◌≤◌, false, List, [], ◌∷◌, ◌++◌, length, get_or, if◌then◌else◌, arith, ap, sym, ◌∙◌, refl}
-use Rattle.std.specs.Result.{result_ok}
-use Rattle.std.proofs.lemmas.Bool.{ne_eqb}
+use Rattle.std.proofs.Common.{◌≡◌, ℕ, zero, suc, ◌+◌, ◌-◌, ◌≤◌, List, [], ◌∷◌, ◌++◌, length, get_or, arith, ap, sym, ◌∙◌, refl}
 use Rattle.std.proofs.lemmas.List.{length-append, get_or_append_left}
 use Rattle.std.proofs.Math.Seq.{get_or-append_seam}
 use Rattle.std.proofs.Math.Path.{fun_ext}
 use Rattle.rv_stmt.specs.declared.statement.Stmt.{Stmt}
-use Rattle.rv_layout.specs.Shapes.{constants, shape_of}
-use Rattle.rv_list.specs.declared.view.DefinitionPlace.{DefinitionPlace}
-use Rattle.rv_list.specs.declared.view.DefinitionPlace.TheVariants.{Nowhere, Label as ByLabel, Equ}
+use Rattle.rv_layout.specs.Shapes.{shape_of}
 use Rattle.rv_store.specs.Appended.{shape_at_end}
-use Rattle.rv_store.specs.Constants.{defined_value, constant_through}
+use Rattle.rv_store.specs.Constants.{constant_through}
 use Rattle.rv_store.specs.Defining.{then_also}
 use Rattle.rv_store.specs.Definitions.{or_place, place_in_statement, first_place, definition_of, is_equ_on}
 use Rattle.rv_store.specs.Layout.{shape_at, shapes_of}
 use Rattle.rv_store.specs.Program.{Program, no_statement, statement_at, body_at, for_lines}
-use Rattle.rv_store.proofs.DefinitionLaws.{IsWithin, statement-within}
 use Rattle.rv_store.proofs.DefinitionRows.{or_place-nowhere, or_place-assoc}
+use Rattle.rv_store.proofs.EarlierConstants as earlier
 
 pub for_lines-same : {A : Type 0} (f g : ℕ → A) (n : ℕ) → ((i : ℕ) → 1 ≤ i → i ≤ n → f i ≡ g i) → for_lines f n ≡ for_lines g n
 for_lines-same f g zero same = refl
@@ -24,12 +20,6 @@ for_lines-same f g (suc n) same =
     let earlier = for_lines-same f g n (λ i first last. same i first (omega (arith, last))) in
     let here = same (suc n) (omega arith) (omega arith) in
     λ j. earlier j ++ here j ∷ []
-
--- a definition on another line is no `.equ` of this line
-elsewhere : (m n : ℕ) (place : DefinitionPlace) → m < n → IsWithin n (n + 1) place → is_equ_on m place ≡ false
-elsewhere m n Nowhere below within = refl
-elsewhere m n (ByLabel line index) below within = refl
-elsewhere m n (Equ line) below within = ne_eqb line m (λ same. omega (arith, same, below, within.0))
 
 module _ (p : Program) (s : Stmt) where
   abbrev pub more : Program
@@ -70,25 +60,12 @@ module _ (p : Program) (s : Stmt) where
       let last : 1 + length p ≡ suc (length p) = omega arith in
       fun_ext (λ name. first_place-more 1 p name ∙ ap (λ n. or_place (definition_of p name) (place_in_statement n s name)) last)
 
-  equ-by : (m : ℕ) (place last : DefinitionPlace) → m ≤ length p → IsWithin (suc (length p)) (suc (length p) + 1) last → is_equ_on m (or_place place last) ≡ is_equ_on m place
-  equ-by m Nowhere last within there = elsewhere m (suc (length p)) last (omega (arith, within)) there
-  equ-by m (ByLabel line index) last within there = refl
-  equ-by m (Equ line) last within there = refl
-
   -- the earlier lines define the same constants
   pub equ-earlier : (m : ℕ) (name : List ℕ) → m ≤ length p → is_equ_on m (definition_of more name) ≡ is_equ_on m (definition_of p name)
-  equ-earlier m name within =
-      ap (λ f. is_equ_on m (f name)) definitions-more
-      ∙ equ-by m (definition_of p name) (place_in_statement (suc (length p)) s name) within (statement-within (suc (length p)) s name)
+  equ-earlier m name within = earlier.equ-earlier p (s ∷ []) m name within
 
   pub constants-same : (m : ℕ) → m ≤ length p → constant_through more m ≡ constant_through p m
-  constants-same zero within = refl
-  constants-same (suc m) within =
-      let earlier = constants-same m (omega (arith, within)) in
-      let here = body-earlier (suc m) (omega arith) within in
-      fun_ext (λ name.
-      (λ i. if is_equ_on (suc m) (definition_of more name) then result_ok (defined_value (constants (earlier i)) (here i)) else earlier i name)
-      ∙ ap (λ b. if b then result_ok (defined_value (constants (constant_through p m)) (body_at p (suc m))) else constant_through p m name) (equ-earlier (suc m) name within))
+  constants-same m within = earlier.constants-earlier p (s ∷ []) m within
 
   -- Shapes
 

@@ -1,14 +1,14 @@
--- What shapes do to the layout: where they take the same room, all lines lie where they lay.
+-- Where shapes take the same room, all lines lie where they lay.
 use Rattle.std.proofs.Common.{◌≡◌, ℕ, zero, suc, ◌+◌, ◌-◌, ◌==◌, List, [], ◌∷◌, ◌++◌, map, take, get_or, if◌then◌else◌, ap, ◌∙◌, refl}
 use Rattle.std.proofs.lemmas.List.{map-append, take-map}
 use Rattle.rv_stmt.specs.declared.section.Sect.{Sect}
 use Rattle.rv_stmt.specs.declared.section.Sect.TheVariants.{Text}
 use Rattle.rv_layout.specs.declared.measured.Measured.{Measured}
 use Rattle.rv_layout.specs.declared.measured.Measured.TheVariants.{Bytes, Align, Switch, Nothing, Faulty}
-use Rattle.rv_layout.specs.Effects.{join, effect_of, layout_of}
 use Rattle.rv_layout.specs.Places.{section_after, offset_after, section_through, offset_through, section_of, offset_of, section_end_of, base_from, size_at, line_size_of, address_of}
 use Rattle.rv_layout.specs.Sections.{section_number}
 use Rattle.rv_store.specs.Alike.{room_of}
+use Rattle.rv_store.specs.Ends.{by_section, ends_of}
 use Rattle.rv_store.specs.Program.{for_lines}
 
 pub map-for_lines : {A B : Type 0} (f : A → B) (g : ℕ → A) (n : ℕ) → map f (for_lines g n) ≡ for_lines (λ i. f (g i)) n
@@ -38,13 +38,6 @@ size_at-room x (Switch t) = refl
 size_at-room x Nothing = refl
 size_at-room x (Faulty f) = refl
 
-effect_of-room : (m : Measured) → effect_of (room_of m) ≡ effect_of m
-effect_of-room (Bytes n) = refl
-effect_of-room (Align e) = refl
-effect_of-room (Switch t) = refl
-effect_of-room Nothing = refl
-effect_of-room (Faulty f) = refl
-
 -- Some lines
 
 section_through-rooms : (s : Sect) (ms : List Measured) → section_through s (map room_of ms) ≡ section_through s ms
@@ -58,10 +51,6 @@ offset_through-rooms t s x (m ∷ ms) =
     offset_through-rooms t (section_after s (room_of m)) (if section_number s == t then offset_after x (room_of m) else x) ms
     ∙ (λ j. offset_through t (section_after-room s m j) (if section_number s == t then offset_after-room x m j else x) ms)
 
-pub layout-rooms : (ms : List Measured) → layout_of (map room_of ms) ≡ layout_of ms
-layout-rooms [] = refl
-layout-rooms (m ∷ ms) = λ j. join (effect_of-room m j) (layout-rooms ms j)
-
 -- A text
 
 pub section-rooms : (ms : List Measured) (i : ℕ) → section_of (map room_of ms) i ≡ section_of ms i
@@ -74,6 +63,9 @@ offset-rooms ms i =
 
 end-rooms : (ms : List Measured) → section_end_of (map room_of ms) ≡ section_end_of ms
 end-rooms ms = λ j t. offset_through-rooms t Text 0 ms j
+
+pub ends-rooms : (ms : List Measured) → ends_of (map room_of ms) ≡ ends_of ms
+ends-rooms ms = λ j. record { section = section_through-rooms Text ms j; offsets = by_section (end-rooms ms j) }
 
 pub address-rooms : (base : ℕ) (ms : List Measured) (i : ℕ) → address_of base (map room_of ms) i ≡ address_of base ms i
 address-rooms base ms i = λ j. base_from base (end-rooms ms j) (section_number (section-rooms ms i j)) + offset-rooms ms i j

@@ -51,7 +51,7 @@ survey_grown base program old new s grows is = record {
   };
   shapes = is.shapes;
   limited = is.limited;
-  total = is.total;
+  ends = is.ends;
   places = is.places;
   locals = is.locals;
   equ_values = record {

@@ -9,6 +9,7 @@ use Rattle.rv_store.specs.declared.before.Before.{Before}
 use Rattle.rv_store.specs.Before.{base_before, lines_before, edit_on}
 use Rattle.rv_store.specs.Changes.{program_after, differs_in_uses, is_invalidated}
 use Rattle.rv_store.specs.Edits.{line_before_edit}
+use Rattle.rv_store.specs.NewShapes.{shape_operands}
 use Rattle.rv_store.specs.Program.{program_of, body_at, lines_that}
 use Rattle.rv_store.specs.Text.{Edit, lines_after}
 use Rattle.rv_store.specs.Uses.{is_equ}
@@ -62,10 +63,10 @@ equ-work base lines edit (suc n) = at (is_invalidated base lines edit (suc n)) r
         let sums : operands_through equ_operands (program_after lines edit) n + f (suc n) ≡ sum_by f before = omega (arith, none, all) in
         sums ∙ kept ∙ ap (λ t. sum_by f (before ++ (if t then suc n ∷ [] else []))) (sym is)
 
--- what the shapes, the values of the `.equ`s and the high halves of a text after an edit take
-pub survey_counted : (before : Before) (base : ℕ) (lines after : List (List ℕ)) (edit : Edit) → base_before before ≡ base → lines_before before ≡ lines → edit_on before ≡ edit → after ≡ lines_after lines edit → (first shaped valued last : ℕ) → shaped ≤ first + work constant_operands (base_before before) (lines_before before) (edit_on before) (length after) → valued ≤ shaped + operands_through equ_operands (program_of after) (length after) → last ≤ valued + work high_operands (base_before before) (lines_before before) (edit_on before) (length after) → last ≤ first + work survey_operands base lines edit (length after)
+-- what the shapes but for that of the new line, the values of the `.equ`s and the high halves of a text after an edit take
+pub survey_counted : (before : Before) (base : ℕ) (lines after : List (List ℕ)) (edit : Edit) → base_before before ≡ base → lines_before before ≡ lines → edit_on before ≡ edit → after ≡ lines_after lines edit → (first shaped valued last : ℕ) → shaped + shape_operands (edit_on before) ≤ first + work constant_operands (base_before before) (lines_before before) (edit_on before) (length after) → valued ≤ shaped + operands_through equ_operands (program_of after) (length after) → last ≤ valued + work high_operands (base_before before) (lines_before before) (edit_on before) (length after) → last + shape_operands edit ≤ first + work survey_operands base lines edit (length after)
 survey_counted before base lines after edit same_base same_lines same_edit edited first shaped valued last s v h =
-    let shapes : shaped ≤ first + work constant_operands base lines edit (length after) = rw (same_base, same_lines, same_edit) at s in
+    let shapes : shaped + shape_operands edit ≤ first + work constant_operands base lines edit (length after) = rw (same_base, same_lines, same_edit) at s in
     let highs : last ≤ valued + work high_operands base lines edit (length after) = rw (same_base, same_lines, same_edit) at h in
     let equs : operands_through equ_operands (program_of after) (length after) ≡ work equ_operands base lines edit (length after) =
     ap (λ text. operands_through equ_operands (program_of text) (length after)) edited ∙ equ-work base lines edit (length after) in

@@ -1,8 +1,7 @@
 -- A line at the end of a text. No other line has to do with it where none defines or uses what it defines, and no section
 -- moves by it.
-use Rattle.std.specs.Prelude.{◌≡◌, ℕ, suc, ◌+◌, ◌*◌, ◌<◌, ◌≤◌, Bool, true, false, ◌||◌, List, [], ◌∷◌, ◌++◌, length, take, bytes_eq, Option, Some, None, if◌then◌else◌}
+use Rattle.std.specs.Prelude.{◌≡◌, ℕ, suc, ◌<◌, ◌≤◌, Bool, true, false, ◌||◌, List, [], ◌∷◌, ◌++◌, length, take, bytes_eq, Option, Some, None, if◌then◌else◌}
 use Rattle.std.specs.List.{list_any}
-use Rattle.rv_text.specs.Counting.{Counts}
 use Rattle.rv_stmt.specs.declared.statement.Body.{Body}
 use Rattle.rv_stmt.specs.declared.statement.Body.TheVariants.{Equ as EquBody}
 use Rattle.rv_stmt.specs.declared.statement.Stmt.{Stmt}
@@ -10,30 +9,23 @@ use Rattle.rv_stmt.specs.LabelNames.{Label, LabelName}
 use Rattle.rv_stmt.specs.LabelNames as label
 use Rattle.rv_stmt.specs.Statement.{statement_of}
 use Rattle.rv_layout.specs.declared.measured.Measured.{Measured}
-use Rattle.rv_layout.specs.Effects.{layout_of}
 use Rattle.rv_layout.specs.Places.{section_base_of, IsLimited}
 use Rattle.rv_layout.specs.Sections.{sections}
-use Rattle.rv_layout.specs.Shapes.{shape_of, size_operands}
+use Rattle.rv_layout.specs.Shapes.{shape_of}
 use Rattle.rv_list.specs.declared.view.DefinitionPlace.{DefinitionPlace}
 use Rattle.rv_list.specs.declared.view.DefinitionPlace.TheVariants.{Nowhere, Label as ByLabel, Equ}
-use Rattle.rv_store.specs.declared.before.Before.{Before}
 use Rattle.rv_store.specs.declared.ending.Ending.{Ending}
 use Rattle.rv_store.specs.declared.limits.TheConstants.{MAX_LINES}
 use Rattle.rv_store.specs.declared.survey.Survey.{Survey}
-use Rattle.rv_store.specs.Before.{base_before, lines_before, edit_on}
-use Rattle.rv_store.specs.Changes.{program_after, most_values, most_codes}
-use Rattle.rv_store.specs.Compared.{compared_through}
 use Rattle.rv_store.specs.Constants.{constant_through}
 use Rattle.rv_store.specs.Definitions.{defines_symbol, definition_of}
+use Rattle.rv_store.specs.Ends.{ends_of}
 use Rattle.rv_store.specs.Layout.{shapes_of, place_at}
 use Rattle.rv_store.specs.Pairs.{pcrel_high_of}
 use Rattle.rv_store.specs.Program.{Program, program_of, body_at}
 use Rattle.rv_store.specs.References.{among_local, equ_value}
-use Rattle.rv_store.specs.Renewals.{values_through, codes_through}
 use Rattle.rv_store.specs.Rows.{AreDefinitions, AreConstants, AreEquValues, ArePlaces, AreLocals}
-use Rattle.rv_store.specs.Text.{Edit, Insert}
 use Rattle.rv_store.specs.Uses.{names_used, is_equ}
-use Rattle.rv_store.specs.Work.{survey_operands, work}
 
 -- a statement defines a symbol
 abbrev pub defines_in_body : Body → (name : List ℕ) → Bool
@@ -96,20 +88,9 @@ pub record IsEnding (base : ℕ) (program : Program) (s : Stmt) (end : Ending) :
   pub alone : IsAlone s
   pub shape : end.shape ≡ shape_at_end program s
   pub limited : IsLimited end.shape
-  pub total : end.total ≡ layout_of (shapes_of program ++ end.shape ∷ [])
+  pub ends : end.ends ≡ ends_of (shapes_of program ++ end.shape ∷ [])
   pub place : end.place ≡ place_at base (program ++ s ∷ []) (suc (length program))
   pub stay : StaySections base program end.shape
-
--- an edit puts a line at the end of a text
-pub record IsAtEnd (lines : List (List ℕ)) (edit : Edit) : Type 0 where
-  pub line : List ℕ
-  pub is : edit ≡ Insert (length lines + 1) line
-
--- the text has one line more at its end
-pub record IsLonger (before : Before) (lines : List (List ℕ)) : Type 0 where
-  pub line : List ℕ
-  pub edit : edit_on before ≡ Insert (length (lines_before before) + 1) line
-  pub more : lines ≡ lines_before before ++ line ∷ []
 
 -- Rows
 
@@ -123,7 +104,7 @@ pub record AreSameSymbols (old new : Survey) : Type 0 where
 pub record AreSameLines (old new : Survey) : Type 0 where
   pub lines : new.lines.items ≡ old.lines.items
   pub shapes : new.shapes.items ≡ old.shapes.items
-  pub total : new.total ≡ old.total
+  pub ends : new.ends ≡ old.ends
   pub places : new.places.items ≡ old.places.items
   pub locals : new.locals ≡ old.locals
   pub highs : new.highs.items ≡ old.highs.items
@@ -133,7 +114,7 @@ pub record AreSameLines (old new : Survey) : Type 0 where
 pub record AreExtended (line : List ℕ) (end : Ending) (old new : Survey) : Type 0 where
   pub lines : new.lines.items ≡ old.lines.items ++ line ∷ []
   pub shapes : new.shapes.items ≡ old.shapes.items ++ end.shape ∷ []
-  pub total : new.total ≡ end.total
+  pub ends : new.ends ≡ end.ends
   pub places : new.places.items ≡ old.places.items ++ end.place ∷ []
   pub locals : new.locals ≡ old.locals
   pub highs : new.highs.items ≡ old.highs.items
@@ -176,27 +157,3 @@ pub record IsUnsettled (base : ℕ) (names : List (List ℕ)) (line : List ℕ) 
   pub symbols : AreSymbols base (program_of lines) (length lines) names s
   pub places : ArePlaces base (program_of s.lines.items) s.places.items
   pub locals : AreLocals (program_of s.lines.items) (length (program_of s.lines.items)) s.locals
-
--- Work
-
--- while the rows and the items of a text with a new last line are made, whose shape is known, no more is counted than this
--- edit may take
-pub record AreCountedLonger (before : Before) (lines : List (List ℕ)) (old new : Counts) : Type 0 where
-  pub parsed : new.parsed ≡ old.parsed
-  pub valued_least : old.valued ≤ new.valued
-  pub valued_few : new.valued ≤ old.valued + 1003 * length lines
-  pub valued_most : new.valued + size_operands (body_at (program_of lines) (length lines))
-      ≤ old.valued + work survey_operands (base_before before) (lines_before before) (edit_on before) (length lines) + compared_through before (length lines) + values_through before (length lines)
-  pub encoded_least : old.encoded ≤ new.encoded
-  pub encoded_few : new.encoded ≤ old.encoded + length lines
-  pub encoded_most : new.encoded ≤ old.encoded + codes_through before (length lines)
-
--- while a line is put at the end of a text, whose shape is known, no more is counted than this edit may take
-pub record AreCountedAtEnd (base : ℕ) (lines : List (List ℕ)) (edit : Edit) (old new : Counts) : Type 0 where
-  pub parsed : new.parsed ≡ old.parsed
-  pub valued_least : old.valued ≤ new.valued
-  pub valued_few : new.valued ≤ old.valued + 1003 * (length lines + 1)
-  pub valued_most : new.valued + size_operands (body_at (program_after lines edit) (length lines + 1)) ≤ old.valued + most_values base lines edit
-  pub encoded_least : old.encoded ≤ new.encoded
-  pub encoded_few : new.encoded ≤ old.encoded + (length lines + 1)
-  pub encoded_most : new.encoded ≤ old.encoded + most_codes base lines edit

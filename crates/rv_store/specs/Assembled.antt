@@ -1,7 +1,8 @@
--- What may be counted while an edit is made whose line was read.
+-- What may be counted while an edit is made whose line was read, after the shape of that line.
 use Rattle.std.specs.Prelude.{◌≡◌, ℕ, ◌+◌, ◌*◌, ◌≤◌, List, length}
 use Rattle.rv_text.specs.Counting.{Counts}
 use Rattle.rv_store.specs.Changes.{most_values, most_codes}
+use Rattle.rv_store.specs.NewShapes.{shape_operands}
 use Rattle.rv_store.specs.Text.{Edit, lines_after}
 
 -- no more is counted than this edit may take
@@ -9,7 +10,7 @@ pub record AreCountedAfter (base : ℕ) (lines : List (List ℕ)) (edit : Edit) 
   pub parsed : new.parsed ≡ old.parsed
   pub valued_least : old.valued ≤ new.valued
   pub valued_few : new.valued ≤ old.valued + 1004 * length (lines_after lines edit)
-  pub valued_most : new.valued ≤ old.valued + most_values base lines edit
+  pub valued_most : new.valued + shape_operands edit ≤ old.valued + most_values base lines edit
   pub encoded_least : old.encoded ≤ new.encoded
   pub encoded_few : new.encoded ≤ old.encoded + length (lines_after lines edit)
   pub encoded_most : new.encoded ≤ old.encoded + most_codes base lines edit

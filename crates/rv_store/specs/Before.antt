@@ -1,5 +1,6 @@
 -- A text before an edit, and the rows of the text after it.
 use Rattle.std.specs.Prelude.{◌≡◌, ℕ, ◌≤◌, List, length, None}
+use Rattle.rv_layout.specs.Places.{AreLimited}
 use Rattle.rv_store.specs.declared.before.Before.{Before}
 use Rattle.rv_store.specs.declared.limits.TheConstants.{MAX_LINES}
 use Rattle.rv_store.specs.declared.text_rows.TextRows.{TextRows}
@@ -22,6 +23,7 @@ edit_on before = edit_of before.edit
 pub record IsBefore (before : Before) : Type 0 where
   pub symbols : AreSymbolRows before.symbols
   pub shapes : AreShapes (program_in before.symbols.text) before.shapes.now
+  pub limited : AreLimited before.shapes.now
   pub highs : AreHighs (base_before before) (program_in before.symbols.text) before.highs.now
   pub few : length (lines_before before) ≤ MAX_LINES
   pub allowed : refusal_of (lines_before before) (edit_on before) ≡ None

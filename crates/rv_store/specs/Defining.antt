@@ -1,8 +1,8 @@
 -- Definitions of names, joined in the order of the text.
-use Rattle.std.specs.Prelude.{◌≡◌, ℕ, ◌≤◌, List, length, bytes_eq, if◌then◌else◌}
+use Rattle.std.specs.Prelude.{◌≡◌, ℕ, ◌≤◌, nat_le, Bool, false, List, length, bytes_eq, if◌then◌else◌}
 use Rattle.rv_stmt.specs.LabelNames.{Label}
 use Rattle.rv_list.specs.declared.view.DefinitionPlace.{DefinitionPlace}
-use Rattle.rv_list.specs.declared.view.DefinitionPlace.TheVariants.{Nowhere, Label as ByLabel}
+use Rattle.rv_list.specs.declared.view.DefinitionPlace.TheVariants.{Nowhere, Label as ByLabel, Equ}
 use Rattle.rv_store.specs.Definitions.{defines_symbol, or_place}
 use Rattle.rv_store.specs.Rows.{in_row}
 
@@ -21,6 +21,20 @@ of_label line index l name = if defines_symbol l.name name then ByLabel line ind
 -- those of one part of the text and then of another
 abbrev pub then_also : Definitions → Definitions → Definitions
 then_also first second name = or_place (first name) (second name)
+
+-- a definition on this line or before it
+abbrev pub is_up_to : (line : ℕ) → DefinitionPlace → Bool
+is_up_to line Nowhere = false
+is_up_to line (ByLabel l index) = nat_le l line
+is_up_to line (Equ l) = nat_le l line
+
+-- the first one of two definitions, the second of which is on this line
+abbrev pub or_here : (line : ℕ) → (other here : DefinitionPlace) → DefinitionPlace
+or_here line other here = if is_up_to line other then other else or_place here other
+
+-- those of a text, and those of a part of this line
+abbrev pub also_on : (line : ℕ) → (others here : Definitions) → Definitions
+also_on line others here name = or_here line (others name) (here name)
 
 -- a row, no longer than there are names, that holds these
 pub record Holds (names : List (List ℕ)) (row : List DefinitionPlace) (definitions : Definitions) : Type 0 where

@@ -2,10 +2,8 @@
 use Rattle.std.specs.Prelude.{◌≡◌, ℕ, ◌+◌, ◌<◌, List, [], ◌∷◌, ◌++◌, length, map, set, slice_index}
 use Rattle.std.specs.List.{range_with_len}
 use Rattle.rv_stmt.specs.declared.section.Sect.TheVariants.{Text}
-use Rattle.rv_layout.specs.declared.effect.Effect.{Effect}
 use Rattle.rv_layout.specs.declared.measured.Measured.{Measured}
-use Rattle.rv_layout.specs.Effects.{layout_of, section_reached, offset_reached}
-use Rattle.rv_layout.specs.Places.{section_after, section_through, size_at, section_of, line_size_of, section_end_of, address_of, AreLimited}
+use Rattle.rv_layout.specs.Places.{section_after, section_through, size_at, section_of, line_size_of, section_end_of, base_from, address_of, AreLimited}
 use Rattle.rv_layout.specs.Sections.{sections, section_number}
 use Rattle.rv_store.specs.declared.ends.Ends.{Ends}
 use Rattle.rv_store.specs.declared.places.Reached.{Reached}
@@ -19,9 +17,13 @@ by_section f = map f (range_with_len 0 sections)
 abbrev pub ends_of : List Measured → Ends
 ends_of ms = record { section = section_through Text ms; offsets = by_section (section_end_of ms) }
 
--- the same by the layout of the lines
-abbrev pub ends_reached : Effect → Ends
-ends_reached l = record { section = section_reached l; offsets = by_section (offset_reached l) }
+-- the offset at which section number `t` ends
+abbrev pub end_in : Ends → (t : ℕ) → ℕ
+end_in ends t = slice_index ends.offsets t
+
+-- the address at which section number `t` begins
+abbrev pub base_by_ends : (base : ℕ) → Ends → (t : ℕ) → ℕ
+base_by_ends base ends t = base_from base (end_in ends) t
 
 -- the offset of the next line
 abbrev pub next_offset : Ends → ℕ
@@ -50,9 +52,9 @@ next_place bases ends m = record {
 abbrev pub place_by_shapes : (base : ℕ) → List Measured → (i : ℕ) → LinePlace
 place_by_shapes base ms i = record { section = section_of ms i; address = address_of base ms i; size = line_size_of ms i }
 
--- a line of this shape stands behind lines of these shapes, which have the one layout, and with it the other one
-pub record IsBehind (m : Measured) (before total : Effect) (ms : List Measured) : Type 0 where
+-- a line of this shape stands behind lines of these shapes, after which the sections end at the one ends, and with it at the others
+pub record IsBehind (m : Measured) (before total : Ends) (ms : List Measured) : Type 0 where
   pub few : length ms < 16384
   pub limited : AreLimited (ms ++ m ∷ [])
-  pub first : before ≡ layout_of ms
-  pub all : total ≡ layout_of (ms ++ m ∷ [])
+  pub first : before ≡ ends_of ms
+  pub all : total ≡ ends_of (ms ++ m ∷ [])

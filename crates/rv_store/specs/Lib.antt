@@ -22,7 +22,9 @@ pub mod FormerShapes
 pub mod Items
 pub mod Jumps
 pub mod Kept
+pub mod KeptConstants
 pub mod Layout
+pub mod LineConstants
 pub mod LineNames
 pub mod LinePairs
 pub mod LineSums
@@ -33,7 +35,9 @@ pub mod LinesWithout
 pub mod Locals
 pub mod MovedDefinitions
 pub mod MovedLocals
+pub mod MovedPlaces
 pub mod NameSets
+pub mod NewShapes
 pub mod PairedHighs
 pub mod Pairs
 pub mod Passed

@@ -1,12 +1,12 @@
--- Where names are defined after an edit that changes no definition: where they were, on the lines as they move.
-use Rattle.std.specs.Prelude.{ℕ, ◌+◌, ◌-◌, ◌^◌, ◌==◌, nat_lt, min, Bool, not, ◌&&◌, ◌||◌, List, length, get_or, bytes_eq, [], if◌then◌else◌}
-use Rattle.rv_stmt.specs.declared.statement.Body.{Body}
-use Rattle.rv_stmt.specs.declared.statement.Body.TheVariants.{Equ as EquBody}
-use Rattle.rv_stmt.specs.declared.statement.Stmt.{Stmt}
+-- Where names are defined after an edit: where they were, on the lines as they move, but for what the edit takes out or puts in.
+use Rattle.std.specs.Prelude.{ℕ, ◌+◌, ◌-◌, ◌^◌, ◌==◌, nat_lt, min, Bool, false, not, ◌||◌, List, [], length, get_or, drop, if◌then◌else◌}
 use Rattle.rv_stmt.specs.Statement.{statement_of}
 use Rattle.rv_list.specs.declared.view.DefinitionPlace.{DefinitionPlace}
 use Rattle.rv_list.specs.declared.view.DefinitionPlace.TheVariants.{Nowhere, Label as ByLabel, Equ}
-use Rattle.rv_store.specs.Alike.{same_labels}
+use Rattle.rv_store.specs.Defining.{Definitions}
+use Rattle.rv_store.specs.Definitions.{place_in_statement, first_place}
+use Rattle.rv_store.specs.Edits.{place_of_edit}
+use Rattle.rv_store.specs.Program.{program_of}
 use Rattle.rv_store.specs.Text.{Edit, Insert, Delete, Replace}
 use Rattle.rv_store.specs.Uses.{is_equ}
 
@@ -14,22 +14,17 @@ use Rattle.rv_store.specs.Uses.{is_equ}
 abbrev pub may_define : List ℕ → Bool
 may_define line = not (length (statement_of line).labels == 0) || is_equ (statement_of line).body
 
--- the bodies of two lines define the same symbol, or none
-abbrev pub same_equ : Body → Body → Bool
-same_equ (EquBody d) (EquBody e) = bytes_eq d.symbol e.symbol
-same_equ body other = not (is_equ body) && not (is_equ other)
+-- a definition on this line
+abbrev pub is_on : (line : ℕ) → DefinitionPlace → Bool
+is_on line Nowhere = false
+is_on line (ByLabel l index) = l == line
+is_on line (Equ l) = l == line
 
--- two lines define the same
-abbrev pub same_definitions : Stmt → Stmt → Bool
-same_definitions s other = same_labels s.labels other.labels && same_equ s.body other.body
-
--- an edit may change what is defined: it puts in or takes out a line that may define something, or replaces one by a line that
--- does not define the same
-abbrev pub edits_definitions : (lines : List (List ℕ)) → Edit → Bool
-edits_definitions lines (Insert place line) = may_define line
-edits_definitions lines (Delete place) = may_define (get_or lines (place - 1) [])
-edits_definitions lines (Replace place line) =
-    not (same_definitions (statement_of (get_or lines (place - 1) [])) (statement_of line))
+-- a definition that an edit takes out with its line
+abbrev pub takes_out : Edit → DefinitionPlace → Bool
+takes_out (Insert place line) defined = false
+takes_out (Delete place) defined = is_on place defined
+takes_out (Replace place line) defined = is_on place defined
 
 -- where a line stands after an edit that does not take it out; numbers of lines have 32 bits
 abbrev pub line_after_edit : Edit → (j : ℕ) → ℕ
@@ -42,3 +37,26 @@ abbrev pub moved_place : (to : ℕ → ℕ) → DefinitionPlace → DefinitionPl
 moved_place to Nowhere = Nowhere
 moved_place to (ByLabel line index) = ByLabel (to line) index
 moved_place to (Equ line) = Equ (to line)
+
+-- a definition after an edit: it moves with its line, or is the one that is found where the edit takes it out
+abbrev pub place_after : Edit → (found defined : DefinitionPlace) → DefinitionPlace
+place_after edit found defined = if takes_out edit defined then found else moved_place (line_after_edit edit) defined
+
+-- the first definition from the place of an edit on, in the lines after it
+abbrev pub found_after : Edit → (after : List (List ℕ)) → Definitions
+found_after edit after name = first_place (place_of_edit edit) (program_of (drop (place_of_edit edit - 1) after)) name
+
+-- the definitions of before the edit, after it
+abbrev pub kept_after : Edit → (after : List (List ℕ)) → Definitions → Definitions
+kept_after edit after before name = place_after edit (found_after edit after name) (before name)
+
+-- what the line defines that an edit puts in
+abbrev pub put_in : Edit → Definitions
+put_in (Insert place line) name = place_in_statement place (statement_of line) name
+put_in (Delete place) name = Nowhere
+put_in (Replace place line) name = place_in_statement place (statement_of line) name
+
+-- an edit puts a line in the place of one that defines nothing
+abbrev pub replaces_nothing : (lines : List (List ℕ)) → Edit → Bool
+replaces_nothing lines (Replace place line) = not (may_define (get_or lines (place - 1) []))
+replaces_nothing lines edit = false

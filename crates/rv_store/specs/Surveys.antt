@@ -1,8 +1,8 @@
 -- What is kept of a text: what its lines say, in rows.
 use Rattle.std.specs.Prelude.{◌≡◌, ℕ, List, length}
-use Rattle.rv_layout.specs.Effects.{layout_of}
 use Rattle.rv_layout.specs.Places.{AreLimited}
 use Rattle.rv_store.specs.declared.survey.Survey.{Survey}
+use Rattle.rv_store.specs.Ends.{ends_of}
 use Rattle.rv_store.specs.Program.{Program}
 use Rattle.rv_store.specs.Rows.{AreDefinitions, AreConstants, AreEquValues, AreShapes, ArePlaces, AreHighs, ArePairedHighs, AreLocals}
 
@@ -11,7 +11,7 @@ pub record IsSurvey (base : ℕ) (program : Program) (names : List (List ℕ)) (
   pub constants : AreConstants program (length program) names s.constants.items
   pub shapes : AreShapes program s.shapes.items
   pub limited : AreLimited s.shapes.items
-  pub total : s.total ≡ layout_of s.shapes.items
+  pub ends : s.ends ≡ ends_of s.shapes.items
   pub places : ArePlaces base program s.places.items
   pub locals : AreLocals program (length program) s.locals
   pub equ_values : AreEquValues base program (length program) names s.equ_values.items

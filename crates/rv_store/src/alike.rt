@@ -1,20 +1,17 @@
 //! Lines that can stand in each other's places.
 
-ghost use Rattle.std.specs.Prelude.{◌≡◌, ℕ, ◌<◌, ◌-◌, ◌^◌, None, false, IsTrue, IfSome};
+ghost use Rattle.std.specs.Prelude.{◌≡◌, ℕ, IsTrue};
 ghost use Rattle.rv_stmt.specs.LentLabels.{name_lent};
 ghost use Rattle.rv_stmt.specs.Statement.{statement_of};
-ghost use Rattle.rv_layout.specs.Places.{IsLimited};
 ghost use Rattle.rv_layout.specs.Shapes.{shape_of};
 ghost use Rattle.rv_store.specs.Alike.{same_name, same_labels, room_of, DefinesSame, IsAlike};
 ghost use Rattle.rv_store.specs.Constants.{constant_of};
 ghost use Rattle.rv_store.specs.Layout.{shape_at};
 ghost use Rattle.rv_store.specs.Program.{Program, statement_at};
-ghost use Rattle.rv_store.specs.Uses.{is_sized};
 
 use crate::line::Line;
-use rv_layout::{Consts, Measured, measure, shapes_are_limited};
+use rv_layout::Measured;
 use rv_stmt::{LabelName, LabelSlice};
-use rv_text::Count;
 
 // Whether two labels define the same.
 fn is_same_name(name: LabelName<'_>, other: LabelName<'_>) -> bool
@@ -66,33 +63,6 @@ fn defines_same(former: &Line, line: &Line) -> bool
     )
 }
 
-// No name is a constant.
-#[derive(Drop)]
-struct NoConstants;
-
-impl Consts for NoConstants {
-    ghost constant_of = { λ c name. None };
-
-    fn constant(&self, _name: &[u8]) -> Option<i64> {
-        None
-    }
-}
-
-/// The shape of a line that follows from no constant. Nothing is counted.
-pub fn unsized_shape<C: Count>(line: &Line, counter: &mut C) -> Measured
-    requires size { is_sized (statement_of line.now).body ≡ false }
-    requires valued { C.valued_count counter.old < 2 ^ 64 - 1 }
-    ensures shape { (program : Program) (k : ℕ) → result ≡ shape_of (constant_of program k) (statement_of line.now).body }
-    ensures limited { IsLimited result }
-    ensures parsed { C.parsed_count counter.new ≡ C.parsed_count counter.old }
-    ensures valued { C.valued_count counter.new ≡ C.valued_count counter.old }
-    ensures encoded { C.encoded_count counter.new ≡ C.encoded_count counter.old }
-{
-    line.data_are_few();
-    shapes_are_limited();
-    measure(line.stmt(), &NoConstants, counter)
-}
-
 // What a shape does to the layout.
 fn room_of(shape: Measured) -> Measured
     ensures { result ≡ room_of shape }
@@ -110,30 +80,11 @@ fn take_same_room(shape: &Measured, other: &Measured) -> bool
     room_of(*shape) == room_of(*other)
 }
 
-/// The shape of a line, if it can stand in the place of one that has the shape `former_shape`, and all other lines stay as they
-/// are: it defines the same and takes the same room, and its shape follows from no constant. Nothing is counted. Other lines may
-/// be alike, too.
-pub fn alike_shape<C: Count>(
-    former: &Line,
-    former_shape: Measured,
-    line: &Line,
-    counter: &mut C,
-) -> Option<Measured>
-    requires valued { C.valued_count counter.old < 2 ^ 64 - 1 }
-    ensures alike { (program : Program) (k : ℕ) → statement_at program k ≡ statement_of former.now → former_shape ≡ shape_at program k
-        → IfSome result (λ _. IsAlike program k (statement_of line.now)) }
-    ensures shape { (program : Program) (k : ℕ) → IfSome result (λ shape. shape ≡ shape_of (constant_of program k) (statement_of line.now).body) }
-    ensures limited { IfSome result IsLimited }
-    ensures parsed { C.parsed_count counter.new ≡ C.parsed_count counter.old }
-    ensures valued { C.valued_count counter.new ≡ C.valued_count counter.old }
-    ensures encoded { C.encoded_count counter.new ≡ C.encoded_count counter.old }
+/// Whether a line of this shape can stand in the place of one that has the shape `former_shape`, and all other lines stay as they are: it
+/// defines the same and takes the same room. Other lines may be alike, too.
+pub fn are_alike(former: &Line, former_shape: &Measured, line: &Line, shape: &Measured) -> bool
+    ensures { (program : Program) (k : ℕ) → statement_at program k ≡ statement_of former.now → former_shape.now ≡ shape_at program k
+        → shape.now ≡ shape_of (constant_of program k) (statement_of line.now).body → IsTrue result → IsAlike program k (statement_of line.now) }
 {
-    if line.brief().sized || !defines_same(former, line) {
-        return None;
-    }
-    let shape = unsized_shape(line, counter);
-    if !take_same_room(&shape, &former_shape) {
-        return None;
-    }
-    Some(shape)
+    take_same_room(shape, former_shape) && defines_same(former, line)
 }

@@ -1,7 +1,7 @@
 //! What is kept of a text after an edit is made, by what was kept of it before.
 
-ghost use Rattle.std.specs.Prelude.{◌≡◌, ◌≤◌, ◌^◌, None, length, true, IfOk, IfErr};
-ghost use Rattle.rv_layout.specs.Places.{is_base};
+ghost use Rattle.std.specs.Prelude.{◌≡◌, ◌≤◌, ◌+◌, ◌^◌, None, length, true, IfOk, IfErr};
+ghost use Rattle.rv_layout.specs.Places.{is_base, IsLimited};
 ghost use Rattle.rv_store.specs.Assembled.{AreCountedAfter};
 ghost use Rattle.rv_store.specs.Changes.{changed_lines};
 ghost use Rattle.rv_store.specs.Counted.{counts_of};
@@ -9,6 +9,7 @@ ghost use Rattle.rv_store.specs.Edits.{edit_of};
 ghost use Rattle.rv_store.specs.Former.{AreFormer};
 ghost use Rattle.rv_store.specs.Items.{AreItems};
 ghost use Rattle.rv_store.specs.Lines.{lines_of};
+ghost use Rattle.rv_store.specs.NewShapes.{IsNewShape};
 ghost use Rattle.rv_store.specs.Program.{program_of};
 ghost use Rattle.rv_store.specs.Rows.{Grows};
 ghost use Rattle.rv_store.specs.Surveys.{IsSurvey};
@@ -23,6 +24,7 @@ use crate::lines::Lines;
 use crate::names::NameTable;
 use crate::renewal::renewed_items;
 use crate::survey::Survey;
+use rv_layout::Measured;
 use rv_text::Count;
 use rv_tree::SumTree;
 use std::alloc::Global;
@@ -36,6 +38,7 @@ fn assembled_by_lines<C: Count>(
     old: &Lines<'_>,
     edit: &LineEdit<'_>,
     items: SumTree<Item>,
+    shape: Measured,
     counter: &mut C,
 ) -> Result<(Survey, SumTree<Item>, Changed), EditError>
     requires base { is_base base ≡ true }
@@ -43,10 +46,12 @@ fn assembled_by_lines<C: Count>(
     requires old_few { length old.now ≤ MAX_LINES }
     requires allowed { refusal_of old.now (edit_of edit.now) ≡ None }
     requires edited { survey.now.lines.items ≡ lines_after old.now (edit_of edit.now) }
+    requires shape { IsNewShape old.now (edit_of edit.now) shape }
+    requires limited { IsLimited shape }
     requires few { length survey.now.lines.items ≤ MAX_LINES }
     requires count { length items.items ≡ length survey.now.lines.items }
     requires former { AreFormer base old.now (edit_of edit.now) 0 items.items }
-    requires valued { C.valued_count counter.old ≤ 2 ^ 63 }
+    requires valued { C.valued_count counter.old ≤ 2 ^ 63 + 1 }
     requires encoded { C.encoded_count counter.old ≤ 2 ^ 63 }
     ensures names { Grows names.old names.new }
     ensures survey { IfOk result (λ r. IsSurvey base (program_of survey.now.lines.items) names.new r.0) }
@@ -55,7 +60,7 @@ fn assembled_by_lines<C: Count>(
     ensures memory { IfErr result (λ e. e ≡ EditError.Memory) }
     ensures counted { AreCountedAfter base old.now (edit_of edit.now) (counts_of C.parsed_count C.valued_count C.encoded_count counter.old) (counts_of C.parsed_count C.valued_count C.encoded_count counter.new) }
 {
-    let after = survey.after(alloc, base, old, edit, names, counter)?;
+    let after = survey.after(alloc, base, old, edit, names, shape, counter)?;
     let mut changed = Vec::new(alloc);
     let items = renewed_items(
         alloc,
@@ -75,11 +80,11 @@ fn assembled_by_lines<C: Count>(
 
 /// What is kept of a text after an edit, its items, and which lines are new or have another code. `survey` is what is kept of
 /// the text before, but that its lines are those after the edit, and `former` are the items of the text before. `items` has
-/// an item for each line after the edit, which keeps what was kept of the line. The lines are not in the answer. Names that the
-/// lines define get numbers, whatever the outcome.
+/// an item for each line after the edit, which keeps what was kept of the line. `shape` is that of the line that the edit puts in. The
+/// lines are not in the answer. Names that the lines define get numbers, whatever the outcome.
 ///
-/// The counter's number of expressions computed, and that of lines encoded, rise by at most what the edit may take, whatever
-/// the outcome.
+/// The counter's number of expressions computed, and that of lines encoded, rise by at most what the edit may take, but for the operand
+/// from which that shape follows, whatever the outcome.
 ///
 /// # Errors
 ///
@@ -92,6 +97,7 @@ pub fn assembled<C: Count>(
     former: &SumTree<Item>,
     edit: &LineEdit<'_>,
     items: SumTree<Item>,
+    shape: Measured,
     counter: &mut C,
 ) -> Result<(Survey, SumTree<Item>, Changed), EditError>
     requires base { is_base base ≡ true }
@@ -99,10 +105,12 @@ pub fn assembled<C: Count>(
     requires old_few { length (lines_of former.now.items) ≤ MAX_LINES }
     requires allowed { refusal_of (lines_of former.now.items) (edit_of edit.now) ≡ None }
     requires edited { survey.now.lines.items ≡ lines_after (lines_of former.now.items) (edit_of edit.now) }
+    requires shape { IsNewShape (lines_of former.now.items) (edit_of edit.now) shape }
+    requires limited { IsLimited shape }
     requires few { length survey.now.lines.items ≤ MAX_LINES }
     requires count { length items.items ≡ length survey.now.lines.items }
     requires former { AreFormer base (lines_of former.now.items) (edit_of edit.now) 0 items.items }
-    requires valued { C.valued_count counter.old ≤ 2 ^ 63 }
+    requires valued { C.valued_count counter.old ≤ 2 ^ 63 + 1 }
     requires encoded { C.encoded_count counter.old ≤ 2 ^ 63 }
     ensures names { Grows names.old names.new }
     ensures survey { IfOk result (λ r. IsSurvey base (program_of survey.now.lines.items) names.new r.0) }
@@ -112,5 +120,7 @@ pub fn assembled<C: Count>(
     ensures counted { AreCountedAfter base (lines_of former.now.items) (edit_of edit.now) (counts_of C.parsed_count C.valued_count C.encoded_count counter.old) (counts_of C.parsed_count C.valued_count C.encoded_count counter.new) }
 {
     let old = Lines::in_items(former);
-    assembled_by_lines(alloc, base, names, survey, &old, edit, items, counter)
+    assembled_by_lines(
+        alloc, base, names, survey, &old, edit, items, shape, counter,
+    )
 }

@@ -1,6 +1,6 @@
 //! The constants of a text, and the values that `.equ`s define.
 
-ghost use Rattle.std.specs.Prelude.{◌≡◌, ◌≤◌, ◌<◌, ◌+◌, ◌-◌, ◌^◌, None, length, IfOk};
+ghost use Rattle.std.specs.Prelude.{◌≡◌, ◌≤◌, ◌<◌, ◌+◌, ◌-◌, ◌^◌, None, length};
 ghost use Rattle.rv_stmt.specs.declared.statement.Body.TheVariants.{Equ as EquBody};
 ghost use Rattle.rv_layout.specs.Shapes.{constants};
 ghost use Rattle.rv_store.specs.declared.limits.TheConstants.{MAX_LINES};
@@ -18,7 +18,6 @@ use rv_layout::Consts;
 use rv_list::DefinitionPlace;
 use rv_stmt::{Definition, OperandValue};
 use rv_text::Count;
-use std::alloc::{AllocError, Global};
 
 /// What a constant may hold: numbers, and the names that are constants by a row.
 #[derive(Drop)]
@@ -120,40 +119,4 @@ pub fn settle_constant<C: Count>(
     };
     let value = defined_value(definition, &given, 0, counter);
     row[number] = value.ok();
-}
-
-/// The constants of a text with one line more at its end; `row` are those of the lines before it. The counter's number of
-/// expressions computed rises by at most one, whatever the outcome.
-pub fn constants_with<C: Count>(
-    alloc: Global,
-    row: &[Option<i64>],
-    lines: &[Line],
-    names: &NameTable,
-    definitions: &[DefinitionPlace],
-    counter: &mut C,
-) -> Result<Vec<Option<i64>>, AllocError>
-    requires some { 1 ≤ length lines.now }
-    requires few { length lines.now ≤ MAX_LINES }
-    requires definitions { AreDefinitions (program_of lines.now) names.now definitions.now }
-    requires as_many { length definitions.now ≡ length names.now }
-    requires before { AreConstants (program_of lines.now) (length lines.now - 1) names.now row.now }
-    requires valued { C.valued_count counter.old < 2 ^ 64 - 1 }
-    ensures constants { IfOk result (λ row'. AreConstants (program_of lines.now) (length lines.now) names.now row'.items) }
-    ensures least { C.valued_count counter.old ≤ C.valued_count counter.new }
-    ensures most { C.valued_count counter.new ≤ C.valued_count counter.old + 1 }
-    ensures operands { C.valued_count counter.new ≤ C.valued_count counter.old + equ_operands (body_at (program_of lines.now) (length lines.now)) }
-    ensures parsed { C.parsed_count counter.new ≡ C.parsed_count counter.old }
-    ensures encoded { C.encoded_count counter.new ≡ C.encoded_count counter.old }
-{
-    let mut row = Vec::from_slice(alloc, row)?;
-    row.resize(definitions.len(), None)?;
-    settle_constant(
-        lines,
-        lines.len() - 1,
-        names,
-        definitions,
-        &mut row,
-        counter,
-    );
-    Ok(row)
 }

@@ -1,4 +1,4 @@
-//! Where the names of a text are defined.
+//! Where the names of a text are defined, in a row by their numbers.
 
 ghost use Rattle.std.specs.Prelude.{◌≡◌, ◌≤◌, ◌<◌, ◌+◌, ◌^◌, ◌==◌, not, ◌||◌, true, false, Some, None, length, IfSome, IfOk};
 ghost use Rattle.rv_stmt.specs.declared.directive.Definition.{Definition};
@@ -6,11 +6,9 @@ ghost use Rattle.rv_stmt.specs.declared.statement.Body.TheVariants.{Equ as EquBo
 ghost use Rattle.rv_stmt.specs.LentLabels.{label_lent};
 ghost use Rattle.rv_stmt.specs.Statement.{statement_of};
 ghost use Rattle.rv_list.specs.declared.view.DefinitionPlace.TheVariants.{Nowhere};
-ghost use Rattle.rv_store.specs.declared.limits.TheConstants.{MAX_LINES};
-ghost use Rattle.rv_store.specs.Defining.{only, of_label, then_also, Holds};
+ghost use Rattle.rv_store.specs.Defining.{only, of_label, is_up_to, also_on, Holds};
 ghost use Rattle.rv_store.specs.Definitions.{place_among_labels, place_in_body, place_in_statement, is_equ_on};
-ghost use Rattle.rv_store.specs.Program.{program_of};
-ghost use Rattle.rv_store.specs.Rows.{number_of, in_row, Grows, AreDefinitions};
+ghost use Rattle.rv_store.specs.Rows.{number_of, in_row, Grows};
 ghost use Rattle.rv_store.specs.Uses.{is_equ};
 
 use crate::line::Line;
@@ -95,20 +93,32 @@ fn number_with_place(
     Ok(number)
 }
 
-// Writes where a name is defined, unless the row has a definition of it.
+// Whether a definition stands on a line or before it.
+fn is_up_to(line: u32, place: DefinitionPlace) -> bool
+    ensures { result ≡ is_up_to line place }
+{
+    match place {
+        DefinitionPlace::Nowhere => false,
+        DefinitionPlace::Label(defining, _) | DefinitionPlace::Equ(defining) => defining <= line,
+    }
+}
+
+// Writes where a name is defined on a line, unless the row has a definition of it there or before it.
 fn define(
     alloc: Global,
     name: &[u8],
+    line: u32,
     place: DefinitionPlace,
     names: &mut NameTable,
     row: &mut Vec<DefinitionPlace>,
 ) -> Result<(), AllocError>
-    requires { length row.old.items ≤ length names.old }
-    ensures row { IfOk result (λ _. Holds names.new row.new.items (then_also (in_row names.old row.old.items Nowhere) (only name.now place))) }
+    requires here { is_up_to line place ≡ true }
+    requires within { length row.old.items ≤ length names.old }
+    ensures row { IfOk result (λ _. Holds names.new row.new.items (also_on line (in_row names.old row.old.items Nowhere) (only name.now place))) }
     ensures names { Grows names.old names.new }
 {
     let number = number_with_place(alloc, name, names, row)?;
-    if let DefinitionPlace::Nowhere = row[number] {
+    if !is_up_to(line, row[number]) {
         row[number] = place;
     }
     Ok(())
@@ -124,12 +134,12 @@ fn define_label(
     row: &mut Vec<DefinitionPlace>,
 ) -> Result<(), AllocError>
     requires { length row.old.items ≤ length names.old }
-    ensures row { IfOk result (λ _. Holds names.new row.new.items (then_also (in_row names.old row.old.items Nowhere) (of_label line index (label_lent label.entry)))) }
+    ensures row { IfOk result (λ _. Holds names.new row.new.items (also_on line (in_row names.old row.old.items Nowhere) (of_label line index (label_lent label.entry)))) }
     ensures names { Grows names.old names.new }
 {
     let place = DefinitionPlace::Label(line, index);
     match label.name {
-        LabelName::Symbol(symbol) => define(alloc, symbol, place, names, row),
+        LabelName::Symbol(symbol) => define(alloc, symbol, line, place, names, row),
         LabelName::Local(_) => Ok(()),
     }
 }
@@ -144,7 +154,7 @@ fn define_labels(
 ) -> Result<(), AllocError>
     requires few { length labels ≤ 1000 }
     requires within { length row.old.items ≤ length names.old }
-    ensures row { IfOk result (λ _. Holds names.new row.new.items (then_also (in_row names.old row.old.items Nowhere) (place_among_labels line 0 labels.entry))) }
+    ensures row { IfOk result (λ _. Holds names.new row.new.items (also_on line (in_row names.old row.old.items Nowhere) (place_among_labels line 0 labels.entry))) }
     ensures names { Grows names.old names.new }
 {
     let mut index = 0;
@@ -165,20 +175,19 @@ fn define_equ(
     row: &mut Vec<DefinitionPlace>,
 ) -> Result<(), AllocError>
     requires { length row.old.items ≤ length names.old }
-    ensures row { IfOk result (λ _. Holds names.new row.new.items (then_also (in_row names.old row.old.items Nowhere) (place_in_body line body.now))) }
+    ensures row { IfOk result (λ _. Holds names.new row.new.items (also_on line (in_row names.old row.old.items Nowhere) (place_in_body line body.now))) }
     ensures names { Grows names.old names.new }
 {
     match body {
         Body::Equ(definition) => {
             let place = DefinitionPlace::Equ(line);
-            define(alloc, definition.symbol.bytes(), place, names, row)
+            define(alloc, definition.symbol.bytes(), line, place, names, row)
         }
         _ => Ok(()),
     }
 }
 
 // Writes what a statement defines.
-#[inline(never)]
 fn define_statement(
     alloc: Global,
     stmt: &Stmt,
@@ -188,7 +197,7 @@ fn define_statement(
 ) -> Result<(), AllocError>
     requires few { length stmt.now.labels ≤ 1000 }
     requires within { length row.old.items ≤ length names.old }
-    ensures row { IfOk result (λ _. Holds names.new row.new.items (then_also (in_row names.old row.old.items Nowhere) (place_in_statement line stmt.now))) }
+    ensures row { IfOk result (λ _. Holds names.new row.new.items (also_on line (in_row names.old row.old.items Nowhere) (place_in_statement line stmt.now))) }
     ensures names { Grows names.old names.new }
 {
     define_labels(alloc, stmt.labels.as_slice(), line, names, row)?;
@@ -204,9 +213,9 @@ pub fn may_define(line: &Line) -> bool
     brief.labels || brief.equ
 }
 
-// Writes what a line defines. One that defines nothing is gone past without a look at its statement.
-#[inline(always)]
-fn define_line(
+/// Writes what a line defines into a row of what the lines before it and behind it define. Names that it defines get numbers if they
+/// have none, also where there is no memory for the rest. A line that defines nothing is gone past without a look at its statement.
+pub fn define_line(
     alloc: Global,
     line: &Line,
     number: u32,
@@ -214,7 +223,7 @@ fn define_line(
     row: &mut Vec<DefinitionPlace>,
 ) -> Result<(), AllocError>
     requires { length row.old.items ≤ length names.old }
-    ensures row { IfOk result (λ _. Holds names.new row.new.items (then_also (in_row names.old row.old.items Nowhere) (place_in_statement number (statement_of line.now)))) }
+    ensures row { IfOk result (λ _. Holds names.new row.new.items (also_on number (in_row names.old row.old.items Nowhere) (place_in_statement number (statement_of line.now)))) }
     ensures names { Grows names.old names.new }
 {
     if !may_define(line) {
@@ -222,47 +231,4 @@ fn define_line(
     }
     line.labels_are_few();
     define_statement(alloc, line.stmt(), number, names, row)
-}
-
-/// Where each name of a text is defined that has one line more at its end, its line `number`; `row` says it of the lines before
-/// it. Each name that has a number has a place in the row. Names that the line defines get numbers if they have none, also
-/// where there is no memory for the rest.
-pub fn definitions_with(
-    alloc: Global,
-    row: &[DefinitionPlace],
-    line: &Line,
-    number: u32,
-    names: &mut NameTable,
-) -> Result<Vec<DefinitionPlace>, AllocError>
-    requires { length row.now ≤ length names.old }
-    ensures definitions { IfOk result (λ row'. in_row names.new row'.items Nowhere ≡ then_also (in_row names.old row.now Nowhere) (place_in_statement number (statement_of line.now))) }
-    ensures as_many { IfOk result (λ row'. length row'.items ≡ length names.new) }
-    ensures names { Grows names.old names.new }
-{
-    let mut row = Vec::from_slice(alloc, row)?;
-    define_line(alloc, line, number, names, &mut row)?;
-    row.resize(names.len(), DefinitionPlace::Nowhere)?;
-    Ok(row)
-}
-
-/// Where each name of a text is defined, by the names' numbers, in one loop over the lines. Names that the text defines get
-/// numbers if they have none, also where there is no memory for the rest.
-pub fn definitions(
-    alloc: Global,
-    lines: &[Line],
-    names: &mut NameTable,
-) -> Result<Vec<DefinitionPlace>, AllocError>
-    requires few { length lines.now ≤ MAX_LINES }
-    ensures definitions { IfOk result (λ row. AreDefinitions (program_of lines.now) names.new row.items) }
-    ensures names { Grows names.old names.new }
-{
-    let mut row = Vec::new(alloc);
-    let mut rest = lines;
-    let mut number = 1;
-    while let [line, later @ ..] = rest {
-        define_line(alloc, line, number, names, &mut row)?;
-        number += 1;
-        rest = later;
-    }
-    Ok(row)
 }

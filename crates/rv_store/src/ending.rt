@@ -1,21 +1,21 @@
 //! A line at the end of a text with which no other line has to do.
 
 ghost use Rattle.std.specs.Prelude.{◌≡◌, ℕ, ◌≤◌, ◌<◌, ◌+◌, ◌-◌, ◌*◌, ◌^◌, suc, [], ◌∷◌, ◌++◌, length, true, IfOk, IfErr, IfSome, OnOk, OnErr};
-ghost use Rattle.rv_layout.specs.Effects.{layout_of};
 ghost use Rattle.rv_layout.specs.Places.{IsLimited, AreLimited, is_base};
 ghost use Rattle.rv_layout.specs.Shapes.{size_operands};
 ghost use Rattle.rv_stmt.specs.Statement.{statement_of};
 ghost use Rattle.rv_store.specs.declared.limits.TheConstants.{MAX_LINES};
 ghost use Rattle.rv_store.specs.Appended.{shape_at_end, IsEnding, AreExtended, BeginAs, AreSameLines, AreSameSymbols, AreSymbols};
+ghost use Rattle.rv_store.specs.Ends.{ends_of};
 ghost use Rattle.rv_store.specs.Items.{IsItemAdded};
 ghost use Rattle.rv_store.specs.Program.{program_of, body_at};
-ghost use Rattle.rv_store.specs.Rows.{AreDefinitions, AreConstants, AreShapes};
+ghost use Rattle.rv_store.specs.Rows.{AreDefinitions, AreShapes};
 ghost use Rattle.rv_store.specs.Surveys.{IsSurvey};
 ghost use Rattle.rv_store.specs.Work.{equ_operands, value_operands};
 
 use crate::changed::Changed;
-use crate::constants::LineConstants;
 use crate::edit_error::EditError;
+use crate::ends::Ends;
 use crate::item::Item;
 use crate::line::Line;
 use crate::lines::Lines;
@@ -23,9 +23,8 @@ use crate::names::NameTable;
 use crate::only_symbol::is_apart;
 use crate::places::{last_place, stay_sections};
 use crate::replacement::item_of_line;
-use crate::shapes::shape_of_line;
 use crate::survey::Survey;
-use rv_layout::{Layout, Measured, layouts_tell_places};
+use rv_layout::Measured;
 use rv_list::LinePlace;
 use rv_text::Count;
 use rv_tree::SumTree;
@@ -36,34 +35,10 @@ use std::alloc::{AllocError, Global};
 pub struct Ending {
     /// Its shape.
     pub shape: Measured,
-    /// The layout of all lines with it.
-    pub total: Layout,
+    /// Where the sections end behind it.
+    pub ends: Ends,
     /// Where it lies.
     pub place: LinePlace,
-}
-
-/// The shape of a line at the end of a text. The counter's number of expressions computed rises by at most one.
-pub fn shape_at_end<'a, C: Count>(
-    survey: &'a Survey,
-    names: &'a NameTable,
-    line: &Line,
-    counter: &mut C,
-) -> Measured
-    requires constants { AreConstants (program_of survey.now.lines.items) (length (program_of survey.now.lines.items)) names.now survey.now.constants.items }
-    requires valued { C.valued_count counter.old < 2 ^ 64 - 1 }
-    ensures shape { result ≡ shape_at_end (program_of survey.now.lines.items) (statement_of line.now) }
-    ensures limited { IsLimited result }
-    ensures least { C.valued_count counter.old ≤ C.valued_count counter.new }
-    ensures most { C.valued_count counter.new ≤ C.valued_count counter.old + size_operands (statement_of line.now).body }
-    ensures one { C.valued_count counter.new ≤ C.valued_count counter.old + 1 }
-    ensures parsed { C.parsed_count counter.new ≡ C.parsed_count counter.old }
-    ensures encoded { C.encoded_count counter.new ≡ C.encoded_count counter.old }
-{
-    let constants = LineConstants {
-        names,
-        row: &survey.constants,
-    };
-    shape_of_line(line, &constants, counter)
 }
 
 /// What a line of this shape adds at the end of a text, if no other line has to do with it: none defines or uses what it defines,
@@ -79,26 +54,22 @@ pub fn apart_ending(
     requires definitions { AreDefinitions (program_of survey.now.lines.items) names.now survey.now.definitions.items }
     requires shapes { AreShapes (program_of survey.now.lines.items) survey.now.shapes.items }
     requires limited { AreLimited survey.now.shapes.items }
-    requires total { survey.now.total ≡ layout_of survey.now.shapes.items }
+    requires ends { survey.now.ends ≡ ends_of survey.now.shapes.items }
     requires few { length survey.now.lines.items < MAX_LINES }
     requires shape { shape ≡ shape_at_end (program_of survey.now.lines.items) (statement_of line.now) }
     requires limited_shape { IsLimited shape }
     ensures { IfSome result (IsEnding base (program_of survey.now.lines.items) (statement_of line.now)) }
 {
-    layouts_tell_places();
-    let total = survey.total.then(&shape);
-    if !stay_sections(base, &survey.total, &total) {
+    let mut ends = survey.ends;
+    ends.advance(&shape);
+    if !stay_sections(base, &survey.ends, &ends) {
         return None;
     }
     if !is_apart(&survey.lines, names, &survey.definitions, line) {
         return None;
     }
-    let place = last_place(base, &survey.total, &total, &shape);
-    Some(Ending {
-        shape,
-        total,
-        place,
-    })
+    let place = last_place(base, &survey.ends, &ends, &shape);
+    Some(Ending { shape, ends, place })
 }
 
 impl Survey {
@@ -115,19 +86,19 @@ impl Survey {
         self.lines.push(line)?;
         self.shapes.push(end.shape)?;
         self.places.push(end.place)?;
-        self.total = end.total;
+        self.ends = end.ends;
         Ok(())
     }
 
-    /// Takes back what was added to the rows by lines after the first lines, whose layout is `total`.
-    pub fn shorten(&mut self, count: usize, total: Layout)
-        ensures lines { (old : Survey) → old.total ≡ total → BeginAs count old self.old → AreSameLines old self.new }
+    /// Takes back what was added to the rows by lines after the first lines, after which the sections end at `ends`.
+    pub fn shorten(&mut self, count: usize, ends: Ends)
+        ensures lines { (old : Survey) → old.ends ≡ ends → BeginAs count old self.old → AreSameLines old self.new }
         ensures symbols { AreSameSymbols self.old self.new }
     {
         self.lines.truncate(count);
         self.shapes.truncate(count);
         self.places.truncate(count);
-        self.total = total;
+        self.ends = ends;
     }
 }
 

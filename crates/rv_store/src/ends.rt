@@ -2,9 +2,10 @@
 
 ghost use Rattle.std.specs.Prelude.{◌≡◌, ◌≤◌, ◌^◌, []};
 ghost use Rattle.rv_layout.specs.Places.{size_at, IsLimited};
-ghost use Rattle.rv_store.specs.Ends.{ends_of, ends_reached, next_offset, ends_after};
+ghost use Rattle.rv_store.specs.Ends.{ends_of, next_offset, ends_after};
+ghost use Rattle.rv_store.specs.MovedPlaces.{ends_moved};
 
-use rv_layout::{Layout, Measured, SECTIONS, section_number};
+use rv_layout::{Measured, SECTIONS, section_number};
 use rv_stmt::Sect;
 use std::array;
 
@@ -15,8 +16,8 @@ pub struct Ends {
     pub offsets: [u32; SECTIONS],
 }
 
-// How many bytes a line has at this offset.
-fn size_at(offset: u32, shape: &Measured) -> u32
+/// How many bytes a line has at this offset.
+pub fn size_at(offset: u32, shape: &Measured) -> u32
     ensures { result ≡ size_at offset shape.now }
 {
     match shape {
@@ -40,16 +41,6 @@ impl Ends {
         }
     }
 
-    /// Those of lines with this layout, the first ones of a text.
-    pub fn reached(layout: &Layout) -> Ends
-        ensures { result ≡ ends_reached layout.now }
-    {
-        Ends {
-            section: layout.section(),
-            offsets: array::from_fn(|section| layout.offset(section)),
-        }
-    }
-
     /// The offset of the next line.
     pub fn next_offset(&self) -> u32
         ensures { result ≡ next_offset self.now }
@@ -62,6 +53,16 @@ impl Ends {
         ensures { result ≡ size_at (next_offset self.now) shape.now }
     {
         size_at(self.next_offset(), shape)
+    }
+
+    /// The same as the sections are displaced there, each by its number in `by`, which counts modulo 2 ^ 32.
+    pub fn displaced(&self, by: &[u32; SECTIONS]) -> Ends
+        ensures { result ≡ ends_moved self.now by.now }
+    {
+        Ends {
+            section: self.section,
+            offsets: array::from_fn(|section| self.offsets[section].wrapping_add(by[section])),
+        }
     }
 
     /// Goes on by a line.

@@ -1,50 +1,18 @@
 //! Where the lines of a text lie.
 
 ghost use Rattle.std.specs.Prelude.{◌≡◌, ◌≤◌, ◌<◌, ◌+◌, ◌^◌, ℕ, suc, All, List, [], ◌∷◌, ◌++◌, length, slice_index, true, IfOk, IfSome, IsTrue};
-ghost use Rattle.rv_layout.specs.Effects.{join, effect_of, layout_of, offset_reached, base_by_layout};
 ghost use Rattle.rv_layout.specs.declared.measured.Measured.{Measured};
 ghost use Rattle.rv_layout.specs.Places.{section_of, address_of, line_size_of, size_at, sum_below, is_base, IsLimited, AreLimited};
 ghost use Rattle.rv_layout.specs.Sections.{sections, section_number};
-ghost use Rattle.rv_store.specs.Ends.{ends_after, ends_at, next_offset, next_place, place_by_shapes, IsBehind};
+ghost use Rattle.rv_store.specs.Ends.{ends_of, ends_after, ends_at, end_in, base_by_ends, next_offset, next_place, place_by_shapes, IsBehind};
 ghost use Rattle.rv_store.specs.Program.{for_lines};
 
 use crate::ends::Ends;
 use crate::room::row_for;
-use rv_layout::{Layout, Measured, SECTIONS, bases, layouts_tell_places, section_number};
+use crate::section_bases::bases;
+use rv_layout::{Measured, SECTIONS, section_number};
 use rv_list::LinePlace;
 use std::alloc::{AllocError, Global};
-
-// How many bytes have the layout of so many bytes and a line after them: none if the line is an alignment or a switch, or
-// if the sum does not fit.
-fn bytes_with(bytes: u32, shape: &Measured) -> Option<u32>
-    ensures joined { IfSome result (λ n. join (effect_of (Measured.Bytes bytes)) (effect_of shape.now) ≡ effect_of (Measured.Bytes n)) }
-    ensures fits { IfSome result (λ n. n < 2 ^ 32) }
-{
-    match shape {
-        Measured::Bytes(count) => bytes.checked_add(*count),
-        Measured::Nothing | Measured::Faulty(_) => Some(bytes),
-        Measured::Align(_) | Measured::Switch(_) => None,
-    }
-}
-
-// The layout of all lines. Only alignments and switches are joined one by one: the bytes between them are added up.
-fn total_layout(shapes: &[Measured]) -> Layout
-    requires limited { AreLimited shapes.now }
-    ensures { result ≡ layout_of shapes.now }
-{
-    let mut total = Layout::start();
-    let mut bytes = 0;
-    for shape in shapes {
-        match bytes_with(bytes, shape) {
-            Some(sum) => bytes = sum,
-            None => {
-                total = total.then(&Measured::Bytes(bytes)).then(shape);
-                bytes = 0;
-            }
-        }
-    }
-    total.then(&Measured::Bytes(bytes))
-}
 
 // The place of the next line.
 fn next_place(bases: &[u32; SECTIONS], ends: &Ends, shape: &Measured) -> LinePlace
@@ -124,21 +92,35 @@ impl Reached {
     }
 }
 
-// Where the lines lie, by their shapes: addresses from `base` on. `total` is the layout of all of them.
+// Where the sections end after all lines. They count as if all sections began at 0.
+fn total_ends(shapes: &[Measured]) -> Ends
+    requires few { length shapes.now ≤ 16384 }
+    requires limited { AreLimited shapes.now }
+    ensures { result ≡ ends_of shapes.now }
+{
+    let bases = [0; SECTIONS];
+    let mut reached = Reached::of(Ends::start(), &bases);
+    for shape in shapes {
+        reached.advance(&bases, shape);
+    }
+    reached.ends()
+}
+
+// Where the lines lie, by their shapes: addresses from `base` on. The sections end at `ends` after all of them.
 fn places(
     alloc: Global,
     base: u32,
     shapes: &[Measured],
-    total: &Layout,
+    ends: &Ends,
 ) -> Result<Vec<LinePlace>, AllocError>
     requires base { is_base base ≡ true }
     requires few { length shapes.now ≤ 16384 }
     requires limited { AreLimited shapes.now }
-    requires total { total.now ≡ layout_of shapes.now }
+    requires ends { ends.now ≡ ends_of shapes.now }
     ensures places { IfOk result (λ row. row.items ≡ for_lines (λ i. record { section = section_of shapes.now i; address = address_of base shapes.now i; size = line_size_of shapes.now i }) (length shapes.now)) }
     ensures small { IfOk result (λ row. All (λ p. p.size ≤ 65536) row.items) }
 {
-    let bases = bases(total, base);
+    let bases = bases(ends, base);
     let mut reached = Reached::of(Ends::start(), &bases);
     let mut row = row_for(alloc, shapes.len())?;
     for shape in shapes {
@@ -155,73 +137,42 @@ fn places(
 }
 
 /// Whether all sections begin where they began before lines were added.
-pub fn stay_sections(base: u32, before: &Layout, total: &Layout) -> bool
+pub fn stay_sections(base: u32, before: &Ends, after: &Ends) -> bool
     requires base { is_base base ≡ true }
-    requires ends_before { sum_below (offset_reached before.now) sections ≤ 2 ^ 30 }
-    requires ends { sum_below (offset_reached total.now) sections ≤ 2 ^ 30 }
-    ensures { IsTrue result → (t : ℕ) → t < sections → base_by_layout base total.now t ≡ base_by_layout base before.now t }
+    requires ends_before { sum_below (end_in before.now) sections ≤ 2 ^ 30 }
+    requires ends { sum_below (end_in after.now) sections ≤ 2 ^ 30 }
+    ensures { IsTrue result → (t : ℕ) → t < sections → base_by_ends base after.now t ≡ base_by_ends base before.now t }
 {
-    bases(total, base) == bases(before, base)
+    bases(after, base) == bases(before, base)
 }
 
-/// Where the last line lies, which is of this shape, by the layout of the lines before it and that of all.
-pub fn last_place(base: u32, before: &Layout, total: &Layout, shape: &Measured) -> LinePlace
+/// Where the last line lies, which is of this shape, by the ends after the lines before it and those after all.
+pub fn last_place(base: u32, before: &Ends, after: &Ends, shape: &Measured) -> LinePlace
     requires base { is_base base ≡ true }
-    requires behind { (ms : List Measured) × IsBehind shape.now before.now total.now ms }
-    ensures { (ms : List Measured) → IsBehind shape.now before.now total.now ms → result ≡ place_by_shapes base (ms ++ shape.now ∷ []) (suc (length ms)) }
+    requires behind { (ms : List Measured) × IsBehind shape.now before.now after.now ms }
+    ensures { (ms : List Measured) → IsBehind shape.now before.now after.now ms → result ≡ place_by_shapes base (ms ++ shape.now ∷ []) (suc (length ms)) }
 {
-    layouts_tell_places();
-    next_place(&bases(total, base), &Ends::reached(before), shape)
+    next_place(&bases(after, base), before, shape)
 }
 
-/// The layout of the lines of a text, and where each of them lies.
+/// Where the sections of a text end, and where each of its lines lies.
 #[derive(Drop)]
 pub struct Placed {
-    pub total: Layout,
+    pub ends: Ends,
     pub places: Vec<LinePlace>,
 }
 
 impl Placed {
-    /// The layout of lines of these shapes, and where they lie: addresses from `base` on.
+    /// Where lines of these shapes lie: addresses from `base` on.
     pub fn of(alloc: Global, base: u32, shapes: &[Measured]) -> Result<Placed, AllocError>
         requires base { is_base base ≡ true }
         requires few { length shapes.now ≤ 16384 }
         requires limited { AreLimited shapes.now }
-        ensures total { IfOk result (λ p. p.total ≡ layout_of shapes.now) }
+        ensures ends { IfOk result (λ p. p.ends ≡ ends_of shapes.now) }
         ensures places { IfOk result (λ p. p.places.items ≡ for_lines (place_by_shapes base shapes.now) (length shapes.now)) }
     {
-        let total = total_layout(shapes);
-        let places = places(alloc, base, shapes, &total)?;
-        Ok(Placed { total, places })
-    }
-
-    /// The layout of lines of these shapes, and where they lie, by that of the lines before the last one: where no section moves by it,
-    /// these lie where they lay.
-    pub fn with_last(
-        alloc: Global,
-        base: u32,
-        shapes: &[Measured],
-        shape: &Measured,
-        before: &Layout,
-        first: &[LinePlace],
-    ) -> Result<Placed, AllocError>
-        requires base { is_base base ≡ true }
-        requires few { length shapes.now ≤ 16384 }
-        requires limited { AreLimited shapes.now }
-        requires last { (ms : List Measured) × (shapes.now ≡ ms ++ shape.now ∷ []) × (before.now ≡ layout_of ms) × (first.now ≡ for_lines (place_by_shapes base ms) (length ms)) }
-        ensures total { IfOk result (λ p. p.total ≡ layout_of shapes.now) }
-        ensures places { IfOk result (λ p. p.places.items ≡ for_lines (place_by_shapes base shapes.now) (length shapes.now)) }
-    {
-        layouts_tell_places();
-        let total = before.then(shape);
-        if !stay_sections(base, before, &total) {
-            let places = places(alloc, base, shapes, &total)?;
-            return Ok(Placed { total, places });
-        }
-        let place = last_place(base, before, &total, shape);
-        let mut places = row_for(alloc, shapes.len())?;
-        places.extend_from_slice(first)?;
-        places.push(place)?;
-        Ok(Placed { total, places })
+        let ends = total_ends(shapes);
+        let places = places(alloc, base, shapes, &ends)?;
+        Ok(Placed { ends, places })
     }
 }

@@ -72,7 +72,7 @@ pub fn item_replaced<C: Count>(
     requires count { length items.now.items ≡ length survey.now.lines.items }
     requires first { 1 ≤ k }
     requires last { k ≤ length survey.now.lines.items }
-    requires valued { C.valued_count counter.old ≤ 2 ^ 63 }
+    requires valued { C.valued_count counter.old ≤ 2 ^ 63 + 1 }
     requires encoded { C.encoded_count counter.old ≤ 2 ^ 63 }
     ensures items { IfOk result (λ r. IsItemPut base survey.now.lines.items k items.now.items r.0.items) }
     ensures changed { IfOk result (λ r. r.1.lines ≡ k ∷ []) }

@@ -1,6 +1,6 @@
 //! The shapes of the lines of a text, with its constants.
 
-ghost use Rattle.std.specs.Prelude.{◌≡◌, ◌≤◌, ◌<◌, ◌+◌, ◌*◌, ◌-◌, ◌^◌, ◌&&◌, ◌||◌, None, length, set, IfOk};
+ghost use Rattle.std.specs.Prelude.{◌≡◌, ◌≤◌, ◌<◌, ◌+◌, ◌*◌, ◌-◌, ◌^◌, ◌&&◌, ◌||◌, true, false, length, get_or, set, IfOk};
 ghost use Rattle.std.specs.List.{list_any};
 ghost use Rattle.rv_stmt.specs.Statement.{statement_of};
 ghost use Rattle.rv_layout.specs.Places.{IsLimited, AreLimited};
@@ -8,17 +8,21 @@ ghost use Rattle.rv_layout.specs.Shapes.{shape_of, size_operands};
 ghost use Rattle.rv_store.specs.declared.limits.TheConstants.{MAX_LINES};
 ghost use Rattle.rv_store.specs.Before.{IsBefore, base_before, lines_before, edit_on};
 ghost use Rattle.rv_store.specs.ConstantPairs.{IsConstantPair, differs_in_constant};
-ghost use Rattle.rv_store.specs.FormerShapes.{former_shapes};
+ghost use Rattle.rv_store.specs.FormerShapes.{former_shape, former_shapes};
+ghost use Rattle.rv_store.specs.KeptConstants.{edits_constants};
 ghost use Rattle.rv_store.specs.Layout.{shape_at};
+ghost use Rattle.rv_store.specs.NewShapes.{IsNewShape, shape_operands, shape_operands_through};
 ghost use Rattle.rv_store.specs.Program.{program_of, body_at};
-ghost use Rattle.rv_store.specs.Rows.{in_row, AreDefinitions, AreConstants, AreShapes};
+ghost use Rattle.rv_store.specs.Rows.{AreDefinitions, AreConstants, AreShapes};
 ghost use Rattle.rv_store.specs.Text.{lines_after};
+ghost use Rattle.rv_store.specs.TextRows.{program_in};
 ghost use Rattle.rv_store.specs.Uses.{is_sized, is_equ, names_used, uses_symbols};
 ghost use Rattle.rv_store.specs.Work.{constant_operands, equ_operands, work};
 
 use crate::before::Before;
 use crate::constants::{LineConstants, settle_constant};
 use crate::edit::LineEdit;
+use crate::kept_constants::edits_constants;
 use crate::line::Line;
 use crate::names::NameTable;
 use crate::room::room_for;
@@ -34,6 +38,8 @@ use std::alloc::{AllocError, Global};
 pub struct ShapeRows {
     pub shapes: Vec<Measured>,
     pub constants: Vec<Option<i64>>,
+    /// The shapes are known to be those before an edit, but for the line that it puts in.
+    pub kept: bool,
 }
 
 // The constants on a line of a text after an edit, and the line that it was before it.
@@ -56,9 +62,9 @@ impl NameTest for ConstantPair<'_, '_> {
 }
 
 /// The shape of a line where names have these constants. The counter's number of expressions computed rises by at most one.
-pub fn shape_of_line<C: Count>(line: &Line, given: &LineConstants<'_>, counter: &mut C) -> Measured
+pub fn shape_of_line<K: Consts, C: Count>(line: &Line, given: &K, counter: &mut C) -> Measured
     requires { C.valued_count counter.old < 2 ^ 64 - 1 }
-    ensures shape { result ≡ shape_of (in_row given.now.names.now given.now.row.now None) (statement_of line.now).body }
+    ensures shape { result ≡ shape_of (K.constant_of given.now) (statement_of line.now).body }
     ensures limited { IsLimited result }
     ensures least { C.valued_count counter.old ≤ C.valued_count counter.new }
     ensures most { C.valued_count counter.new ≤ C.valued_count counter.old + size_operands (statement_of line.now).body }
@@ -82,12 +88,13 @@ fn may_differ(line: &Line, pair: &ConstantPair<'_, '_>) -> bool
     brief.sized && brief.symbols && any_name(&line.stmt().body, pair)
 }
 
-// The shape of line `i + 1` of the text after an edit, where names have the constants that they have there: what it was,
-// unless the line is new or a name that it uses is another constant.
+// The shape of line `i + 1` of the text after an edit, where names have the constants that they have there: what it was, or of a
+// new line what it is, unless a name that it uses is another constant than it was.
 fn shape_after<C: Count>(
     before: &Before<'_, '_>,
     lines: &[Line],
     i: usize,
+    former: Measured,
     given: &LineConstants<'_>,
     counter: &mut C,
 ) -> Measured
@@ -95,50 +102,53 @@ fn shape_after<C: Count>(
     requires after { lines.now ≡ lines_after (lines_before before.now) (edit_on before.now) }
     requires few { length lines.now ≤ MAX_LINES }
     requires within { i < length lines.now }
+    requires former { former ≡ former_shape (program_in before.now.symbols.text) (program_of lines.now) (edit_on before.now) (i + 1) }
     requires constants { AreConstants (program_of lines.now) i given.now.names.now given.now.row.now }
     requires valued { C.valued_count counter.old < 2 ^ 64 - 1 }
     ensures shape { result ≡ shape_at (program_of lines.now) (i + 1) }
     ensures limited { IsLimited result }
     ensures least { C.valued_count counter.old ≤ C.valued_count counter.new }
     ensures one { C.valued_count counter.new ≤ C.valued_count counter.old + 1 }
-    ensures work { C.valued_count counter.new + work size_operands (base_before before.now) (lines_before before.now) (edit_on before.now) i
-        ≤ C.valued_count counter.old + work size_operands (base_before before.now) (lines_before before.now) (edit_on before.now) (i + 1) }
+    ensures work { C.valued_count counter.new + work size_operands (base_before before.now) (lines_before before.now) (edit_on before.now) i + shape_operands_through (edit_on before.now) (i + 1)
+        ≤ C.valued_count counter.old + work size_operands (base_before before.now) (lines_before before.now) (edit_on before.now) (i + 1) + shape_operands_through (edit_on before.now) i }
     ensures parsed { C.parsed_count counter.new ≡ C.parsed_count counter.old }
     ensures encoded { C.encoded_count counter.new ≡ C.encoded_count counter.old }
 {
     lines[i].data_are_few();
     shapes_are_limited();
-    if let Some(stood) = before.edit.line_before(i as u32 + 1) {
-        let pair = ConstantPair {
-            before: &before.symbols,
-            stood,
-            given: &*given,
-        };
-        if !may_differ(&lines[i], &pair) {
-            return before.shapes[stood as usize - 1];
-        }
+    let Some(stood) = before.edit.line_before(i as u32 + 1) else {
+        return former;
+    };
+    let pair = ConstantPair {
+        before: &before.symbols,
+        stood,
+        given: &*given,
+    };
+    if !may_differ(&lines[i], &pair) {
+        return former;
     }
     shape_of_line(&lines[i], given, counter)
 }
 
-// The shapes that the lines of the text after an edit had before it, in a row with room for so many. A line that the edit puts
-// in has none of its own there.
+// The shapes that the lines of the text after an edit had before it, and the shape of the line that the edit puts in, in a row with
+// room for so many.
 fn former_shapes(
     alloc: Global,
     before: &Before<'_, '_>,
     count: usize,
+    shape: Measured,
 ) -> Result<Vec<Measured>, AllocError>
     requires { IsBefore before.now }
-    ensures { IfOk result (λ row. row.items ≡ former_shapes before.now.shapes.now (edit_on before.now)) }
+    ensures { IfOk result (λ row. row.items ≡ former_shapes before.now.shapes.now (edit_on before.now) shape) }
 {
     let mut row = Vec::with_capacity(alloc, room_for(count))?;
     row.extend_from_slice(before.shapes)?;
     match before.edit {
-        LineEdit::Insert(k, _) => row.insert(k as usize - 1, Measured::Nothing)?,
+        LineEdit::Insert(k, _) => row.insert(k as usize - 1, shape)?,
         LineEdit::Delete(k) => {
             let _ = row.remove(k as usize - 1);
         }
-        LineEdit::Replace(_, _) => {}
+        LineEdit::Replace(k, _) => row[k as usize - 1] = shape,
     }
     Ok(row)
 }
@@ -168,16 +178,18 @@ fn settle_line<C: Count>(
     requires within { i < length lines.now }
     requires definitions { AreDefinitions (program_of lines.now) names.now definitions.now }
     requires shapes { i < length rows.old.shapes.items }
+    requires former { (other : Measured) → get_or rows.old.shapes.items i other ≡ former_shape (program_in before.now.symbols.text) (program_of lines.now) (edit_on before.now) (i + 1) }
     requires as_many { length rows.old.constants.items ≡ length definitions.now }
     requires constants { AreConstants (program_of lines.now) i names.now rows.old.constants.items }
     requires valued { C.valued_count counter.old < 2 ^ 64 - 2 }
     ensures shapes { rows.new.shapes.items ≡ set rows.old.shapes.items i (shape_at (program_of lines.now) (i + 1)) }
     ensures constants { AreConstants (program_of lines.now) (i + 1) names.now rows.new.constants.items }
     ensures as_many { length rows.new.constants.items ≡ length definitions.now }
+    ensures kept { rows.new.kept ≡ rows.old.kept }
     ensures least { C.valued_count counter.old ≤ C.valued_count counter.new }
     ensures two { C.valued_count counter.new ≤ C.valued_count counter.old + 2 }
-    ensures work { C.valued_count counter.new + work size_operands (base_before before.now) (lines_before before.now) (edit_on before.now) i
-        ≤ C.valued_count counter.old + work size_operands (base_before before.now) (lines_before before.now) (edit_on before.now) (i + 1)
+    ensures work { C.valued_count counter.new + work size_operands (base_before before.now) (lines_before before.now) (edit_on before.now) i + shape_operands_through (edit_on before.now) (i + 1)
+        ≤ C.valued_count counter.old + work size_operands (base_before before.now) (lines_before before.now) (edit_on before.now) (i + 1) + shape_operands_through (edit_on before.now) i
         + equ_operands (body_at (program_of lines.now) (i + 1)) }
     ensures parsed { C.parsed_count counter.new ≡ C.parsed_count counter.old }
     ensures encoded { C.encoded_count counter.new ≡ C.encoded_count counter.old }
@@ -186,49 +198,113 @@ fn settle_line<C: Count>(
         names,
         row: rows.constants.as_slice(),
     };
-    let shape = shape_after(before, lines, i, &given, counter);
+    let shape = shape_after(before, lines, i, rows.shapes[i], &given, counter);
     rows.shapes[i] = shape;
     settle_constant(lines, i, names, definitions, &mut rows.constants, counter);
 }
 
-/// The shapes of all lines of the text after an edit, with its constants: one loop over the lines, since the shape of a line
-/// follows from the constants of the lines before it. Those that stood in the text before and have no part in the constants keep
-/// their shapes.
-///
-/// The counter's number of expressions computed rises by at most the size operands and the `.equ`s on the lines that the edit
-/// invalidates.
-pub fn shapes<C: Count>(
+// It is as for `shapes`, whatever the edit: one loop over the lines, since the shape of a line follows from the constants of the lines
+// before it. Those that stood in the text before and have no part in the constants keep their shapes.
+fn settled_shapes<C: Count>(
     alloc: Global,
     before: &Before<'_, '_>,
     lines: &[Line],
-    names: &NameTable,
     definitions: &[DefinitionPlace],
+    shape: Measured,
     counter: &mut C,
 ) -> Result<ShapeRows, AllocError>
     requires before { IsBefore before.now }
+    requires shape { IsNewShape (lines_before before.now) (edit_on before.now) shape }
     requires after { lines.now ≡ lines_after (lines_before before.now) (edit_on before.now) }
     requires few { length lines.now ≤ MAX_LINES }
-    requires definitions { AreDefinitions (program_of lines.now) names.now definitions.now }
-    requires valued { C.valued_count counter.old ≤ 2 ^ 63 }
+    requires definitions { AreDefinitions (program_of lines.now) before.now.symbols.text.names.now definitions.now }
+    requires valued { C.valued_count counter.old ≤ 2 ^ 63 + 1 }
     ensures shapes { IfOk result (λ r. AreShapes (program_of lines.now) r.shapes.items) }
     ensures limited { IfOk result (λ r. AreLimited r.shapes.items) }
-    ensures constants { IfOk result (λ r. AreConstants (program_of lines.now) (length lines.now) names.now r.constants.items) }
+    ensures kept { IfOk result (λ r. r.kept ≡ true → r.shapes.items ≡ former_shapes before.now.shapes.now (edit_on before.now) shape) }
+    ensures constants { IfOk result (λ r. AreConstants (program_of lines.now) (length lines.now) before.now.symbols.text.names.now r.constants.items) }
     ensures least { C.valued_count counter.old ≤ C.valued_count counter.new }
     ensures most { C.valued_count counter.new ≤ C.valued_count counter.old + 2 * length lines.now }
-    ensures work { C.valued_count counter.new ≤ C.valued_count counter.old + work constant_operands (base_before before.now) (lines_before before.now) (edit_on before.now) (length lines.now) }
+    ensures work { C.valued_count counter.new + shape_operands (edit_on before.now) ≤ C.valued_count counter.old + work constant_operands (base_before before.now) (lines_before before.now) (edit_on before.now) (length lines.now) }
     ensures parsed { C.parsed_count counter.new ≡ C.parsed_count counter.old }
     ensures encoded { C.encoded_count counter.new ≡ C.encoded_count counter.old }
 {
     shapes_are_limited();
+    let names = before.symbols.text.names;
     let constants = vec![in alloc; None; definitions.len()]?;
-    let shapes = former_shapes(alloc, before, lines.len())?;
-    let mut rows = ShapeRows { shapes, constants };
-    let place = before.edit.place() as usize;
+    let shapes = former_shapes(alloc, before, lines.len(), shape)?;
+    let mut rows = ShapeRows {
+        shapes,
+        constants,
+        kept: false,
+    };
     for i in 0..lines.len() {
         lines[i].data_are_few();
-        if i + 1 == place || has_part(&lines[i]) {
+        if has_part(&lines[i]) {
             settle_line(before, lines, i, names, definitions, &mut rows, counter);
         }
     }
     Ok(rows)
+}
+
+// It is as for `shapes`, where the edit changes no constant: nothing is computed.
+fn kept_shapes(
+    alloc: Global,
+    before: &Before<'_, '_>,
+    lines: &[Line],
+    shape: Measured,
+) -> Result<ShapeRows, AllocError>
+    requires before { IsBefore before.now }
+    requires shape { IsNewShape (lines_before before.now) (edit_on before.now) shape }
+    requires limited { IsLimited shape }
+    requires after { lines.now ≡ lines_after (lines_before before.now) (edit_on before.now) }
+    requires kept { edits_constants (lines_before before.now) (edit_on before.now) ≡ false }
+    ensures shapes { IfOk result (λ r. AreShapes (program_of lines.now) r.shapes.items) }
+    ensures limited { IfOk result (λ r. AreLimited r.shapes.items) }
+    ensures kept { IfOk result (λ r. r.kept ≡ true → r.shapes.items ≡ former_shapes before.now.shapes.now (edit_on before.now) shape) }
+    ensures constants { IfOk result (λ r. AreConstants (program_of lines.now) (length lines.now) before.now.symbols.text.names.now r.constants.items) }
+{
+    let shapes = former_shapes(alloc, before, lines.len(), shape)?;
+    let constants = Vec::from_slice(alloc, before.symbols.constants)?;
+    Ok(ShapeRows {
+        shapes,
+        constants,
+        kept: true,
+    })
+}
+
+/// The shapes of all lines of the text after an edit, with its constants. `shape` is that of the line that the edit puts in. Where the edit
+/// changes no constant, all others are those before it.
+///
+/// The counter's number of expressions computed rises by at most the size operands and the `.equ`s on the lines that the edit
+/// invalidates, the operand from which that shape follows apart.
+pub fn shapes<C: Count>(
+    alloc: Global,
+    before: &Before<'_, '_>,
+    lines: &[Line],
+    definitions: &[DefinitionPlace],
+    shape: Measured,
+    counter: &mut C,
+) -> Result<ShapeRows, AllocError>
+    requires before { IsBefore before.now }
+    requires shape { IsNewShape (lines_before before.now) (edit_on before.now) shape }
+    requires limited { IsLimited shape }
+    requires after { lines.now ≡ lines_after (lines_before before.now) (edit_on before.now) }
+    requires few { length lines.now ≤ MAX_LINES }
+    requires definitions { AreDefinitions (program_of lines.now) before.now.symbols.text.names.now definitions.now }
+    requires valued { C.valued_count counter.old ≤ 2 ^ 63 + 1 }
+    ensures shapes { IfOk result (λ r. AreShapes (program_of lines.now) r.shapes.items) }
+    ensures limited { IfOk result (λ r. AreLimited r.shapes.items) }
+    ensures kept { IfOk result (λ r. r.kept ≡ true → r.shapes.items ≡ former_shapes before.now.shapes.now (edit_on before.now) shape) }
+    ensures constants { IfOk result (λ r. AreConstants (program_of lines.now) (length lines.now) before.now.symbols.text.names.now r.constants.items) }
+    ensures least { C.valued_count counter.old ≤ C.valued_count counter.new }
+    ensures most { C.valued_count counter.new ≤ C.valued_count counter.old + 2 * length lines.now }
+    ensures work { C.valued_count counter.new + shape_operands (edit_on before.now) ≤ C.valued_count counter.old + work constant_operands (base_before before.now) (lines_before before.now) (edit_on before.now) (length lines.now) }
+    ensures parsed { C.parsed_count counter.new ≡ C.parsed_count counter.old }
+    ensures encoded { C.encoded_count counter.new ≡ C.encoded_count counter.old }
+{
+    if edits_constants(before, lines, definitions) {
+        return settled_shapes(alloc, before, lines, definitions, shape, counter);
+    }
+    kept_shapes(alloc, before, lines, shape)
 }

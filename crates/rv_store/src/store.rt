@@ -1,12 +1,12 @@
 //! The store.
 
-ghost use Rattle.std.specs.Prelude.{◌≡◌, ◌+◌, ◌*◌, ◌-◌, ◌^◌, ◌<◌, ◌≤◌, ◌==◌, [], length, map, None, if◌then◌else◌, IfOk, IfErr, IfSome, OnOk, OnErr, slice_get, true, false};
+ghost use Rattle.std.specs.Prelude.{◌≡◌, ◌+◌, ◌*◌, ◌-◌, ◌^◌, ◌<◌, ◌≤◌, ◌==◌, [], length, map, None, if◌then◌else◌, IfOk, IfErr, IfSome, OnOk, OnErr, slice_get, true, false, IsTrue};
 ghost use Rattle.std.specs.Option.{option_map};
 ghost use Rattle.rv_stmt.specs.Statement.{statement_of};
 ghost use Rattle.rv_store.specs.Alike.{IsAlike};
 ghost use Rattle.rv_layout.specs.Places.{is_base, IsLimited};
 ghost use Rattle.rv_layout.specs.Shapes.{shape_of, size_operands};
-ghost use Rattle.rv_store.specs.Appended.{shape_at_end, IsEnding};
+ghost use Rattle.rv_store.specs.Appended.{IsEnding};
 ghost use Rattle.rv_store.specs.Assembled.{AreCountedAfter};
 ghost use Rattle.rv_store.specs.Changes.{changed_lines, most_values, most_codes};
 ghost use Rattle.rv_store.specs.Codes.{code_at};
@@ -15,6 +15,7 @@ ghost use Rattle.rv_store.specs.Counted.{counts_of, lines_read, Counted};
 ghost use Rattle.rv_store.specs.Edits.{edit_of, edit_of_read};
 ghost use Rattle.rv_store.specs.Former.{AreFormer};
 ghost use Rattle.rv_store.specs.Layout.{address_at};
+ghost use Rattle.rv_store.specs.NewShapes.{IsNewShape, shape_operands};
 ghost use Rattle.rv_store.specs.Program.{program_of};
 ghost use Rattle.rv_store.specs.Symbols.{symbol_of};
 ghost use Rattle.rv_store.specs.Text.{is_line, at_line, Insert, Delete, Replace, refusal_of, lines_after, text_after, Edits};
@@ -22,19 +23,19 @@ ghost use Rattle.rv_store.specs.Text.{is_line, at_line, Insert, Delete, Replace,
 mod names;
 mod shown;
 
-use crate::alike::alike_shape;
+use crate::alike::are_alike;
 use crate::assembly::assembled;
 use crate::changed::Changed;
 use crate::column::{edit_lines, take_back};
 use crate::edit::{LineEdit, ReadEdit};
 use crate::edit_error::EditError;
-use crate::ending::{Ending, apart_ending, appended, shape_at_end};
-use crate::extension::extended;
+use crate::ending::{Ending, apart_ending, appended};
 use crate::forgetting::{Remembered, has_many_others};
 use crate::item::Item;
 use crate::limits::MAX_LINES;
 use crate::line::Line;
 use crate::names::NameTable;
+use crate::new_shape::new_shape;
 use crate::replacement::item_replaced;
 use crate::survey::Survey;
 use crate::symbols::SymValue;
@@ -166,21 +167,54 @@ impl Store {
         }
     }
 
-    // The shape of a line, if it can stand in the place of line `k`, and all other lines stay as they are. Nothing is counted.
-    fn takes<C: Count>(&self, k: u32, line: &Line, counter: &mut C) -> Option<Measured>
-        requires first { 1 ≤ k }
-        requires last { k ≤ length self.now.lines }
+    // The shape of the line that an edit puts in.
+    fn new_shape<C: Count>(&self, edit: &ReadEdit, counter: &mut C) -> Measured
+        requires allowed { refusal_of self.now.lines (edit_of_read edit.now) ≡ None }
         requires valued { C.valued_count counter.old < 2 ^ 64 - 1 }
-        ensures alike { IfSome result (λ _. IsAlike (program_of self.now.lines) k (statement_of line.now)) }
-        ensures shape { IfSome result (λ shape. shape ≡ shape_of (constant_of (program_of self.now.lines) k) (statement_of line.now).body) }
-        ensures limited { IfSome result IsLimited }
+        ensures shape { IsNewShape self.now.lines (edit_of_read edit.now) result }
+        ensures limited { IsLimited result }
         ensures parsed { C.parsed_count counter.new ≡ C.parsed_count counter.old }
-        ensures valued { C.valued_count counter.new ≡ C.valued_count counter.old }
+        ensures least { C.valued_count counter.old ≤ C.valued_count counter.new }
+        ensures one { C.valued_count counter.new ≤ C.valued_count counter.old + 1 }
+        ensures most { C.valued_count counter.new ≤ C.valued_count counter.old + shape_operands (edit_of_read edit.now) }
         ensures encoded { C.encoded_count counter.new ≡ C.encoded_count counter.old }
     {
+        match edit {
+            ReadEdit::Insert(k, line) | ReadEdit::Replace(k, line) => {
+                new_shape(&self.survey, &self.names, *k, line, counter)
+            }
+            ReadEdit::Delete(_) => Measured::Nothing,
+        }
+    }
+
+    // Whether a line of this shape can stand in the place of line `k`, and all other lines stay as they are.
+    fn is_alike(&self, k: u32, line: &Line, shape: &Measured) -> bool
+        requires first { 1 ≤ k }
+        requires last { k ≤ length self.now.lines }
+        requires shape { shape.now ≡ shape_of (constant_of (program_of self.now.lines) k) (statement_of line.now).body }
+        ensures { IsTrue result → IsAlike (program_of self.now.lines) k (statement_of line.now) }
+    {
         let place = k as usize - 1;
-        let former = &self.survey.lines[place];
-        alike_shape(former, self.survey.shapes[place], line, counter)
+        are_alike(
+            &self.survey.lines[place],
+            &self.survey.shapes[place],
+            line,
+            shape,
+        )
+    }
+
+    // What a line of this shape adds as line `k`, if that is behind the last one, and no other line has to do with it.
+    fn ending(&self, k: u32, line: &Line, shape: Measured) -> Option<Ending>
+        requires allowed { refusal_of self.now.lines (Insert k line.now) ≡ None }
+        requires shape { shape ≡ shape_of (constant_of (program_of self.now.lines) k) (statement_of line.now).body }
+        requires limited { IsLimited shape }
+        ensures end { IfSome result (λ _. k ≡ length self.now.lines + 1) }
+        ensures ending { IfSome result (IsEnding self.now.base (program_of self.now.lines) (statement_of line.now)) }
+    {
+        if k <= self.items.len() {
+            return None;
+        }
+        apart_ending(self.base, &self.names, &self.survey, line, shape)
     }
 
     // Puts a line of this shape in the place of line `k`, which it is alike: only this line is made anew. Where there is no memory
@@ -196,7 +230,7 @@ impl Store {
         requires alike { IsAlike (program_of self.old.lines) k (statement_of line) }
         requires shape { shape ≡ shape_of (constant_of (program_of self.old.lines) k) (statement_of line).body }
         requires limited { IsLimited shape }
-        requires valued { C.valued_count counter.old ≤ 2 ^ 63 }
+        requires valued { C.valued_count counter.old ≤ 2 ^ 63 + 1 }
         requires encoded { C.encoded_count counter.old ≤ 2 ^ 63 }
         ensures ok { OnOk result (self.new ≡ text_after self.old (Replace k line)) }
         ensures err { OnErr result (self.new ≡ self.old) }
@@ -205,7 +239,7 @@ impl Store {
         ensures parsed { C.parsed_count counter.new ≡ C.parsed_count counter.old }
         ensures valued { (C.valued_count counter.old ≤ C.valued_count counter.new) × (C.valued_count counter.new ≤ C.valued_count counter.old + 1000) }
         ensures encoded { (C.encoded_count counter.old ≤ C.encoded_count counter.new) × (C.encoded_count counter.new ≤ C.encoded_count counter.old + 1) }
-        ensures values { C.valued_count counter.new ≤ C.valued_count counter.old + most_values self.old.base self.old.lines (Replace k line) }
+        ensures values { C.valued_count counter.new + size_operands (statement_of line).body ≤ C.valued_count counter.old + most_values self.old.base self.old.lines (Replace k line) }
         ensures codes { C.encoded_count counter.new ≤ C.encoded_count counter.old + most_codes self.old.base self.old.lines (Replace k line) }
     {
         let place = k as usize - 1;
@@ -259,7 +293,7 @@ impl Store {
         ensures codes { C.encoded_count counter.new ≤ C.encoded_count counter.old + most_codes self.old.base self.old.lines (Insert k line) }
     {
         let count = self.len();
-        let total = self.survey.total;
+        let ends = self.survey.ends;
         match appended(
             self.alloc,
             self.base,
@@ -275,87 +309,10 @@ impl Store {
                 Ok(changed)
             }
             Err(e) => {
-                self.survey.shorten(count, total);
+                self.survey.shorten(count, ends);
                 Err(e)
             }
         }
-    }
-
-    // Puts a line of this shape at the end of the text. Where there is no memory for that, the text stays.
-    fn extend<C: Count>(
-        &mut self,
-        k: u32,
-        line: Line,
-        shape: Measured,
-        counter: &mut C,
-    ) -> Result<Changed, EditError>
-        requires allowed { refusal_of self.old.lines (Insert k line) ≡ None }
-        requires end { k ≡ length self.old.lines + 1 }
-        requires shape { shape ≡ shape_at_end (program_of self.old.lines) (statement_of line) }
-        requires limited { IsLimited shape }
-        requires valued { C.valued_count counter.old ≤ 2 ^ 63 + 1 }
-        requires encoded { C.encoded_count counter.old ≤ 2 ^ 63 }
-        ensures ok { OnOk result (self.new ≡ text_after self.old (Insert k line)) }
-        ensures err { OnErr result (self.new ≡ self.old) }
-        ensures changed { IfOk result (λ c. c.lines ≡ changed_lines self.old.base self.old.lines (Insert k line)) }
-        ensures memory { IfErr result (λ e. e ≡ EditError.Memory) }
-        ensures parsed { C.parsed_count counter.new ≡ C.parsed_count counter.old }
-        ensures valued { (C.valued_count counter.old ≤ C.valued_count counter.new) × (C.valued_count counter.new ≤ C.valued_count counter.old + 1003 * (length self.old.lines + 1)) }
-        ensures encoded { (C.encoded_count counter.old ≤ C.encoded_count counter.new) × (C.encoded_count counter.new ≤ C.encoded_count counter.old + length self.old.lines + 1) }
-        ensures values { C.valued_count counter.new + size_operands (statement_of line).body ≤ C.valued_count counter.old + most_values self.old.base self.old.lines (Insert k line) }
-        ensures codes { C.encoded_count counter.new ≤ C.encoded_count counter.old + most_codes self.old.base self.old.lines (Insert k line) }
-    {
-        let count = self.len();
-        let total = self.survey.total;
-        match extended(
-            self.alloc,
-            self.base,
-            &mut self.names,
-            &mut self.survey,
-            &self.items,
-            line,
-            shape,
-            counter,
-        ) {
-            Ok((mut survey, items, changed)) => {
-                mem::swap(&mut survey.lines, &mut self.survey.lines);
-                self.survey = survey;
-                self.items = items;
-                Ok(changed)
-            }
-            Err(e) => {
-                self.survey.shorten(count, total);
-                Err(e)
-            }
-        }
-    }
-
-    // Puts a line at the end of the text. Where there is no memory for that, the text stays.
-    fn append<C: Count>(
-        &mut self,
-        k: u32,
-        line: &Line,
-        counter: &mut C,
-    ) -> Result<Changed, EditError>
-        requires allowed { refusal_of self.old.lines (Insert k line.now) ≡ None }
-        requires end { k ≡ length self.old.lines + 1 }
-        requires valued { C.valued_count counter.old ≤ 2 ^ 63 }
-        requires encoded { C.encoded_count counter.old ≤ 2 ^ 63 }
-        ensures ok { OnOk result (self.new ≡ text_after self.old (Insert k line.now)) }
-        ensures err { OnErr result (self.new ≡ self.old) }
-        ensures changed { IfOk result (λ c. c.lines ≡ changed_lines self.old.base self.old.lines (Insert k line.now)) }
-        ensures memory { IfErr result (λ e. e ≡ EditError.Memory) }
-        ensures parsed { C.parsed_count counter.new ≡ C.parsed_count counter.old }
-        ensures valued { (C.valued_count counter.old ≤ C.valued_count counter.new) × (C.valued_count counter.new ≤ C.valued_count counter.old + 1004 * (length self.old.lines + 1)) }
-        ensures encoded { (C.encoded_count counter.old ≤ C.encoded_count counter.new) × (C.encoded_count counter.new ≤ C.encoded_count counter.old + length self.old.lines + 1) }
-        ensures values { C.valued_count counter.new ≤ C.valued_count counter.old + most_values self.old.base self.old.lines (Insert k line.now) }
-        ensures codes { C.encoded_count counter.new ≤ C.encoded_count counter.old + most_codes self.old.base self.old.lines (Insert k line.now) }
-    {
-        let shape = shape_at_end(&self.survey, &self.names, line, counter);
-        if let Some(end) = apart_ending(self.base, &self.names, &self.survey, line, shape) {
-            return self.push(k, line.share()?, &end, counter);
-        }
-        self.extend(k, line.share()?, shape, counter)
     }
 
     // The items of the text after an edit that is not refused: what was kept of each line, and nothing of the line that the
@@ -379,20 +336,23 @@ impl Store {
         }
     }
 
-    // Makes an edit whose line was read. `items` are those of the text after it, as they were before it. Where there is no
-    // memory for the rest, the text stays.
+    // Makes an edit whose line was read and has this shape. `items` are those of the text after it, as they were before it. Where there
+    // is no memory for the rest, the text stays.
     fn assemble<C: Count>(
         &mut self,
         edit: &LineEdit<'_>,
         read: ReadEdit,
         items: SumTree<Item>,
+        shape: Measured,
         counter: &mut C,
     ) -> Result<Changed, EditError>
         requires allowed { refusal_of self.old.lines (edit_of edit.now) ≡ None }
         requires read { edit_of_read read ≡ edit_of edit.now }
         requires items { map (λ i. i.line) items.items ≡ lines_after self.old.lines (edit_of edit.now) }
         requires former { AreFormer self.old.base self.old.lines (edit_of edit.now) 0 items.items }
-        requires valued { C.valued_count counter.old ≤ 2 ^ 63 }
+        requires shape { IsNewShape self.old.lines (edit_of edit.now) shape }
+        requires limited { IsLimited shape }
+        requires valued { C.valued_count counter.old ≤ 2 ^ 63 + 1 }
         requires encoded { C.encoded_count counter.old ≤ 2 ^ 63 }
         ensures ok { OnOk result (self.new ≡ text_after self.old (edit_of edit.now)) }
         ensures err { OnErr result (self.new ≡ self.old) }
@@ -409,6 +369,7 @@ impl Store {
             &self.items,
             edit,
             items,
+            shape,
             counter,
         ) {
             Ok((mut survey, items, changed)) => {
@@ -442,31 +403,34 @@ impl Store {
         self.survey.equ_values = remembered.equ_values;
     }
 
-    // Makes an edit that is not refused, whose line was read, by the items that it leaves. Where there is no memory for that,
-    // the text stays.
+    // Makes an edit that is not refused, whose line was read and has this shape, by the items that it leaves. Where there is no memory
+    // for that, the text stays.
     fn rework<C: Count>(
         &mut self,
         edit: &LineEdit<'_>,
         read: ReadEdit,
+        shape: Measured,
         counter: &mut C,
     ) -> Result<Changed, EditError>
         requires allowed { refusal_of self.old.lines (edit_of edit.now) ≡ None }
         requires read { edit_of_read read ≡ edit_of edit.now }
-        requires valued { C.valued_count counter.old ≤ 2 ^ 63 }
+        requires shape { IsNewShape self.old.lines (edit_of edit.now) shape }
+        requires limited { IsLimited shape }
+        requires valued { C.valued_count counter.old ≤ 2 ^ 63 + 1 }
         requires encoded { C.encoded_count counter.old ≤ 2 ^ 63 }
         ensures ok { OnOk result (self.new ≡ text_after self.old (edit_of edit.now)) }
         ensures err { OnErr result (self.new ≡ self.old) }
         ensures changed { IfOk result (λ c. c.lines ≡ changed_lines self.old.base self.old.lines (edit_of edit.now)) }
         ensures memory { IfErr result (λ e. e ≡ EditError.Memory) }
         ensures parsed { C.parsed_count counter.new ≡ C.parsed_count counter.old }
-        ensures valued { (C.valued_count counter.old ≤ C.valued_count counter.new) × (C.valued_count counter.new < C.valued_count counter.old + 2 ^ 32) }
+        ensures valued { (C.valued_count counter.old ≤ C.valued_count counter.new) × (C.valued_count counter.new + 1 < C.valued_count counter.old + 2 ^ 32) }
         ensures encoded { (C.encoded_count counter.old ≤ C.encoded_count counter.new) × (C.encoded_count counter.new < C.encoded_count counter.old + 2 ^ 32) }
-        ensures values { C.valued_count counter.new ≤ C.valued_count counter.old + most_values self.old.base self.old.lines (edit_of edit.now) }
+        ensures values { C.valued_count counter.new + shape_operands (edit_of edit.now) ≤ C.valued_count counter.old + most_values self.old.base self.old.lines (edit_of edit.now) }
         ensures codes { C.encoded_count counter.new ≤ C.encoded_count counter.old + most_codes self.old.base self.old.lines (edit_of edit.now) }
     {
         self.forget_names();
         let items = self.edited(&read)?;
-        self.assemble(edit, read, items, counter)
+        self.assemble(edit, read, items, shape, counter)
     }
 
     // Makes an edit that is not refused, whose line was read. Where there is no memory for that, the text stays.
@@ -490,19 +454,18 @@ impl Store {
         ensures values { C.valued_count counter.new ≤ C.valued_count counter.old + most_values self.old.base self.old.lines (edit_of edit.now) }
         ensures codes { C.encoded_count counter.new ≤ C.encoded_count counter.old + most_codes self.old.base self.old.lines (edit_of edit.now) }
     {
+        let shape = self.new_shape(&read, counter);
         match &read {
-            ReadEdit::Insert(k, line) => {
-                if *k > self.items.len() {
-                    return self.append(*k, line, counter);
-                }
-                self.rework(edit, read, counter)
-            }
-            ReadEdit::Delete(_) => self.rework(edit, read, counter),
+            ReadEdit::Insert(k, line) => match self.ending(*k, line, shape) {
+                Some(end) => self.push(*k, line.share()?, &end, counter),
+                None => self.rework(edit, read, shape, counter),
+            },
+            ReadEdit::Delete(_) => self.rework(edit, read, shape, counter),
             ReadEdit::Replace(k, line) => {
-                if let Some(shape) = self.takes(*k, line, counter) {
+                if self.is_alike(*k, line, &shape) {
                     return self.put(*k, line.share()?, shape, counter);
                 }
-                self.rework(edit, read, counter)
+                self.rework(edit, read, shape, counter)
             }
         }
     }

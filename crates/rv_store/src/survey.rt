@@ -1,12 +1,15 @@
 //! What is kept of the lines of a text.
 
-ghost use Rattle.std.specs.Prelude.{◌≡◌, ℕ, ◌≤◌, ◌<◌, ◌+◌, ◌*◌, ◌^◌, [], None, length, true, IfOk};
-ghost use Rattle.rv_layout.specs.Effects.{layout_of};
-ghost use Rattle.rv_layout.specs.Places.{section_base_of, section_end_of, AreLimited, is_base};
+ghost use Rattle.std.specs.Prelude.{◌≡◌, ℕ, ◌≤◌, ◌<◌, ◌+◌, ◌*◌, ◌^◌, ◌++◌, List, [], None, length, true, IfOk};
+ghost use Rattle.rv_layout.specs.declared.measured.Measured.{Measured};
+ghost use Rattle.rv_layout.specs.Places.{section_base_of, section_end_of, IsLimited, AreLimited, is_base};
 ghost use Rattle.rv_layout.specs.Sections.{sections};
 ghost use Rattle.rv_store.specs.Before.{IsBefore, base_before, lines_before, edit_on};
+ghost use Rattle.rv_store.specs.Column.{HasPlace};
 ghost use Rattle.rv_store.specs.Edits.{edit_of};
-ghost use Rattle.rv_store.specs.Ends.{place_by_shapes};
+ghost use Rattle.rv_store.specs.Ends.{ends_of, place_by_shapes};
+ghost use Rattle.rv_store.specs.FormerShapes.{former_shapes};
+ghost use Rattle.rv_store.specs.NewShapes.{IsNewShape, shape_operands};
 ghost use Rattle.rv_store.specs.Program.{program_of, for_lines};
 ghost use Rattle.rv_store.specs.Rows.{Grows, AreDefinitions, AreConstants, AreShapes, AreLocals};
 ghost use Rattle.rv_store.specs.Surveys.{IsSurvey};
@@ -17,6 +20,7 @@ ghost use Rattle.rv_store.specs.Work.{equ_operands, high_operands, survey_operan
 
 use crate::before::Before;
 use crate::edit::LineEdit;
+use crate::ends::Ends;
 use crate::equ_values::equ_values;
 use crate::highs::highs;
 use crate::limits::MAX_LINES;
@@ -27,20 +31,40 @@ use crate::locals_after::locals_after;
 use crate::moved_definitions::definitions_after;
 use crate::names::NameTable;
 use crate::paired_highs::paired_highs;
+use crate::parted_shapes::PartedShapes;
 use crate::places::Placed;
+use crate::places_after::PlacedBefore;
+use crate::section_bases::bases;
 use crate::shapes::{ShapeRows, shapes};
 use crate::symbol_rows::SymbolRows;
 use crate::text_rows::TextRows;
 use crate::value_rows::ValueRows;
 use rv_fix::Entry;
-use rv_layout::{Layout, Measured, bases, layouts_tell_places};
+use rv_layout::Measured;
 use rv_list::{DefinitionPlace, LinePlace, SectionPlace};
 use rv_text::Count;
 use std::alloc::{AllocError, Global};
 
+// The shapes before an edit and after it, apart.
+fn parted_shapes<'a>(
+    before: &'a [Measured],
+    sized: &'a ShapeRows,
+    edit: &LineEdit<'_>,
+) -> PartedShapes<'a>
+    requires place { (lines : List (List ℕ)) × (length lines ≡ length before.now) × HasPlace lines (edit_of edit.now) }
+    requires edited { sized.now.kept ≡ true → (shape : Measured) × (sized.now.shapes.items ≡ former_shapes before.now (edit_of edit.now) shape) }
+    ensures before { before.now ≡ result.first.now ++ result.former.now ++ result.rest.now }
+    ensures after { sized.now.shapes.items ≡ result.first.now ++ result.middle.now ++ result.rest.now }
+{
+    if sized.kept {
+        return PartedShapes::of_edit(before, &sized.shapes, edit);
+    }
+    PartedShapes::of(before, &sized.shapes)
+}
+
 /// What the lines of a text say, in rows: one value for each name, by its number, or one for each line. An edit that goes over the
-/// lines makes them anew from the first line on. But definitions move with the lines where it changes none of them, a line keeps its shape
-/// where no constant changes it, and where the edit puts a line at the end, constants and, unless a section moves, places are copied.
+/// lines makes them anew from the first line on. But definitions move with the lines, a line keeps its shape where no constant changes it,
+/// and lines lie where they lay or move with their section, unless one begins elsewhere.
 #[derive(Drop)]
 pub struct Survey {
     /// The lines.
@@ -51,8 +75,8 @@ pub struct Survey {
     pub constants: Vec<Option<i64>>,
     /// The shape of each line.
     pub shapes: Vec<Measured>,
-    /// The layout of all lines.
-    pub total: Layout,
+    /// Where the sections end after all lines.
+    pub ends: Ends,
     /// Where each line lies.
     pub places: Vec<LinePlace>,
     /// The lines of the local labels.
@@ -76,7 +100,7 @@ impl Survey {
             definitions: Vec::new(alloc),
             constants: Vec::new(alloc),
             shapes: Vec::new(alloc),
-            total: Layout::start(),
+            ends: Ends::start(),
             places: Vec::new(alloc),
             locals: Locals::new(alloc),
             equ_values: Vec::new(alloc),
@@ -86,11 +110,11 @@ impl Survey {
     }
 
     /// That of a text after an edit, the first line of which is at `base`, by the rows of the text before it, which has the
-    /// lines `old`. `self` holds these rows, and the lines after the edit already. The answer does not get the lines. Names
-    /// that the lines define get numbers, also where there is no memory for the rest.
+    /// lines `old`. `self` holds these rows, and the lines after the edit already. `shape` is that of the line that the edit puts in.
+    /// The answer does not get the lines. Names that the lines define get numbers, also where there is no memory for the rest.
     ///
     /// The counter's number of expressions computed rises by at most four for each line, and by at most what the edit
-    /// invalidates: the size operands, the high halves, and the `.equ`s twice.
+    /// invalidates: the size operands but for that of the new line, the high halves, and the `.equ`s twice.
     pub fn after<C: Count>(
         &self,
         alloc: Global,
@@ -98,6 +122,7 @@ impl Survey {
         old: &Lines<'_>,
         edit: &LineEdit<'_>,
         names: &mut NameTable,
+        shape: Measured,
         counter: &mut C,
     ) -> Result<Survey, AllocError>
         requires base { is_base base ≡ true }
@@ -105,21 +130,24 @@ impl Survey {
         requires old_few { length old.now ≤ MAX_LINES }
         requires allowed { refusal_of old.now (edit_of edit.now) ≡ None }
         requires edited { self.now.lines.items ≡ lines_after old.now (edit_of edit.now) }
+        requires shape { IsNewShape old.now (edit_of edit.now) shape }
+        requires limited { IsLimited shape }
         requires few { length self.now.lines.items ≤ MAX_LINES }
-        requires valued { C.valued_count counter.old ≤ 2 ^ 63 }
+        requires valued { C.valued_count counter.old ≤ 2 ^ 63 + 1 }
         ensures survey { IfOk result (λ s. IsSurvey base (program_of self.now.lines.items) names.new s) }
         ensures names { Grows names.old names.new }
         ensures least { C.valued_count counter.old ≤ C.valued_count counter.new }
         ensures most { C.valued_count counter.new ≤ C.valued_count counter.old + 4 * length self.now.lines.items }
-        ensures work { C.valued_count counter.new ≤ C.valued_count counter.old + work survey_operands base old.now (edit_of edit.now) (length self.now.lines.items) }
+        ensures work { C.valued_count counter.new + shape_operands (edit_of edit.now) ≤ C.valued_count counter.old + work survey_operands base old.now (edit_of edit.now) (length self.now.lines.items) }
         ensures parsed { C.parsed_count counter.new ≡ C.parsed_count counter.old }
         ensures encoded { C.encoded_count counter.new ≡ C.encoded_count counter.old }
     {
         let lines = self.lines.as_slice();
         let definitions = definitions_after(alloc, &self.definitions, old, lines, edit, names)?;
         let before = self.before(old, base, names, edit);
-        let sized = shapes(alloc, &before, lines, names, &definitions, counter)?;
-        let placed = Placed::of(alloc, base, &sized.shapes)?;
+        let sized = shapes(alloc, &before, lines, &definitions, shape, counter)?;
+        let parted = parted_shapes(&self.shapes, &sized, edit);
+        let placed = Placed::after(alloc, base, &self.placed(), &sized.shapes, &parted)?;
         let locals = locals_after(alloc, &before, lines)?;
         Survey::by_rows(
             alloc,
@@ -155,7 +183,7 @@ impl Survey {
         requires constants { AreConstants (program_of lines.now) (length lines.now) before.now.symbols.text.names.now sized.constants.items }
         requires shapes { AreShapes (program_of lines.now) sized.shapes.items }
         requires limited { AreLimited sized.shapes.items }
-        requires total { placed.total ≡ layout_of sized.shapes.items }
+        requires ends { placed.ends ≡ ends_of sized.shapes.items }
         requires places { placed.places.items ≡ for_lines (place_by_shapes (base_before before.now) sized.shapes.items) (length sized.shapes.items) }
         requires locals { AreLocals (program_of lines.now) (length lines.now) locals }
         requires valued { C.valued_count counter.old ≤ 2 ^ 63 + 2 ^ 32 }
@@ -189,13 +217,26 @@ impl Survey {
             definitions,
             constants: sized.constants,
             shapes: sized.shapes,
-            total: placed.total,
+            ends: placed.ends,
             places: placed.places,
             locals,
             equ_values,
             highs,
             paired_highs,
         })
+    }
+
+    // The lines and where they lie.
+    fn placed(&self) -> PlacedBefore<'_>
+        ensures shapes { result.shapes.now ≡ self.now.shapes.items }
+        ensures places { result.places.now ≡ self.now.places.items }
+        ensures ends { result.ends.now ≡ self.now.ends }
+    {
+        PlacedBefore {
+            shapes: &self.shapes,
+            places: &self.places,
+            ends: &self.ends,
+        }
     }
 
     // The text of these lines with what its symbols are.
@@ -257,13 +298,12 @@ impl Survey {
         requires section { section < sections }
         requires few { length self.now.shapes.items ≤ MAX_LINES }
         requires limited { AreLimited self.now.shapes.items }
-        requires total { self.now.total ≡ layout_of self.now.shapes.items }
+        requires ends { self.now.ends ≡ ends_of self.now.shapes.items }
         ensures { result ≡ record { base = section_base_of base self.now.shapes.items section; size = section_end_of self.now.shapes.items section } }
     {
-        layouts_tell_places();
         SectionPlace {
-            base: bases(&self.total, base)[section],
-            size: self.total.offset(section),
+            base: bases(&self.ends, base)[section],
+            size: self.ends.offsets[section],
         }
     }
 

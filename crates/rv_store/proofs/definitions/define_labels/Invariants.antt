@@ -1,6 +1,6 @@
 use Rattle.std.proofs.Common.{◌≡◌, ◌+◌, ◌≤◌, length}
 use Rattle.rv_list.specs.declared.view.DefinitionPlace.TheVariants.{Nowhere}
-use Rattle.rv_store.specs.Defining.{then_also}
+use Rattle.rv_store.specs.Defining.{also_on}
 use Rattle.rv_store.specs.Definitions.{place_among_labels}
 use Rattle.rv_store.specs.Rows.{in_row, Grows}
 use Rattle.rv_store.proofs.definitions.define_labels.Given as goal
@@ -8,8 +8,8 @@ use Rattle.rv_store.proofs.definitions.define_labels.Given as goal
 -- what is written, with what the labels that are left define, is what all of them define
 abbrev pub invariant-loop-label : goal.invariant-loop-label
 invariant-loop-label l = record {
-  each : then_also (in_row l.names l.row.items Nowhere) (place_among_labels l.line l.index l.labels)
-      ≡ then_also (in_row l.initial.names l.initial.row.items Nowhere) (place_among_labels l.line 0 l.initial.labels);
+  each : also_on l.line (in_row l.names l.row.items Nowhere) (place_among_labels l.line l.index l.labels)
+      ≡ also_on l.line (in_row l.initial.names l.initial.row.items Nowhere) (place_among_labels l.line 0 l.initial.labels);
   within : length l.row.items ≤ length l.names;
   names : Grows l.initial.names l.names;
   count : l.index + length l.labels ≡ length l.initial.labels;

@@ -1,21 +1,20 @@
-use Rattle.std.proofs.Common.{◌≡◌, ℕ, ◌<◌, List, [], ◌∷◌, ◌++◌, length, arith, ap, sym, subst, ◌∙◌}
+use Rattle.std.proofs.Common.{◌≡◌, ℕ, ◌<◌, List, [], ◌∷◌, ◌++◌, length, arith, subst}
 use Rattle.rv_stmt.specs.Statement.{statement_of}
-use Rattle.rv_layout.specs.declared.effect.Effect.{Effect}
 use Rattle.rv_layout.specs.declared.measured.Measured.{Measured}
-use Rattle.rv_layout.specs.Effects.{join, effect_of, layout_of}
 use Rattle.rv_layout.specs.Places.{IsLimited, AreLimited}
+use Rattle.rv_store.specs.declared.ends.Ends.{Ends}
 use Rattle.rv_store.specs.declared.limits.TheConstants.{MAX_LINES}
 use Rattle.rv_store.specs.Appended.{IsApart}
-use Rattle.rv_store.specs.Ends.{IsBehind}
+use Rattle.rv_store.specs.Ends.{ends_of, IsBehind}
 use Rattle.rv_store.specs.Program.{program_of}
 use Rattle.rv_store.specs.Rows.{AreShapes}
-use Rattle.rv_store.proofs.Endings.{together-before, together-all, ending-is}
+use Rattle.rv_store.proofs.Endings.{ends-with, together-before, together-all, short-before, ending-is}
 use Rattle.rv_store.proofs.ShapeRows.{limited-push}
 use Rattle.rv_store.proofs.Surveys.{length_of_shapes}
 use Rattle.rv_store.proofs.ending.apart_ending.Goals as goal
 
-behind : (lines : List (List ℕ)) (shapes : List Measured) (shape : Measured) (before total : Effect) → AreShapes (program_of lines) shapes → AreLimited shapes → IsLimited shape → length lines < MAX_LINES → before ≡ layout_of shapes → total ≡ layout_of (shapes ++ shape ∷ []) → IsBehind shape before total shapes
-behind lines shapes shape before total are limited limited_shape few is all =
+behind : (lines : List (List ℕ)) (shapes : List Measured) (shape : Measured) (before after : Ends) → AreShapes (program_of lines) shapes → AreLimited shapes → IsLimited shape → length lines < MAX_LINES → before ≡ ends_of shapes → after ≡ ends_of (shapes ++ shape ∷ []) → IsBehind shape before after shapes
+behind lines shapes shape before after are limited limited_shape few is all =
     let count = length_of_shapes lines shapes are in
     record {
       few = omega (arith, count, few);
@@ -24,28 +23,35 @@ behind lines shapes shape before total are limited limited_shape few is all =
       all = all;
     }
 
+pub advance-requires-clause-short : goal.advance-requires-clause-short
+advance-requires-clause-short c =
+    let count = length_of_shapes c.args.survey.now.lines.items c.args.survey.now.shapes.items c.requires.shapes in
+    short-before c.args.survey.now.shapes.items c.args.shape (omega (arith, count, c.requires.few)) (limited-push _ _ c.requires.limited c.requires.limited_shape) c.args.survey.now.ends c.requires.ends
+
 pub stay_sections-requires-clause-ends_before : goal.stay_sections-requires-clause-ends_before
 stay_sections-requires-clause-ends_before c =
     let count = length_of_shapes c.args.survey.now.lines.items c.args.survey.now.shapes.items c.requires.shapes in
-    together-before c.args.survey.now.shapes.items c.args.shape (omega (arith, count, c.requires.few)) (limited-push _ _ c.requires.limited c.requires.limited_shape) c.args.survey.now.total c.requires.total
+    together-before c.args.survey.now.shapes.items c.args.shape (omega (arith, count, c.requires.few)) (limited-push _ _ c.requires.limited c.requires.limited_shape) c.args.survey.now.ends c.requires.ends
 
 pub stay_sections-requires-clause-ends : goal.stay_sections-requires-clause-ends
 stay_sections-requires-clause-ends c =
     let count = length_of_shapes c.args.survey.now.lines.items c.args.survey.now.shapes.items c.requires.shapes in
-    together-all c.args.survey.now.shapes.items c.args.shape (omega (arith, count, c.requires.few)) (limited-push _ _ c.requires.limited c.requires.limited_shape) c.then-total.result
-    (c.then-total.ensures ∙ ap (λ l. join l (effect_of c.args.shape)) c.requires.total ∙ sym (c.layouts_tell_places.ensures.more c.args.survey.now.shapes.items c.args.shape c.requires.limited c.requires.limited_shape))
+    together-all c.args.survey.now.shapes.items c.args.shape (omega (arith, count, c.requires.few)) (limited-push _ _ c.requires.limited c.requires.limited_shape) c.advance.new.self
+    (ends-with c.args.survey.now.shapes.items c.args.shape c.args.survey.now.ends c.advance.new.self c.requires.ends c.advance.ensures)
 
 pub last_place-place-requires-clause-behind : goal.last_place-place-requires-clause-behind
-last_place-place-requires-clause-behind c = (
-  c.args.survey.now.shapes.items,
-  behind c.args.survey.now.lines.items c.args.survey.now.shapes.items c.args.shape c.args.survey.now.total c.then-total.result c.requires.shapes c.requires.limited c.requires.limited_shape c.requires.few c.requires.total
-      (c.then-total.ensures ∙ ap (λ l. join l (effect_of c.args.shape)) c.requires.total ∙ sym (c.layouts_tell_places.ensures.more c.args.survey.now.shapes.items c.args.shape c.requires.limited c.requires.limited_shape)),
-)
+last_place-place-requires-clause-behind c =
+    let shapes = c.args.survey.now.shapes.items in
+    let all = ends-with shapes c.args.shape c.args.survey.now.ends c.advance.new.self c.requires.ends c.advance.ensures in (
+      shapes,
+      behind c.args.survey.now.lines.items shapes c.args.shape c.args.survey.now.ends c.advance.new.self c.requires.shapes c.requires.limited c.requires.limited_shape c.requires.few c.requires.ends all,
+    )
 
 pub returns : goal.returns
 returns c =
-    let total = c.then-total.ensures ∙ ap (λ l. join l (effect_of c.args.shape)) c.requires.total ∙ sym (c.layouts_tell_places.ensures.more c.args.survey.now.shapes.items c.args.shape c.requires.limited c.requires.limited_shape) in
-    ending-is c.args.base c.args.survey.now.lines.items (statement_of c.args.line.now) c.args.survey.now.shapes.items c.args.survey.now.total _ c.requires.shapes c.requires.limited c.requires.few
+    let shapes = c.args.survey.now.shapes.items in
+    let all = ends-with shapes c.args.shape c.args.survey.now.ends c.advance.new.self c.requires.ends c.advance.ensures in
+    ending-is c.args.base c.args.survey.now.lines.items (statement_of c.args.line.now) shapes c.args.survey.now.ends _ c.requires.shapes c.requires.limited c.requires.few
     (subst (λ ls. IsApart (program_of ls) (statement_of c.args.line.now)) c.deref.ensures.value (c.is_apart.ensures.apart c.if-not-is_apart.false))
-    (c.is_apart.ensures.alone c.if-not-is_apart.false) c.requires.shape c.requires.limited_shape c.requires.total total (c.stay_sections.ensures c.if-not-stay_sections.false)
-    (c.last_place-place.ensures c.args.survey.now.shapes.items (behind c.args.survey.now.lines.items c.args.survey.now.shapes.items c.args.shape c.args.survey.now.total c.then-total.result c.requires.shapes c.requires.limited c.requires.limited_shape c.requires.few c.requires.total total))
+    (c.is_apart.ensures.alone c.if-not-is_apart.false) c.requires.shape c.requires.limited_shape c.requires.ends all (c.stay_sections.ensures c.if-not-stay_sections.false)
+    (c.last_place-place.ensures shapes (behind c.args.survey.now.lines.items shapes c.args.shape c.args.survey.now.ends c.advance.new.self c.requires.shapes c.requires.limited c.requires.limited_shape c.requires.few c.requires.ends all))

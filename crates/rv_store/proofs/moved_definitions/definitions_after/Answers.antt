@@ -1,19 +1,21 @@
-use Rattle.std.proofs.Common.{◌≡◌, map, sym, ◌∙◌}
-use Rattle.std.proofs.lemmas.Result.{IfOk-weaker}
-use Rattle.rv_store.specs.Edits.{edit_of}
-use Rattle.rv_store.specs.MovedDefinitions.{line_after_edit, moved_place}
+use Rattle.std.proofs.Common.{ap, sym, ◌∙◌}
+use Rattle.rv_store.specs.Defining.{also_on}
+use Rattle.rv_store.specs.Definitions.{definition_of}
+use Rattle.rv_store.specs.Edits.{edit_of, place_of_edit}
+use Rattle.rv_store.specs.MovedDefinitions.{kept_after, put_in}
 use Rattle.rv_store.specs.Program.{program_of}
-use Rattle.rv_store.specs.Rows.{AreDefinitions}
-use Rattle.rv_store.proofs.MovedDefinitions.{moved-definitions}
+use Rattle.rv_store.proofs.MovedDefinitions.{definitions-after}
 use Rattle.rv_store.proofs.moved_definitions.definitions_after.Goals as goal
 
 pub returns-clause-definitions : goal.returns-clause-definitions
 returns-clause-definitions c =
     let old = c.args.old.now in
     let edit = edit_of c.args.edit.now in
-    IfOk-weaker c.moved_definitions.result (λ row. row.items ≡ map (moved_place (line_after_edit edit)) c.args.row.now)
-    (λ row. AreDefinitions (program_of c.args.lines.now) c.args.names.now row.items)
-    (λ row made.
-    moved-definitions old c.args.lines.now edit c.args.names.now c.args.row.now row.items c.requires.row c.requires.old_few c.requires.allowed c.requires.edited
-    (sym c.edits_definitions.ensures ∙ c.if-edits_definitions.false) made)
-    c.moved_definitions.ensures
+    let row = c.in_ok-define_put_in.ensures.row in
+    record {
+      each = row.each
+          ∙ ap (λ kept. also_on (place_of_edit edit) kept (put_in edit)) (c.in_ok-after.ensures.each ∙ ap (λ ls. kept_after edit ls (definition_of (program_of old))) c.requires.edited)
+          ∙ definitions-after old edit c.requires.old_few c.requires.allowed
+          ∙ ap (λ ls. definition_of (program_of ls)) (sym c.requires.edited);
+      within = row.within;
+    }

@@ -5,14 +5,14 @@ use Rattle.rv_store.proofs.places.last_place.Goals as goal
 pub bases-requires-clause-ends : goal.bases-requires-clause-ends
 bases-requires-clause-ends c =
     let (ms, behind) = c.requires.behind in
-    together-all ms c.args.shape.now behind.few behind.limited c.args.total.now behind.all
+    together-all ms c.args.shape.now behind.few behind.limited c.args.after.now behind.all
 
 pub next_place-requires : goal.next_place-requires
 next_place-requires c =
     let (ms, behind) = c.requires.behind in
-    place-fits ms c.args.shape.now behind.few behind.limited c.args.before.now behind.first c.args.base c.requires.base c.args.total.now behind.all c.bases.result c.bases.ensures c.reached.result c.reached.ensures
+    place-fits ms c.args.shape.now behind.few behind.limited c.args.before.now behind.first c.args.base c.requires.base c.args.after.now behind.all c.bases.result c.bases.ensures
 
 pub returns : goal.returns
 returns c = λ ms behind.
     c.next_place.ensures
-    ∙ place-is ms c.args.shape.now behind.few behind.limited c.args.before.now behind.first c.args.base c.requires.base c.args.total.now behind.all c.bases.result c.bases.ensures c.reached.result c.reached.ensures
+    ∙ place-is ms c.args.shape.now behind.few behind.limited c.args.before.now behind.first c.args.base c.requires.base c.args.after.now behind.all c.bases.result c.bases.ensures

@@ -1,22 +1,21 @@
 use Rattle.std.proofs.Common.{◌≡◌, suc, ◌+◌, ◌^◌, ◌≤◌, ◌∷◌, [], ◌++◌, All, length, take, rules, arith, ap, sym, ◌∙◌, subst}
-use Rattle.rv_layout.specs.Effects.{offset_reached}
 use Rattle.rv_layout.specs.Places.{sum_below}
 use Rattle.rv_layout.specs.Sections.{sections}
-use Rattle.rv_layout.specs.PlaceLaws.{reached_together}
 use Rattle.rv_list.specs.declared.view.LinePlace.{LinePlace}
-use Rattle.rv_store.specs.Ends.{ends_of, ends_after, next_place, place_by_shapes}
+use Rattle.rv_store.specs.Ends.{ends_of, ends_after, end_in, next_place, place_by_shapes}
 use Rattle.rv_store.specs.Program.{for_lines}
+use Rattle.rv_store.proofs.EndBases.{ends-together}
 use Rattle.rv_store.proofs.EndLaws.{PlaceFits, next-is, next-IsLimited, take-next, ends_of-push, bases-AreBases, next_place-is, next_place-fits, places-small, at-offset, place-apart}
 use Rattle.rv_store.proofs.places.places.Goals as goal
 
 pub bases-bases-requires-clause-ends : goal.bases-bases-requires-clause-ends
 bases-bases-requires-clause-ends c =
-    subst (λ l. sum_below (offset_reached l) sections ≤ 2 ^ 30) (sym c.requires.total) (reached_together c.args.shapes.now c.requires.limited c.requires.few)
+    subst (λ e. sum_below (end_in e) sections ≤ 2 ^ 30) (sym c.requires.ends) (ends-together c.args.shapes.now c.requires.limited c.requires.few)
 
 pub overflow_add-address : goal.overflow_add-address
 overflow_add-address c =
     let ms = c.args.shapes.now in
-    let are = bases-AreBases c.args.base ms c.args.total.now c.bases-bases.result c.requires.total c.requires.few c.requires.limited c.bases-bases.ensures in
+    let are = bases-AreBases c.args.base ms c.args.ends.now c.bases-bases.result c.requires.ends c.bases-bases.ensures in
     let fits = next_place-fits c.args.base ms c.loop-shape.shape-index c.bases-bases.result c.requires.base c.requires.few c.requires.limited are in
     let here = subst (PlaceFits c.bases-bases.result) (sym c.loop-shape.invariant.ends) fits in
     let count : length c.loop-shape.reached.ends.offsets ≡ sections = search rules in
@@ -25,7 +24,7 @@ overflow_add-address c =
 pub advance-size-requires-clause-short : goal.advance-size-requires-clause-short
 advance-size-requires-clause-short c =
     let ms = c.args.shapes.now in
-    let are = bases-AreBases c.args.base ms c.args.total.now c.bases-bases.result c.requires.total c.requires.few c.requires.limited c.bases-bases.ensures in
+    let are = bases-AreBases c.args.base ms c.args.ends.now c.bases-bases.result c.requires.ends c.bases-bases.ensures in
     let fits = next_place-fits c.args.base ms c.loop-shape.shape-index c.bases-bases.result c.requires.base c.requires.few c.requires.limited are in
     (subst (PlaceFits c.bases-bases.result) (sym c.loop-shape.invariant.ends) fits).short
 
@@ -38,7 +37,7 @@ loop-shape-preserved c =
     let ms = c.args.shapes.now in
     let i = c.loop-shape.shape-index in
     let m = c.shape-item.result in
-    let are = bases-AreBases c.args.base ms c.args.total.now c.bases-bases.result c.requires.total c.requires.few c.requires.limited c.bases-bases.ensures in
+    let are = bases-AreBases c.args.base ms c.args.ends.now c.bases-bases.result c.requires.ends c.bases-bases.ensures in
     let next : i + 1 ≡ suc i = omega arith in
     let count : length c.loop-shape.reached.ends.offsets ≡ sections = search rules in
     let here : LinePlace = record { section = c.loop-shape.reached.ends.section; address = c.loop-shape.reached.base + c.loop-shape.reached.offset; size = c.advance-size.result } in

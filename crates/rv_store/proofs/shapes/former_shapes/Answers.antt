@@ -16,3 +16,9 @@ remove-requires c =
     let before = c.args.before.now in
     let has = subst (λ e. HasPlace (lines_before before) (edit_of e)) c.in-Delete.is (place before c.requires) in
     omega (arith, has.0, has.1, shape_count before c.requires, c.in_ok-extend_from_slice.ensures.len, c.in_ok-row.ensures.len)
+
+pub index_mut-requires : goal.index_mut-requires
+index_mut-requires c =
+    let before = c.args.before.now in
+    let has = subst (λ e. HasPlace (lines_before before) (edit_of e)) c.in-Replace.is (place before c.requires) in
+    omega (arith, has.0, has.1, shape_count before c.requires, c.in_ok-extend_from_slice.ensures.len, c.in_ok-row.ensures.len)

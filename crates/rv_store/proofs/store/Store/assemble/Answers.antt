@@ -1,4 +1,4 @@
-use Rattle.std.proofs.Common.{◌≡◌, ℕ, List, None, map, ap, sym, subst, ◌∙◌}
+use Rattle.std.proofs.Common.{◌≡◌, ℕ, List, None, map, arith, ap, sym, subst, ◌∙◌, refl}
 use Rattle.std.specs.List.{AllPass}
 use Rattle.rv_store.specs.Edits.{edit_of, edit_of_read}
 use Rattle.rv_store.specs.Former.{AreFormer}
@@ -7,6 +7,7 @@ use Rattle.rv_store.specs.Program.{program_of}
 use Rattle.rv_store.specs.Surveys.{IsSurvey}
 use Rattle.rv_store.specs.Text.{is_line, refusal_of, lines_after}
 use Rattle.rv_store.proofs.EditRefusals.{lined_after, few_after}
+use Rattle.rv_store.proofs.ShapeWork.{nothing-counted}
 use Rattle.rv_store.proofs.Stores.{survey_grown}
 use Rattle.rv_store.proofs.store.Store.assemble.Goals as goal
 
@@ -35,7 +36,7 @@ invariant_of-self-in-Ok g c =
         constants = now.constants;
         shapes = now.shapes;
         limited = now.limited;
-        total = now.total;
+        ends = now.ends;
         places = now.places;
         locals = now.locals;
         equ_values = now.equ_values;
@@ -58,7 +59,7 @@ invariant_of-self-in-Err g c =
         constants = now.constants;
         shapes = now.shapes;
         limited = now.limited;
-        total = now.total;
+        ends = now.ends;
         places = now.places;
         locals = now.locals;
         equ_values = now.equ_values;
@@ -67,3 +68,14 @@ invariant_of-self-in-Err g c =
       };
       assembled = c.self.invariant.assembled;
     }
+
+pub returns-in_err-undo-clause-counted : goal.returns-in_err-undo-clause-counted
+returns-in_err-undo-clause-counted g c = record {
+  parsed = refl;
+  valued_least = omega arith;
+  valued_few = omega arith;
+  valued_most = omega (arith, nothing-counted c.args.self.now.base c.args.self.now.lines (edit_of c.args.edit.now) c.requires.allowed);
+  encoded_least = omega arith;
+  encoded_few = omega arith;
+  encoded_most = omega arith;
+}

@@ -3,11 +3,11 @@ use Rattle.std.specs.List.{AllPass}
 use Rattle.std.proofs.lemmas.List.{get_or-set_same}
 use Rattle.rv_stmt.specs.Statement.{statement_of}
 use Rattle.rv_layout.specs.declared.measured.Measured.{Measured}
-use Rattle.rv_layout.specs.Effects.{layout_of}
 use Rattle.rv_layout.specs.Places.{AreLimited}
-use Rattle.rv_layout.specs.Shapes.{shape_of}
+use Rattle.rv_layout.specs.Shapes.{shape_of, size_operands}
 use Rattle.rv_store.specs.Alike.{IsAlike}
 use Rattle.rv_store.specs.Constants.{constant_of}
+use Rattle.rv_store.specs.Ends.{ends_of}
 use Rattle.rv_store.specs.Items.{AreItems}
 use Rattle.rv_store.specs.Program.{program_of, body_at}
 use Rattle.rv_store.specs.Surveys.{IsSurvey}
@@ -17,6 +17,8 @@ use Rattle.rv_store.proofs.AlikeTexts.{set-back, Stays, survey-stays, items-put,
 use Rattle.rv_store.proofs.EarlierLines.{replace_within}
 use Rattle.rv_store.proofs.EditRefusals.{lined_after, few_after}
 use Rattle.rv_store.proofs.FormerItems.{lines-replaced}
+use Rattle.rv_store.proofs.NewShapes.{replaced}
+use Rattle.rv_store.proofs.ShapeWork.{nothing-counted}
 use Rattle.rv_store.proofs.store.Store.put.Goals as goal
 
 pub item_replaced-requires-clause-survey : goal.item_replaced-requires-clause-survey
@@ -38,7 +40,7 @@ item_replaced-requires-clause-survey g c =
       constants = now.constants;
       shapes = now.shapes;
       limited = now.limited;
-      total = now.total;
+      ends = now.ends;
       places = now.places;
       locals = now.locals;
       equ_values = now.equ_values;
@@ -79,7 +81,7 @@ invariant_of-self g c =
         constants = now.constants;
         shapes = now.shapes;
         limited = now.limited;
-        total = now.total;
+        ends = now.ends;
         places = now.places;
         locals = now.locals;
         equ_values = now.equ_values;
@@ -105,7 +107,7 @@ invariant_of-self-in-Err g c =
         constants = now.constants;
         shapes = back ∙ now.shapes;
         limited = subst AreLimited (sym back) now.limited;
-        total = now.total ∙ ap layout_of (sym back);
+        ends = now.ends ∙ ap ends_of (sym back);
         places = now.places;
         locals = now.locals;
         equ_values = now.equ_values;
@@ -139,7 +141,8 @@ returns-in-Ok-clause-values g c =
     let within = replace_within old.lines c.args.k c.args.line c.requires.allowed in
     let enough = values-enough old.base old.lines c.args.k c.args.line within.0 within.1 c.requires.alike in
     let operands = ap (λ ls. value_operands (body_at (program_of (set ls (c.args.k - 1) c.args.line)) c.args.k)) same in
-    omega (arith, c.item_replaced.ensures.valued_most, enough, operands)
+    let here = ap (λ s. size_operands s.body) (replaced old.lines c.args.k c.args.line c.requires.allowed) in
+    omega (arith, c.item_replaced.ensures.valued_most, enough, operands, here)
 
 pub returns-in-Ok-clause-codes : goal.returns-in-Ok-clause-codes
 returns-in-Ok-clause-codes g c =
@@ -155,7 +158,8 @@ returns-in-Err-clause-values g c =
     let within = replace_within old.lines c.args.k c.args.line c.requires.allowed in
     let enough = values-enough old.base old.lines c.args.k c.args.line within.0 within.1 c.requires.alike in
     let operands = ap (λ ls. value_operands (body_at (program_of (set ls (c.args.k - 1) c.args.line)) c.args.k)) same in
-    omega (arith, c.item_replaced.ensures.valued_most, enough, operands)
+    let here = ap (λ s. size_operands s.body) (replaced old.lines c.args.k c.args.line c.requires.allowed) in
+    omega (arith, c.item_replaced.ensures.valued_most, enough, operands, here)
 
 pub returns-in-Err-clause-codes : goal.returns-in-Err-clause-codes
 returns-in-Err-clause-codes g c =
@@ -169,3 +173,7 @@ returns-in-Ok-clause-parsed g c = c.item_replaced.ensures.parsed
 
 pub returns-in-Err-clause-parsed : goal.returns-in-Err-clause-parsed
 returns-in-Err-clause-parsed g c = c.item_replaced.ensures.parsed
+
+pub returns-in_err-former-clause-values : goal.returns-in_err-former-clause-values
+returns-in_err-former-clause-values g c =
+    omega (arith, nothing-counted c.args.self.now.base c.args.self.now.lines (Replace c.args.k c.args.line) c.requires.allowed)

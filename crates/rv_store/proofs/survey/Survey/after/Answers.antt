@@ -1,15 +1,21 @@
 use Rattle.std.proofs.Common.{◌≤◌, ◌+◌, length, ap, sym, subst, ◌∙◌, arith}
-use Rattle.rv_layout.specs.Effects.{layout_of}
+use Rattle.rv_layout.specs.Places.{AreLimited}
 use Rattle.rv_store.specs.Before.{base_before, lines_before, edit_on}
 use Rattle.rv_store.specs.Edits.{edit_of}
-use Rattle.rv_store.specs.Ends.{place_by_shapes}
+use Rattle.rv_store.specs.Ends.{ends_of, place_by_shapes}
+use Rattle.rv_store.specs.NewShapes.{IsNewShape, shape_operands}
 use Rattle.rv_store.specs.Program.{program_of, for_lines}
-use Rattle.rv_store.specs.Rows.{AreConstants}
 use Rattle.rv_store.specs.Work.{equ_operands, constant_operands, high_operands, operands_through, work}
+use Rattle.rv_store.proofs.Columns.{has_place}
 use Rattle.rv_store.proofs.Stores.{survey_grown}
 use Rattle.rv_store.proofs.SurveyWork.{survey_counted}
-use Rattle.rv_store.proofs.Surveys.{length_of_shapes}
+use Rattle.rv_store.proofs.ShapeWork.{nothing-surveyed}
+use Rattle.rv_store.proofs.Surveys.{length_of_shapes, unplaced}
 use Rattle.rv_store.proofs.survey.Survey.after.Goals as goal
+
+pub returns-in_err-definitions-clause-work : goal.returns-in_err-definitions-clause-work
+returns-in_err-definitions-clause-work g c =
+    omega (arith, nothing-surveyed c.args.base c.args.old.now (edit_of c.args.edit.now) c.requires.allowed (length c.args.self.now.lines.items) (ap length c.requires.edited))
 
 pub before-before-requires-clause-survey : goal.before-before-requires-clause-survey
 before-before-requires-clause-survey g c = survey_grown _ _ _ _ _ c.definitions_after.ensures.names c.requires.old
@@ -32,19 +38,41 @@ returns-in_err-placed-clause-work g c =
     (survey_counted c.before-before.result c.args.base c.args.old.now c.as_slice-lines.result.now (edit_of c.args.edit.now) before.base before.lines before.edit (same ∙ c.requires.edited)
     (count c.args.counter.now) (count c.shapes.new.counter) (count c.shapes.new.counter) (count c.shapes.new.counter) c.shapes.ensures.work (omega arith) (omega arith))
 
-pub of-requires-clause-few : goal.of-requires-clause-few
-of-requires-clause-few g c =
-    let count = length_of_shapes c.as_slice-lines.result.now c.in_ok-sized.sized.shapes.items c.in_ok-sized.ensures.shapes in
-    omega (arith, ap length c.deref-3.ensures.value, count, ap length c.as_slice-lines.ensures.value, c.requires.few)
+pub after-requires-clause-few_before : goal.after-requires-clause-few_before
+after-requires-clause-few_before g c =
+    omega (arith, ap length c.placed.ensures.shapes, length_of_shapes c.args.old.now c.args.self.now.shapes.items c.requires.old.shapes, c.requires.old_few)
 
-pub by_rows-requires-clause-total : goal.by_rows-requires-clause-total
-by_rows-requires-clause-total g c = c.in_ok-placed.ensures.total ∙ ap layout_of c.deref-3.ensures.value
+pub after-requires-clause-limited_before : goal.after-requires-clause-limited_before
+after-requires-clause-limited_before g c = subst AreLimited (sym c.placed.ensures.shapes) c.requires.old.limited
+
+pub after-requires-clause-ends_before : goal.after-requires-clause-ends_before
+after-requires-clause-ends_before g c = c.placed.ensures.ends ∙ c.requires.old.ends ∙ ap ends_of (sym c.placed.ensures.shapes)
+
+pub after-requires-clause-places_before : goal.after-requires-clause-places_before
+after-requires-clause-places_before g c =
+    c.placed.ensures.places
+    ∙ unplaced c.args.base (program_of c.args.old.now) c.args.self.now.shapes.items c.args.self.now.places.items c.requires.old.shapes c.requires.old.places
+    ∙ ap (λ ms. for_lines (place_by_shapes c.args.base ms) (length ms)) (sym c.placed.ensures.shapes)
+
+pub after-requires-clause-parted_before : goal.after-requires-clause-parted_before
+after-requires-clause-parted_before g c = c.placed.ensures.shapes ∙ sym c.deref-3.ensures.value ∙ c.parted_shapes-parted.ensures.before
+
+pub after-requires-clause-parted : goal.after-requires-clause-parted
+after-requires-clause-parted g c = c.deref-4.ensures.value ∙ c.parted_shapes-parted.ensures.after
+
+pub after-requires-clause-few : goal.after-requires-clause-few
+after-requires-clause-few g c =
+    let count = length_of_shapes c.as_slice-lines.result.now c.in_ok-sized.sized.shapes.items c.in_ok-sized.ensures.shapes in
+    omega (arith, ap length c.deref-4.ensures.value, count, ap length c.as_slice-lines.ensures.value, c.requires.few)
+
+pub by_rows-requires-clause-ends : goal.by_rows-requires-clause-ends
+by_rows-requires-clause-ends g c = c.in_ok-placed.ensures.ends ∙ ap ends_of c.deref-4.ensures.value
 
 pub by_rows-requires-clause-places : goal.by_rows-requires-clause-places
 by_rows-requires-clause-places g c =
     let shapes = c.in_ok-sized.sized.shapes.items in
     c.in_ok-placed.ensures.places
-    ∙ ap (λ ms. for_lines (place_by_shapes c.args.base ms) (length ms)) c.deref-3.ensures.value
+    ∙ ap (λ ms. for_lines (place_by_shapes c.args.base ms) (length ms)) c.deref-4.ensures.value
     ∙ ap (λ base. for_lines (place_by_shapes base shapes) (length shapes)) (sym c.before-before.ensures.base)
 
 pub returns-in_err-locals-clause-work : goal.returns-in_err-locals-clause-work
@@ -56,17 +84,12 @@ returns-in_err-locals-clause-work g c =
     (survey_counted c.before-before.result c.args.base c.args.old.now c.as_slice-lines.result.now (edit_of c.args.edit.now) before.base before.lines before.edit (same ∙ c.requires.edited)
     (count c.args.counter.now) (count c.shapes.new.counter) (count c.shapes.new.counter) (count c.shapes.new.counter) c.shapes.ensures.work (omega arith) (omega arith))
 
-pub by_rows-requires-clause-constants : goal.by_rows-requires-clause-constants
-by_rows-requires-clause-constants g c =
-    let lines = c.as_slice-lines.result.now in
-    subst (λ names. AreConstants (program_of lines) (length lines) names c.in_ok-sized.sized.constants.items) (sym c.before-before.ensures.names) c.in_ok-sized.ensures.constants
-
 pub returns-clause-work : goal.returns-clause-work
 returns-clause-work g c =
     let count = g.C.Count.valued_count in
     let before = c.before-before.result in
     let lines = c.args.self.now.lines.items in
-    let shaped = subst (λ ls. count c.shapes.new.counter ≤ count c.args.counter.now + work constant_operands (base_before before) (lines_before before) (edit_on before) (length ls)) c.as_slice-lines.ensures.value c.shapes.ensures.work in
+    let shaped = subst (λ ls. count c.shapes.new.counter + shape_operands (edit_on before) ≤ count c.args.counter.now + work constant_operands (base_before before) (lines_before before) (edit_on before) (length ls)) c.as_slice-lines.ensures.value c.shapes.ensures.work in
     let rest = subst (λ ls. count c.by_rows.new.counter ≤ count c.shapes.new.counter + operands_through equ_operands (program_of ls) (length ls) + work high_operands (base_before before) (lines_before before) (edit_on before) (length ls)) c.as_slice-lines.ensures.value c.by_rows.ensures.work in
     survey_counted before c.args.base c.args.old.now lines (edit_of c.args.edit.now) c.before-before.ensures.base c.before-before.ensures.lines c.before-before.ensures.edit c.requires.edited
     (count c.args.counter.now) (count c.shapes.new.counter) (count c.shapes.new.counter + operands_through equ_operands (program_of lines) (length lines)) (count c.by_rows.new.counter) shaped (omega arith) rest
@@ -94,3 +117,15 @@ returns-in_err-locals-clause-encoded g c = c.shapes.ensures.encoded
 
 pub returns-clause-encoded : goal.returns-clause-encoded
 returns-clause-encoded g c = c.by_rows.ensures.encoded ∙ c.shapes.ensures.encoded
+
+pub shapes-requires-clause-shape : goal.shapes-requires-clause-shape
+shapes-requires-clause-shape g c =
+    let before = c.before-before.ensures in
+    subst (λ ls. IsNewShape ls (edit_on c.before-before.result) c.args.shape) (sym before.lines)
+    (subst (λ e. IsNewShape c.args.old.now e c.args.shape) (sym before.edit) c.requires.shape)
+
+pub parted_shapes-parted-requires-clause-place : goal.parted_shapes-parted-requires-clause-place
+parted_shapes-parted-requires-clause-place g c =
+    let lines = c.args.old.now in
+    let count = ap length c.deref-3.ensures.value ∙ length_of_shapes lines c.args.self.now.shapes.items c.requires.old.shapes in
+    (lines, sym count, has_place lines (edit_of c.args.edit.now) c.requires.allowed)
