@@ -8,9 +8,10 @@ use Rattle.rv_text.specs.Streams.{after, WritesPrefix}
 use Rattle.rv_text.specs.StreamLaws.{after_after, prefix_within}
 use Rattle.rv_list.specs.Joined.{joined}
 use Rattle.rv_list.specs.Shown.{Shown, ShownLine}
-use Rattle.rv_report.specs.declared.reports.Style.{Style}
-use Rattle.rv_report.specs.Origins.{Source}
-use Rattle.rv_report.specs.Reports.{last_rows, warning_report_of}
+use Rattle.rv_show.specs.declared.page.Style.{Style}
+use Rattle.rv_show.specs.Origins.{Source}
+use Rattle.rv_show.specs.Totals.{last_rows}
+use Rattle.rv_report.specs.Reports.{warning_report_of}
 use Rattle.rv_report.specs.Warnings.{Warning, warning_of}
 use Rattle.rv_store.specs.Shown.{shown_of}
 use Rattle.rv_store.specs.Text.{Text}

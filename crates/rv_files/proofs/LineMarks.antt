@@ -2,7 +2,7 @@
 use Rattle.std.proofs.Common.{◌≡◌, ℕ, zero, suc, ◌+◌, ◌-◌, ◌==◌, ◌≤◌, Bool, true, false, cond, List, [], ◌∷◌, ◌++◌, length, take, drop, slice_get, Some, None, if◌then◌else◌, refl, ap, sym, ◌∙◌, arith, append_assoc}
 use Rattle.std.proofs.lemmas.List.Sums.{take_while-cons}
 use Rattle.std.specs.List.{take_while}
-use Rattle.rv_report.specs.Origins.{Mark}
+use Rattle.rv_show.specs.Origins.{Mark}
 use Rattle.rv_files.specs.declared.marks.Part.{Part}
 use Rattle.rv_files.specs.LineMarks.{behind, is_in, mark_on, marks_from}
 

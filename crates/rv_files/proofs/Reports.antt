@@ -6,8 +6,8 @@ use Rattle.std.proofs.lemmas.List.Folds.{flat_map-map}
 use Rattle.std.specs.List.{concat, flat_map}
 use Rattle.rv_fix.specs.Values.{Entry, operand_values_of}
 use Rattle.rv_list.specs.Shown.{ShownLine}
-use Rattle.rv_report.specs.declared.reports.Style.{Style}
-use Rattle.rv_report.specs.Origins.{Source}
+use Rattle.rv_show.specs.declared.page.Style.{Style}
+use Rattle.rv_show.specs.Origins.{Source}
 use Rattle.rv_report.specs.Reports.{report_of}
 use Rattle.rv_store.specs.LinesOfTexts.{LineOfText, names_from}
 use Rattle.rv_store.specs.Shown.{shown_of}

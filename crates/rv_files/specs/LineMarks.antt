@@ -3,7 +3,7 @@ use Rattle.std.specs.Prelude.{ℕ, ◌+◌, ◌^◌, ◌==◌, nat_lt, Bool, not
 use Rattle.std.specs.Char.{is_ascii_digit}
 use Rattle.std.specs.List.{take_while}
 use Rattle.rv_text.specs.Numbers.{digits_number}
-use Rattle.rv_report.specs.Origins.{Mark}
+use Rattle.rv_show.specs.Origins.{Mark}
 use Rattle.rv_files.specs.declared.marks.Part.{Part}
 use Rattle.rv_files.specs.declared.marks.Part.TheVariants.{Blanks, Digits, Name}
 

@@ -5,10 +5,11 @@ use Rattle.std.specs.List.{concat}
 use Rattle.rv_fix.specs.Values.{operand_values_of}
 use Rattle.rv_list.specs.Faults.{fault_rows}
 use Rattle.rv_list.specs.Shown.{Shown, ShownLine, from_lines}
-use Rattle.rv_report.specs.declared.reports.Style.{Style}
+use Rattle.rv_show.specs.declared.page.Style.{Style}
+use Rattle.rv_show.specs.Origins.{Source}
+use Rattle.rv_show.specs.Totals.{last_rows}
 use Rattle.rv_report.specs.Lines.{Line}
-use Rattle.rv_report.specs.Origins.{Source}
-use Rattle.rv_report.specs.Reports.{last_rows, report_of, warning_report_of}
+use Rattle.rv_report.specs.Reports.{report_of, warning_report_of}
 use Rattle.rv_report.specs.Warnings.{Warning, warning_of}
 use Rattle.rv_store.specs.LinesOfTexts.{names_from}
 use Rattle.rv_store.specs.Shown.{shown_of}

@@ -2,10 +2,10 @@
 
 ghost use Rattle.std.specs.Prelude.{◌≡◌, ◌≤◌, ◌++◌, length, map, option_map, IfOk, OnOk};
 ghost use Rattle.std.specs.List.{take_while};
-ghost use Rattle.rv_report.specs.Origins.{mark_of};
+ghost use Rattle.rv_show.specs.Origins.{mark_of};
 ghost use Rattle.rv_files.specs.LineMarks.{behind, is_in, line_number, mark_in, mark_on, marks_from, quoted_name};
 
-use rv_report::LineMark;
+use rv_show::LineMark;
 use rv_store::Store;
 use rv_text::digits;
 use std::alloc::{AllocError, Global};

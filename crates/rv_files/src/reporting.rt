@@ -3,9 +3,10 @@
 ghost use Rattle.std.specs.Prelude.{◌≡◌, ◌+◌, ◌-◌, ◌^◌, ◌<◌, ◌≤◌, ◌++◌, length, map, take, Some, IfOk, OnOk};
 ghost use Rattle.std.specs.List.{concat, flat_map};
 ghost use Rattle.rv_list.specs.Shown.{shown_line};
+ghost use Rattle.rv_show.specs.Origins.{source_of};
+ghost use Rattle.rv_show.specs.Totals.{last_rows};
 ghost use Rattle.rv_report.specs.Lines.{line_of};
-ghost use Rattle.rv_report.specs.Origins.{source_of};
-ghost use Rattle.rv_report.specs.Reports.{last_rows, report_of, warning_report_of};
+ghost use Rattle.rv_report.specs.Reports.{report_of, warning_report_of};
 ghost use Rattle.rv_report.specs.Warnings.{warning_seen};
 ghost use Rattle.rv_store.specs.LinesOfTexts.{names_from};
 ghost use Rattle.rv_store.specs.Shown.{shown_of};
@@ -22,9 +23,8 @@ use arrayvec::ArrayVec;
 use rv_expr::Names;
 use rv_fix::operand_values;
 use rv_list::{LineSource, LineView, MAX_FAULTS, View};
-use rv_report::{
-    FaultyLine, Page, Warning, find_warning, push_report_count, report, report_warning,
-};
+use rv_report::{FaultyLine, Warning, find_warning, report, report_warning};
+use rv_show::{Page, push_report_count};
 use rv_store::Store;
 use rv_text::{Sink, Tally, write_all};
 use std::alloc::{AllocError, Global};

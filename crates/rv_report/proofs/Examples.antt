@@ -22,55 +22,26 @@ use Rattle.rv_stmt.specs.Registers.{set_named, set_names}
 use Rattle.rv_stmt.specs.Sections.{section_named, section_names}
 use Rattle.rv_stmt.specs.Statement.{statement_of}
 use Rattle.rv_stmt.specs.Values.{modifier_named, modifier_names}
-use Rattle.rv_report.specs.declared.reports.Style.TheVariants.{Plain, Colored}
+use Rattle.rv_show.specs.declared.page.Style.TheVariants.{Plain, Colored}
+use Rattle.rv_show.specs.Numbers.{hexadecimal}
+use Rattle.rv_show.specs.Rows.{line_row, margin, mark, mark_row, message_row, painted, rendition, shown_line}
+use Rattle.rv_show.specs.Suggestions.{did_you_mean, suggestions}
+use Rattle.rv_show.specs.Texts.{about, quoted, quoted_from}
+use Rattle.rv_show.specs.Totals.{amount_of}
 use Rattle.rv_report.specs.Advice.{advice}
 use Rattle.rv_report.specs.Bounds.{from_to, gap_text, limits_text}
-use Rattle.rv_report.specs.Characters.{column_of, excerpt}
 use Rattle.rv_report.specs.Counts.{numbers_text, some_numbers}
 use Rattle.rv_report.specs.Csrs.{counter_number, its_number, standard_number, unknown_csr}
 use Rattle.rv_report.specs.LexicalMessages.{bad_byte, bad_number, bad_string, number_wrong}
 use Rattle.rv_report.specs.Lines.{Line}
 use Rattle.rv_report.specs.Messages.{operand_count, register_range, undefined_near, later_equ, line_of_equ, faulty_equ_of, later_line, not_constant, no_partner, beyond_reach, out_of_range, not_multiple, odd_distance, odd_address, message_of}
-use Rattle.rv_report.specs.Numbers.{hexadecimal}
 use Rattle.rv_report.specs.OperandMessages.{comment_help, expected, missing_comma, no_operand, no_register, no_statement, parentheses_of, separation_of}
-use Rattle.rv_report.specs.Reports.{amount_of, both_counts, first_shown, last_row, last_rows, line_row, margin, mark, mark_row, message_row, note_at, odd_note_at, odd_note_by, painted, rendition, report_of, shown_line, warning_report_of}
-use Rattle.rv_report.specs.Suggestions.{did_you_mean, suggestions}
-use Rattle.rv_report.specs.Texts.{about, quoted, quoted_from}
+use Rattle.rv_report.specs.Reports.{note_at, odd_note_at, odd_note_by, report_of, warning_report_of}
 use Rattle.rv_report.specs.UnknownNames.{missing_colon, replacement, unknown_name}
 use Rattle.rv_report.specs.Wanted.{register_given}
 use Rattle.rv_report.specs.Warnings.{warning_message}
 
--- Characters
-
-tab_shown : shown_line (9 ∷ codes "adi a0,\ta0  ") ≡ codes "        adi a0, a0"
-unfolding shown_line
-tab_shown = refl
-
--- a quotation mark of three bytes, a byte that is part of no character, and the control character U+009B
-others_shown : shown_line (0xE2 ∷ 0x80 ∷ 0x9C ∷ 0xE2 ∷ 0x80 ∷ 97 ∷ 0xC2 ∷ 0x9B ∷ 1 ∷ []) ≡ 0xE2 ∷ 0x80 ∷ 0x9C ∷ codes "..a..."
-unfolding shown_line
-others_shown = refl
-
--- U+202E and U+061C
-turning_shown : shown_line (0xE2 ∷ 0x80 ∷ 0xAE ∷ 97 ∷ 0xD8 ∷ 0x9C ∷ []) ≡ codes "...a.."
-unfolding shown_line
-turning_shown = refl
-
-columns : column_of (9 ∷ 0xE2 ∷ 0x80 ∷ 0x9C ∷ 97 ∷ []) 1 ∷ column_of (9 ∷ 0xE2 ∷ 0x80 ∷ 0x9C ∷ 97 ∷ []) 2 ∷ column_of (9 ∷ 0xE2 ∷ 0x80 ∷ 0x9C ∷ 97 ∷ []) 4 ∷ column_of (codes "ab") 7 ∷ [] ≡ 8 ∷ 9 ∷ 9 ∷ 2 ∷ []
-columns = refl
-
-long_excerpt : excerpt (codes "0123456789012345678901234567890123456789a") ≡ codes "0123456789012345678901234567890123456789..."
-long_excerpt = refl
-
--- Suggestions
-
-near_lop : did_you_mean 0 (suggestions (codes "lop") (codes "lop1" ∷ codes "stop" ∷ codes "loop" ∷ [])) ≡ codes "; did you mean 'lop1' or 'loop'?"
-unfolding did_you_mean suggestions rows next_row cost_at
-near_lop = refl
-
-near_none : did_you_mean 0 (suggestions (codes "x") (codes "abc" ∷ [])) ≡ []
-unfolding did_you_mean suggestions rows next_row cost_at
-near_none = refl
+-- Names
 
 long_names : undefined_near (codes "configuration_of_the_serial_interface_number_1") (codes "configuration_of_the_serial_interface_number_12" ∷ codes "configuration_of_the_serial_interface_number_7" ∷ []) ≡ codes "'...ce_number_1' is not defined; did you mean '...ce_number_12' or '...ce_number_7'?"
 unfolding undefined_near quoted_from did_you_mean
@@ -256,7 +227,3 @@ a_warning = refl
 odd_notes : odd_note_by fault.OddAddress (record { file = codes "b.s"; line = 2 }) 1 ∷ odd_note_by fault.OddAddress (record { file = codes "b.s"; line = 2 }) 12 ∷ odd_note_by fault.OddAddress (record { file = codes "b.s"; line = 2 }) 0 ∷ odd_note_by fault.InBss (record { file = codes "b.s"; line = 2 }) 12 ∷ [] ≡ codes "b.s:2: note: and 1 more instruction after it, for the same reason\n" ∷ codes "b.s:2: note: and 12 more instructions after it, for the same reason\n" ∷ [] ∷ [] ∷ []
 unfolding odd_note_at amount_of digits
 odd_notes = refl
-
-last_counts : last_rows (codes "b.s") 0 0 0 1000 ∷ last_rows (codes "b.s") 1 0 1 1000 ∷ last_rows (codes "b.s") 2 1 3 3 ∷ last_rows (codes "b.s") 0 2 2 1000 ∷ last_rows (codes "b.s") 5000 0 1000 1000 ∷ last_rows (codes "b.s") 5000 0 1001 1000 ∷ [] ≡ [] ∷ codes "b.s: 1 fault\n" ∷ codes "b.s: 2 faults, 1 warning\n" ∷ codes "b.s: 2 warnings\n" ∷ codes "b.s: 5000 faults\n" ∷ codes "b.s: 5000 faults; the first 1000 reports are shown, --all shows all\n" ∷ []
-unfolding last_row both_counts amount_of first_shown digits
-last_counts = refl

@@ -1,8 +1,3 @@
-pub mod Columns
-pub mod Distances
 mod Examples
-pub mod HexadecimalDigits
-pub mod Joining
-pub mod LastMarks
 pub mod RangeLimits
 pub mod Strings

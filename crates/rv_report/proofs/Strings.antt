@@ -1,11 +1,12 @@
 -- The places of a string, byte by byte.
-use Rattle.std.proofs.Common.{◌≡◌, ℕ, zero, suc, ◌+◌, ◌-◌, ◌<◌, ◌==◌, Bool, true, false, List, [], ◌∷◌, length, drop, get_or, add-zero, ap, sym, ◌∙◌, refl, arith}
+use Rattle.std.proofs.Common.{◌≡◌, ℕ, zero, suc, ◌+◌, ◌-◌, ◌<◌, ◌≤◌, ◌==◌, Bool, true, false, List, [], ◌∷◌, length, take, drop, get_or, add-zero, ap, sym, ◌∙◌, refl, arith}
 use Rattle.std.proofs.lemmas.Bool.{lt-ltb}
 use Rattle.std.proofs.lemmas.Bool.Decides.{nat_tests}
 use Rattle.std.proofs.lemmas.List.{drop-drop, get_or-drop, length-drop}
 use Rattle.std.specs.Prelude.{◌&&◌, not, nat_lt, Option, Some, None, option_map, if◌then◌else◌}
 use Rattle.std.specs.Option.{option_map_or}
 use Rattle.rv_text.specs.declared.strings.Spelling.{Spelling}
+use Rattle.rv_text.specs.SliceLaws.{rest_of}
 use Rattle.rv_text.specs.Strings.{escaped_at, spelled}
 use Rattle.rv_report.specs.LexicalMessages.{unspelled_after}
 
@@ -61,3 +62,8 @@ next_place text at next e l =
     let sum : at + (next - at) ≡ next = omega (arith, l) in
     let rest : drop (next - at) (drop at text) ≡ drop next text = drop-drop (next - at) at text ∙ ap (λ n. drop n text) sum in
     sym (next_stop (get_or text 0 0) at next (drop at text) h l ∙ ap (unspelled_after (get_or text 0 0) 0) rest)
+
+-- the bytes behind the first
+pub length_of_rest : (bs : List ℕ) → 1 ≤ length bs → length (take (length bs - 1) (drop 1 bs)) + 1 ≡ length bs
+length_of_rest [] l = absurd (omega (arith, l))
+length_of_rest (b ∷ bs) l = let same = ap length (rest_of b bs) in omega (arith, same)

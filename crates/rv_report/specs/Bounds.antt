@@ -10,9 +10,9 @@ use Rattle.rv_stmt.specs.declared.operand.Role.{Role}
 use Rattle.rv_stmt.specs.declared.operand.Role.TheVariants.{Immediate, SourceImmediate, Target, PairTarget, Constant, Data, Size, FillByte, Alignment, Definition}
 use Rattle.rv_stmt.specs.declared.statement.Body.{Body}
 use Rattle.rv_stmt.specs.declared.statement.Body.TheVariants.{Instr, Pseudo}
-use Rattle.rv_report.specs.declared.numbers.Notation.{Notation}
-use Rattle.rv_report.specs.declared.numbers.Notation.TheVariants.{Decimal, Hexadecimal}
-use Rattle.rv_report.specs.Numbers.{number_text}
+use Rattle.rv_show.specs.declared.numbers.Notation.{Notation}
+use Rattle.rv_show.specs.declared.numbers.Notation.TheVariants.{Decimal, Hexadecimal}
+use Rattle.rv_show.specs.Numbers.{number_text}
 
 -- all values from one to another
 abbrev pub between : ℤ → ℤ → Limits

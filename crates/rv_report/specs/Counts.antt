@@ -10,8 +10,8 @@ use Rattle.rv_stmt.specs.Forms.{form_of}
 use Rattle.rv_stmt.specs.OperandCounts.{takes}
 use Rattle.rv_stmt.specs.Runs.{runs_of}
 use Rattle.rv_stmt.specs.Statement.{is_directive_name}
+use Rattle.rv_show.specs.Texts.{alternatives}
 use Rattle.rv_report.specs.declared.counts.TheConstants.{NUMERALS}
-use Rattle.rv_report.specs.Texts.{alternatives}
 
 abbrev pub directive_takes : Option DirectiveForm → ℕ → Bool
 directive_takes None count = false

@@ -3,10 +3,10 @@ use Rattle.std.specs.Prelude.{ℕ, ◌/◌, ◌%◌, List, [], ◌∷◌, ◌++�
 use Rattle.std.specs.Char.{to_ascii_lowercase}
 use Rattle.rv_ops.specs.declared.csrs.TheConstants.{CSRS}
 use Rattle.rv_ops.specs.Names.{first_named}
+use Rattle.rv_show.specs.Digits.{upper_digit, upper_hex}
+use Rattle.rv_show.specs.Suggestions.{did_you_mean, suggestions}
+use Rattle.rv_show.specs.Texts.{about}
 use Rattle.rv_report.specs.declared.advice_tables.TheConstants.{COUNTER_NUMBERS, CSR_NUMBERS}
-use Rattle.rv_report.specs.Digits.{upper_digit, upper_hex}
-use Rattle.rv_report.specs.Suggestions.{did_you_mean, suggestions}
-use Rattle.rv_report.specs.Texts.{about}
 
 -- the names that there are, in the order of their table
 unfoldable pub csr_list : List (List ℕ)

@@ -4,11 +4,11 @@ use Rattle.std.specs.Char.{is_digit}
 use Rattle.std.specs.List.{prefix_len}
 use Rattle.std.specs.Option.{option_map_or}
 use Rattle.rv_text.specs.Strings.{spelled}
+use Rattle.rv_show.specs.Characters.{size_of_first}
+use Rattle.rv_show.specs.Digits.{upper_hex}
+use Rattle.rv_show.specs.Texts.{about}
 use Rattle.rv_report.specs.declared.advice.Topic.TheVariants.{Character}
 use Rattle.rv_report.specs.Advice.{advice}
-use Rattle.rv_report.specs.Characters.{size_of_first}
-use Rattle.rv_report.specs.Digits.{upper_hex}
-use Rattle.rv_report.specs.Texts.{about}
 
 -- Bytes
 

@@ -1,10 +1,10 @@
--- A line with a fault, and parts of it.
-use Rattle.std.specs.Prelude.{ℕ, ◌-◌, ◌*◌, List, [], take, drop, map, Option, Some, None, slice_get}
-use Rattle.rv_text.specs.declared.lexeme.Span.{Span}
+-- A line with a fault, and the words of it.
+use Rattle.std.specs.Prelude.{ℕ, ◌*◌, List, [], map, Option, Some, None, slice_get}
 use Rattle.rv_text.specs.declared.lexeme.Token.{Token}
 use Rattle.rv_text.specs.Lexing.{LexedLine}
 use Rattle.rv_stmt.specs.declared.statement.Stmt.{Stmt}
 use Rattle.rv_fix.specs.Values.{Entry}
+use Rattle.rv_show.specs.Parts.{part}
 use Rattle.rv_report.specs.declared.faulty_line.FaultyLine.{FaultyLine}
 
 -- a line: its number, its bytes, its statement, its address, the values of its operands, and the symbols of its text
@@ -26,10 +26,6 @@ line_of line = record {
   values = line.values.now;
   symbols = map (λ s. s.now) line.symbols.now;
 }
-
--- the bytes of a line that a span covers
-abbrev pub part : List ℕ → Span → List ℕ
-part line span = take (span.to - span.from) (drop span.from line)
 
 abbrev pub part_of_token : List ℕ → Option Token → List ℕ
 part_of_token line None = []

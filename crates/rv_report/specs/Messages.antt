@@ -24,9 +24,13 @@ use Rattle.rv_stmt.specs.Statement.{operands_of}
 use Rattle.rv_list.specs.declared.view.DefinitionPlace.{DefinitionPlace}
 use Rattle.rv_list.specs.declared.view.DefinitionPlace.TheVariants.{Nowhere, Label, Equ}
 use Rattle.rv_list.specs.Shown.{Shown}
+use Rattle.rv_show.specs.declared.numbers.Notation.{Notation}
+use Rattle.rv_show.specs.declared.numbers.Notation.TheVariants.{Decimal}
+use Rattle.rv_show.specs.Numbers.{number_text}
+use Rattle.rv_show.specs.Parts.{part}
+use Rattle.rv_show.specs.Suggestions.{did_you_mean, place_shown, suggestions}
+use Rattle.rv_show.specs.Texts.{about, quoted, quoted_from}
 use Rattle.rv_report.specs.declared.advice.Topic.TheVariants.{LabelGiven, RangeExceeded}
-use Rattle.rv_report.specs.declared.numbers.Notation.{Notation}
-use Rattle.rv_report.specs.declared.numbers.Notation.TheVariants.{Decimal}
 use Rattle.rv_report.specs.declared.wanted.Wanted.{Wanted}
 use Rattle.rv_report.specs.declared.wanted.Wanted.TheVariants.{Number, Csr}
 use Rattle.rv_report.specs.Advice.{advice}
@@ -35,12 +39,9 @@ use Rattle.rv_report.specs.Counts.{numbers_text, operands_standing}
 use Rattle.rv_report.specs.Csrs.{unknown_csr}
 use Rattle.rv_report.specs.FaultyNames.{faulty_name_of, low_label_of, name_text}
 use Rattle.rv_report.specs.LexicalMessages.{bad_byte, bad_number, bad_string}
-use Rattle.rv_report.specs.Lines.{Line, part, name_after, word_at}
-use Rattle.rv_report.specs.Numbers.{number_text}
+use Rattle.rv_report.specs.Lines.{Line, name_after, word_at}
 use Rattle.rv_report.specs.OperandMessages.{bad_operand, bad_register, no_statement, separation_of}
 use Rattle.rv_report.specs.Operands.{operand_at, value_at}
-use Rattle.rv_report.specs.Suggestions.{did_you_mean, place_shown, suggestions}
-use Rattle.rv_report.specs.Texts.{about, quoted, quoted_from}
 use Rattle.rv_report.specs.UnknownNames.{unknown_name}
 use Rattle.rv_report.specs.Wanted.{register_given, wanted_of}
 

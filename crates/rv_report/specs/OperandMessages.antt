@@ -6,10 +6,10 @@ use Rattle.rv_text.specs.declared.lexeme.Token.{Token}
 use Rattle.rv_text.specs.Lexing.{lexed_line}
 use Rattle.rv_ops.specs.Registers.{register_named}
 use Rattle.rv_stmt.specs.Tokens.{is_punctuation_kind}
+use Rattle.rv_show.specs.Parts.{part}
+use Rattle.rv_show.specs.Texts.{about}
 use Rattle.rv_report.specs.declared.advice.Topic.TheVariants.{NameGiven, NumberGiven, OperandGiven, RegisterLetter}
 use Rattle.rv_report.specs.Advice.{advice}
-use Rattle.rv_report.specs.Lines.{part}
-use Rattle.rv_report.specs.Texts.{about}
 
 -- What stands between the words of an operand
 

@@ -6,12 +6,12 @@ use Rattle.rv_text.specs.declared.faults.FaultNumber.TheVariants.{UnknownName}
 use Rattle.rv_stmt.specs.Directives.{directive_named}
 use Rattle.rv_stmt.specs.Forms.{Form, form_of}
 use Rattle.rv_stmt.specs.Statement.{is_directive_name}
+use Rattle.rv_show.specs.Characters.{excerpt}
+use Rattle.rv_show.specs.Suggestions.{did_you_mean, suggestions}
+use Rattle.rv_show.specs.Texts.{quoted}
 use Rattle.rv_report.specs.declared.advice.Topic.TheVariants.{OtherDirective, OtherMnemonic, Rv64Mnemonic}
 use Rattle.rv_report.specs.Advice.{advice}
-use Rattle.rv_report.specs.Characters.{excerpt}
 use Rattle.rv_report.specs.LanguageNames.{names_like}
-use Rattle.rv_report.specs.Suggestions.{did_you_mean, suggestions}
-use Rattle.rv_report.specs.Texts.{quoted}
 
 abbrev pub is_known : Result Form FaultNumber → Bool
 is_known (Ok form) = true

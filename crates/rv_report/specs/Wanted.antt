@@ -8,11 +8,11 @@ use Rattle.rv_stmt.specs.declared.operand.Role.{Role}
 use Rattle.rv_stmt.specs.declared.operand.Role.TheVariants.{Immediate, Target, PairTarget}
 use Rattle.rv_stmt.specs.declared.statement.Body.{Body}
 use Rattle.rv_stmt.specs.declared.statement.Body.TheVariants.{Instr, Pseudo}
+use Rattle.rv_show.specs.Texts.{about}
 use Rattle.rv_report.specs.declared.advice.Topic.TheVariants.{RegisterGiven}
 use Rattle.rv_report.specs.declared.wanted.Wanted.{Wanted}
 use Rattle.rv_report.specs.declared.wanted.Wanted.TheVariants.{Number, Address, Csr}
 use Rattle.rv_report.specs.Advice.{advice}
-use Rattle.rv_report.specs.Texts.{about}
 
 -- the value is the number of a control and status register
 abbrev pub is_csr_shape : Shape → Bool

@@ -13,8 +13,8 @@ use Rattle.rv_stmt.specs.Statement.{operands_of}
 use Rattle.rv_list.specs.declared.view.DefinitionPlace.{DefinitionPlace}
 use Rattle.rv_list.specs.declared.view.DefinitionPlace.TheVariants.{Label}
 use Rattle.rv_list.specs.Shown.{Shown}
+use Rattle.rv_show.specs.Texts.{about}
 use Rattle.rv_report.specs.declared.warnings.Warning.{Warning as Borrowed}
-use Rattle.rv_report.specs.Texts.{about}
 use Rattle.rv_report.specs.Wanted.{takes_csr}
 
 -- a label that gives the number of a register, and the operand that uses it

@@ -4,9 +4,8 @@ ghost use Rattle.std.specs.Prelude.{◌≡◌, ◌++◌, OnOk};
 ghost use Rattle.rv_ops.specs.Table.{shape_of};
 ghost use Rattle.rv_report.specs.Bounds.{between, from_to, gap_text, limits_in, limits_of_body, limits_text, notation_in, notation_of, notation_of_body, word};
 
-use crate::numbers::{Notation, push_number_in};
-use crate::text::Text;
 use rv_ops::{Limits, Op, Shape, limits, shape};
+use rv_show::{Notation, Text, push_number_in};
 use rv_stmt::{AlignmentUnit, Body, DataWidth, Role};
 use std::alloc::AllocError;
 

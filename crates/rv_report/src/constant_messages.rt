@@ -1,20 +1,21 @@
 //! The messages of operands that have to be constants, and are none.
 
 ghost use Rattle.std.specs.Prelude.{◌≡◌, ◌≤◌, ◌++◌, length, map, option_map, OnOk};
+ghost use Rattle.rv_show.specs.Parts.{part};
 ghost use Rattle.rv_report.specs.FaultyNames.{faulty_name_of, name_used};
-ghost use Rattle.rv_report.specs.Lines.{line_of, part};
+ghost use Rattle.rv_report.specs.Lines.{line_of};
 ghost use Rattle.rv_report.specs.Messages.{constant_help, is_local_label, is_local_name, is_local_value, later_line, name_not_constant, name_of_statement, not_constant, operand_not_constant, operand_of_line, place_help, symbol_not_constant, undefined_constant, why_not_constant};
 
 use crate::advice::{Topic, advice};
-use crate::faulty_line::{FaultyLine, operand_in, part};
+use crate::faulty_line::{FaultyLine, operand_in};
 use crate::faulty_names::UsedName;
 use crate::name_messages::{faulty_name_at, push_undefined_name};
 use crate::statement_words::name_of_statement;
-use crate::text::Text;
 use crate::wanted::{Wanted, push_register_given};
 use rv_expr::{Expr, Names, Node};
 use rv_list::{DefinitionPlace, View};
 use rv_ops::reg_by_name;
+use rv_show::{Text, part};
 use rv_stmt::{Operand, OperandValue};
 use rv_text::Span;
 use std::alloc::{AllocError, Global};

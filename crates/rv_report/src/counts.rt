@@ -4,7 +4,7 @@ ghost use Rattle.std.specs.Prelude.{◌≡◌, ◌++◌, map, IfOk, OnOk};
 ghost use Rattle.rv_stmt.specs.Statement.{is_directive_name};
 ghost use Rattle.rv_report.specs.Counts.{by_count, name_takes, numbers_taken, numbers_text, operands_text, some_numbers};
 
-use crate::text::{Text, push_alternatives};
+use rv_show::{Text, push_alternatives};
 use rv_stmt::{OperandCount, directive_named, form_of};
 use std::alloc::{AllocError, Global};
 

@@ -4,9 +4,8 @@ ghost use Rattle.std.specs.Prelude.{◌≡◌, ◌++◌, map, IfOk, OnOk};
 ghost use Rattle.rv_report.specs.Csrs.{counter_number, csr_help, csr_list, its_number, near_csrs, standard_number, unknown_csr};
 
 use crate::advice_tables::{COUNTER_NUMBERS, CSR_NUMBERS};
-use crate::suggestions::push_did_you_mean;
-use crate::text::{Text, upper_digit};
 use rv_ops::{CSRS, first_named};
+use rv_show::{Text, push_did_you_mean, upper_digit};
 use std::alloc::{AllocError, Global};
 
 // The names of some rows.

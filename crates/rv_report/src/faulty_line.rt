@@ -1,11 +1,12 @@
 //! A line with a fault.
 
-ghost use Rattle.std.specs.Prelude.{◌≡◌, drop, take, slice_index, option_map};
-ghost use Rattle.rv_report.specs.Lines.{line_of, part, word_at};
+ghost use Rattle.std.specs.Prelude.{◌≡◌, option_map};
+ghost use Rattle.rv_report.specs.Lines.{line_of, word_at};
 ghost use Rattle.rv_report.specs.Messages.{operand_of_line, value_of_line};
 
 use crate::operands::{operand_at, value_at};
 use rv_fix::Values;
+use rv_show::part;
 use rv_stmt::{Operand, Stmt};
 use rv_text::{Span, Tokens};
 
@@ -22,42 +23,6 @@ pub struct FaultyLine<'a> {
     pub values: &'a Values,
     /// The symbols of the text, each once.
     pub symbols: &'a [&'a [u8]],
-}
-
-/// The bytes of a line that a span covers.
-pub fn part(line: &[u8], span: Span) -> &[u8]
-    ensures { result.now ≡ part line.now span }
-{
-    let (_, rest) = line.split_at(line.len().min(span.from as usize));
-    let size = span.to.saturating_sub(span.from) as usize;
-    let (part, _) = rest.split_at(rest.len().min(size));
-    part
-}
-
-/// The first bytes of some, as many as that if there are.
-pub fn first_bytes(bytes: &[u8], count: usize) -> &[u8]
-    ensures { result.now ≡ take count bytes.now }
-{
-    let (first, _) = bytes.split_at(bytes.len().min(count));
-    first
-}
-
-/// The bytes from a place on.
-pub fn bytes_from(bytes: &[u8], place: usize) -> &[u8]
-    ensures { result.now ≡ drop place bytes.now }
-{
-    let (_, rest) = bytes.split_at(bytes.len().min(place));
-    rest
-}
-
-/// The byte of a line at a place, and 0 behind its end.
-pub fn byte_at(line: &[u8], place: u32) -> u8
-    ensures { result ≡ slice_index line.now place }
-{
-    match line.get(place as usize) {
-        Some(byte) => *byte,
-        None => 0,
-    }
 }
 
 /// A word of a line, by its number among the tokens.

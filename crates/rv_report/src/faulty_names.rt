@@ -3,8 +3,8 @@
 ghost use Rattle.std.specs.Prelude.{◌≡◌, ◌++◌, option_map, OnOk};
 ghost use Rattle.rv_report.specs.FaultyNames.{direction_text, faulty_label, faulty_name, faulty_name_of, faulty_name_of_value, low_label_of, low_label_of_value, name_text, name_used};
 
-use crate::text::Text;
 use rv_expr::{Direction, Expr, LabelReference, Names, Node};
+use rv_show::Text;
 use rv_stmt::{Operand, OperandValue};
 use std::alloc::AllocError;
 

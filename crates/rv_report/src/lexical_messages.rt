@@ -6,9 +6,7 @@ ghost use Rattle.rv_text.specs.Strings.{escaped_at};
 ghost use Rattle.rv_report.specs.LexicalMessages.{bad_byte, bad_number, bad_string, base_of, byte_help, digits_of, from_first_wrong, no_digit, number_help, number_wrong, unspelled, string_stopped};
 
 use crate::advice::{Topic, advice};
-use crate::characters::size_of_first;
-use crate::faulty_line::{byte_at, bytes_from, first_bytes};
-use crate::text::Text;
+use rv_show::{Text, byte_at, bytes_from, first_bytes, size_of_first};
 use rv_text::escaped;
 use std::alloc::AllocError;
 

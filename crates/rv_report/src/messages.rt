@@ -1,21 +1,22 @@
 //! The message of each fault.
 
 ghost use Rattle.std.specs.Prelude.{◌≡◌, ◌≤◌, ◌++◌, length, OnOk, OnErr};
-ghost use Rattle.rv_report.specs.Lines.{line_of, part};
+ghost use Rattle.rv_show.specs.Parts.{part};
+ghost use Rattle.rv_show.specs.Texts.{about};
+ghost use Rattle.rv_report.specs.Lines.{line_of};
 ghost use Rattle.rv_report.specs.Messages.{message_of};
-ghost use Rattle.rv_report.specs.Texts.{about};
 
 use crate::constant_messages::push_not_constant;
-use crate::faulty_line::{FaultyLine, part};
+use crate::faulty_line::FaultyLine;
 use crate::lexical_messages::{push_bad_byte_at, push_bad_number, push_bad_string};
 use crate::name_messages::{push_faulty_equ, push_later_equ, push_no_partner, push_undefined};
 use crate::operand_messages::{push_bad_operand, push_bad_register, push_no_statement};
 use crate::statement_messages::{push_operand_count, push_register_range};
-use crate::text::Text;
 use crate::unknown_names::push_unknown_name;
 use crate::value_messages::{push_multiple, push_odd_address, push_range_and_help};
 use rv_expr::Names;
 use rv_list::View;
+use rv_show::{Text, part};
 use rv_text::{Fault, FaultNumber, Span};
 use std::alloc::{AllocError, Global};
 

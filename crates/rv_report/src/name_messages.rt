@@ -1,21 +1,21 @@
 //! The messages of names without a value.
 
 ghost use Rattle.std.specs.Prelude.{◌≡◌, ◌≤◌, ◌++◌, length, map, option_map, take, IfOk, OnOk};
+ghost use Rattle.rv_show.specs.Parts.{part};
 ghost use Rattle.rv_report.specs.FaultyNames.{faulty_name_of, low_label_of, name_text, name_used};
-ghost use Rattle.rv_report.specs.Lines.{line_of, part};
+ghost use Rattle.rv_report.specs.Lines.{line_of};
 ghost use Rattle.rv_report.specs.Messages.{faulty_equ, faulty_equ_of, later_equ, line_of_equ, name_of_statement, name_or, no_partner, near_symbols, operand_of_line, undefined, undefined_as, undefined_name, undefined_near, undefined_symbol};
 ghost use Rattle.rv_report.specs.Wanted.{wanted_of};
 
 use crate::csr_messages::push_unknown_csr;
-use crate::faulty_line::{FaultyLine, operand_in, part};
+use crate::faulty_line::{FaultyLine, operand_in};
 use crate::faulty_names::{UsedName, faulty_name_of, low_label_of, push_name};
 use crate::statement_words::name_of_statement;
-use crate::suggestions::{first_few, place_shown, push_question, suggestions};
-use crate::text::Text;
 use crate::wanted::{Wanted, push_register_given, wanted_at};
 use rv_expr::Names;
 use rv_list::{DefinitionPlace, View};
 use rv_ops::reg_by_name;
+use rv_show::{Text, first_few, part, place_shown, push_question, suggestions};
 use rv_text::Span;
 use std::alloc::{AllocError, Global};
 

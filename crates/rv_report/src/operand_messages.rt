@@ -2,16 +2,17 @@
 
 ghost use Rattle.std.specs.Prelude.{◌≡◌, ◌≤◌, ◌++◌, bytes_eq, drop, length, IfOk, OnOk};
 ghost use Rattle.rv_stmt.specs.Tokens.{is_punctuation_kind};
-ghost use Rattle.rv_report.specs.Lines.{line_of, part};
+ghost use Rattle.rv_show.specs.Parts.{part};
+ghost use Rattle.rv_report.specs.Lines.{line_of};
 ghost use Rattle.rv_report.specs.Messages.{name_of_statement, word_after_name};
 ghost use Rattle.rv_report.specs.OperandMessages.{bad_operand, bad_register, begins_number, comment_help, expected, first_word, has_parenthesis, hash_help, is_beside_next, is_foreign, is_hash_number, missing_comma, name_help, no_base, no_operand, no_parentheses, no_register, no_statement, operand_help, operand_message, parentheses_of, register_help, register_message, registers_like, separated_register_message, separation, separation_of};
 
 use crate::advice::{Topic, advice};
-use crate::faulty_line::{FaultyLine, byte_at, bytes_from, first_bytes, part};
+use crate::faulty_line::FaultyLine;
 use crate::parentheses::parentheses_of;
 use crate::statement_words::{name_of_statement, word_after_name};
-use crate::text::Text;
 use rv_ops::reg_by_name;
+use rv_show::{Text, byte_at, bytes_from, first_bytes, part};
 use rv_text::{Span, Token, TokenKind, tokens};
 use std::alloc::{AllocError, Global};
 

@@ -3,10 +3,9 @@
 ghost use Rattle.std.specs.Prelude.{◌≡◌, ◌≤◌, ◌++◌, length, IfOk, OnOk};
 ghost use Rattle.rv_report.specs.OperandMessages.{base_in, base_message, has_word, parentheses_of, parenthesis_message};
 
-use crate::faulty_line::part;
 use crate::operand_messages::{first_word, push_no_register, registers_like};
-use crate::text::Text;
 use rv_ops::reg_by_name;
+use rv_show::{Text, part};
 use rv_text::{Token, tokens};
 use std::alloc::{AllocError, Global};
 

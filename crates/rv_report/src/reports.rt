@@ -1,51 +1,22 @@
 //! The reports of faults and warnings.
 
 ghost use Rattle.std.specs.Prelude.{◌≡◌, ◌+◌, ◌^◌, ◌<◌, ◌≤◌, ◌++◌, length, OnOk, OnErr};
+ghost use Rattle.rv_show.specs.Origins.{source_of};
 ghost use Rattle.rv_report.specs.Lines.{line_of};
-ghost use Rattle.rv_report.specs.Origins.{source_of};
-ghost use Rattle.rv_report.specs.Reports.{last_rows, report_of, warning_report_of};
+ghost use Rattle.rv_report.specs.Reports.{report_of, warning_report_of};
 ghost use Rattle.rv_report.specs.Warnings.{warning_seen};
 
-use crate::faulty_line::{FaultyLine, part};
+use crate::faulty_line::FaultyLine;
 use crate::messages::push_message;
-use crate::origins::{LineMark, origin_of};
-use crate::rows::{
-    push_last_rows, push_line_row, push_mark_row, push_message_row, push_note, push_odd_note,
-};
-use crate::text::Text;
+use crate::notes::{push_note, push_odd_note};
 use crate::warnings::{Warning, push_warning_message};
 use rv_expr::Names;
 use rv_list::{View, fault_name};
+use rv_show::{
+    Gravity, Page, Text, origin_of, part, push_line_row, push_mark_row, push_message_row,
+};
 use rv_text::Fault;
 use std::alloc::{AllocError, Global};
-
-/// Whether reports have colors.
-#[derive(Clone, Copy, Debug, PartialEq, Eq)]
-pub enum Style {
-    /// They have none.
-    Plain,
-    /// `error:` is red, and the mark green.
-    Colored,
-}
-
-/// How grave it is what a report says.
-#[derive(Clone, Copy, Debug, PartialEq, Eq)]
-pub enum Gravity {
-    /// The line has a fault.
-    Error,
-    /// The line may not be what was meant.
-    Warning,
-}
-
-/// Where the reports of a file go to, and how: its name, where its lines come from, and their style.
-#[derive(Clone, Copy)]
-pub struct Page<'a> {
-    /// The name of the file, as it is shown.
-    pub file: &'a [u8],
-    /// The marks on its lines, in the order of the lines. The lines above the first one are those of the file.
-    pub marks: &'a [LineMark<'a>],
-    pub style: Style,
-}
 
 // Appends the rows of a fault to a text.
 #[tactic(auto, unfolding(crate::specs::Reports::report_of))]
@@ -160,27 +131,4 @@ pub fn report_warning(
     let mut rows = Text::new(alloc);
     push_warning(&mut rows, alloc, page, number, text, warning)?;
     out.extend_from_slice(rows.bytes())
-}
-
-/// Appends the row that ends so many reports of a file: how many faults and warnings it has, and which reports are shown, where at most
-/// `most` are. There is none where it has neither.
-///
-/// # Errors
-///
-/// `AllocError` if there is no memory for it. The list is then as before.
-pub fn push_report_count(
-    out: &mut Vec<u8>,
-    alloc: Global,
-    file: &[u8],
-    faults: u32,
-    warnings: u32,
-    reports: u32,
-    most: u32,
-) -> Result<(), AllocError>
-    ensures appended { OnOk result (out.new.items ≡ out.old.items ++ last_rows file.now faults warnings reports most) }
-    ensures refused { OnErr result (out.new.items ≡ out.old.items) }
-{
-    let mut text = Text::new(alloc);
-    push_last_rows(&mut text, file, faults, warnings, reports, most)?;
-    out.extend_from_slice(text.bytes())
 }

@@ -2,16 +2,17 @@
 
 ghost use Rattle.std.specs.Prelude.{◌≡◌, ◌≤◌, ◌++◌, drop, length, IfOk, OnOk};
 ghost use Rattle.rv_text.specs.Lexing.{lexed_line};
+ghost use Rattle.rv_show.specs.Parts.{part};
 ghost use Rattle.rv_report.specs.Counts.{operands_standing};
-ghost use Rattle.rv_report.specs.Lines.{line_of, part};
+ghost use Rattle.rv_report.specs.Lines.{line_of};
 ghost use Rattle.rv_report.specs.Messages.{name_of_statement, operand_count, register_range};
 ghost use Rattle.rv_report.specs.OperandMessages.{separation_of};
 
 use crate::counts::push_numbers;
-use crate::faulty_line::{FaultyLine, bytes_from, part};
+use crate::faulty_line::FaultyLine;
 use crate::operand_messages::separation_of;
 use crate::statement_words::name_of_statement;
-use crate::text::Text;
+use rv_show::{Text, bytes_from, part};
 use rv_stmt::operands_from;
 use rv_text::{Span, tokens};
 use std::alloc::{AllocError, Global};

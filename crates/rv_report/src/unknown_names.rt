@@ -2,18 +2,17 @@
 
 ghost use Rattle.std.specs.Prelude.{◌≡◌, ◌≤◌, ◌∷◌, ◌++◌, is_some, length, slice_index, IfOk, OnOk};
 ghost use Rattle.rv_stmt.specs.Directives.{directive_named};
-ghost use Rattle.rv_report.specs.Lines.{line_of, part};
+ghost use Rattle.rv_show.specs.Parts.{part};
+ghost use Rattle.rv_report.specs.Lines.{line_of};
 ghost use Rattle.rv_report.specs.Messages.{word_after_name};
 ghost use Rattle.rv_report.specs.UnknownNames.{begins_statement, by_names, by_what_follows, definition_of, help_with_name, is_before_statement, missing_colon, missing_point, near_names, other_mnemonic, replacement, unknown_name};
 
 use crate::advice::{Topic, advice};
-use crate::characters::push_excerpt;
 use crate::counts::is_directive_name;
-use crate::faulty_line::{FaultyLine, byte_at, part};
+use crate::faulty_line::FaultyLine;
 use crate::language_names::names_like;
 use crate::statement_words::word_after_name;
-use crate::suggestions::push_did_you_mean;
-use crate::text::Text;
+use rv_show::{Text, byte_at, part, push_did_you_mean, push_excerpt};
 use rv_stmt::{directive_named, form_of};
 use rv_text::{FaultNumber, Span};
 use std::alloc::{AllocError, Global};

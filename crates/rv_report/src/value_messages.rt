@@ -1,19 +1,19 @@
 //! The messages of the faults of values.
 
 ghost use Rattle.std.specs.Prelude.{◌≡◌, ◌≤◌, ◌++◌, length, OnOk};
+ghost use Rattle.rv_show.specs.declared.numbers.Notation.TheVariants.{Decimal};
+ghost use Rattle.rv_show.specs.Parts.{part};
 ghost use Rattle.rv_report.specs.declared.advice.Topic.TheVariants.{RangeExceeded};
-ghost use Rattle.rv_report.specs.declared.numbers.Notation.TheVariants.{Decimal};
 ghost use Rattle.rv_report.specs.Advice.{advice};
-ghost use Rattle.rv_report.specs.Lines.{line_of, part};
+ghost use Rattle.rv_report.specs.Lines.{line_of};
 ghost use Rattle.rv_report.specs.Messages.{operand_of_line, value_of_line, amount, beyond_reach, multiple_in_role, multiple_of, name_of_statement, not_multiple, odd_address, odd_distance, out_of_range, out_of_reach, range_in_role, range_of, side};
 
 use crate::advice::{Topic, advice};
 use crate::bounds::{limits_in, notation_in, push_limits};
-use crate::faulty_line::{FaultyLine, operand_in, part, value_in};
-use crate::numbers::{Notation, push_number_in};
+use crate::faulty_line::{FaultyLine, operand_in, value_in};
 use crate::statement_words::name_of_statement;
-use crate::text::Text;
 use rv_ops::Limits;
+use rv_show::{Notation, Text, part, push_number_in};
 use rv_stmt::{AlignmentUnit, Role};
 use rv_text::Span;
 use std::alloc::{AllocError, Global};

@@ -8,8 +8,8 @@ ghost use Rattle.rv_report.specs.Wanted.{is_csr_shape, register_given, takes_csr
 
 use crate::advice::{Topic, advice};
 use crate::faulty_line::{FaultyLine, operand_in};
-use crate::text::Text;
 use rv_ops::{Op, Shape, shape};
+use rv_show::Text;
 use rv_stmt::{Body, Role};
 use rv_text::Span;
 use std::alloc::AllocError;

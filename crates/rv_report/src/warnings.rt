@@ -3,10 +3,10 @@
 ghost use Rattle.std.specs.Prelude.{◌≡◌, [], ◌++◌, option_map, OnOk};
 ghost use Rattle.rv_report.specs.Warnings.{first_warning, is_label, label_in, label_of_operand, warning_about, warning_message, warning_of, warning_seen};
 
-use crate::text::Text;
 use crate::wanted::takes_csr;
 use rv_expr::{Expr, Node};
 use rv_list::{DefinitionPlace, View};
+use rv_show::Text;
 use rv_stmt::{Operand, OperandValue, Role, Stmt};
 use rv_text::Span;
 use std::alloc::AllocError;

@@ -135,67 +135,86 @@ fn no_line_marks_option<'a>(alloc: Global) -> Arg<'a> {
         .action(ArgAction::SetTrue)
 }
 
-// Whether there are warnings, and what they change.
-fn with_warnings<'a>(alloc: Global, command: Command<'a>) -> Result<Command<'a>, AllocError> {
-    let warnings = Arg::new(alloc, "warnings")
+// Whether there are warnings.
+fn warnings_option<'a>(alloc: Global) -> Arg<'a> {
+    Arg::new(alloc, "warnings")
         .short('W')
         .long("warnings")
         .value_name("WHEN")
         .help("Whether there are warnings")
         .value_parser(SWITCH.as_slice())
         .default_value("on")
-        .action(ArgAction::Set);
-    let werror = Arg::new(alloc, "werror")
+        .action(ArgAction::Set)
+}
+
+// Whether a text with a warning is taken for wrong.
+fn werror_option<'a>(alloc: Global) -> Arg<'a> {
+    Arg::new(alloc, "werror")
         .long("werror")
         .help("Take a file with a warning for wrong")
-        .action(ArgAction::SetTrue);
-    command.arg(warnings)?.arg(werror)
+        .action(ArgAction::SetTrue)
 }
 
-// How reports are shown.
+// How reports are shown, whether there are warnings, and what they change.
 fn with_reports<'a>(alloc: Global, command: Command<'a>) -> Result<Command<'a>, AllocError> {
-    let command = command
+    command
         .arg(color_option(alloc))?
         .arg(all_option(alloc))?
-        .arg(no_line_marks_option(alloc))?;
-    with_warnings(alloc, command)
+        .arg(no_line_marks_option(alloc))?
+        .arg(warnings_option(alloc))?
+        .arg(werror_option(alloc))
 }
 
-// Where the bytes go to, and in which format.
-fn with_output<'a>(alloc: Global, command: Command<'a>) -> Result<Command<'a>, AllocError> {
-    let output = Arg::new(alloc, "output")
+// Where the bytes go to.
+fn output_option<'a>(alloc: Global) -> Arg<'a> {
+    Arg::new(alloc, "output")
         .short('o')
         .long("output")
         .value_name("OUT")
         .help("Where the bytes are written [default: standard output]")
-        .action(ArgAction::Set);
-    let format = Arg::new(alloc, "format")
+        .action(ArgAction::Set)
+}
+
+// In which format they are written.
+fn format_option<'a>(alloc: Global) -> Arg<'a> {
+    Arg::new(alloc, "format")
         .short('f')
         .long("format")
         .value_name("FORMAT")
         .help("The format of OUT [default: by its ending, else bin]")
         .value_parser(FORMATS.as_slice())
-        .action(ArgAction::Set);
-    command.arg(output)?.arg(format)
+        .action(ArgAction::Set)
 }
 
-// What a text is assembled to beside its bytes.
-fn with_choices<'a>(alloc: Global, command: Command<'a>) -> Result<Command<'a>, AllocError> {
-    let entry = Arg::new(alloc, "entry")
+// Where the program starts.
+fn entry_option<'a>(alloc: Global) -> Arg<'a> {
+    Arg::new(alloc, "entry")
         .long("entry")
         .value_name("NAME")
         .help("The label at which the program starts [default: _start, else the base]")
-        .action(ArgAction::Set);
-    let force = Arg::new(alloc, "force")
+        .action(ArgAction::Set)
+}
+
+// Whether a text with faults is written.
+fn force_option<'a>(alloc: Global) -> Arg<'a> {
+    Arg::new(alloc, "force")
         .long("force")
         .help("Write OUT although FILE has faults")
-        .action(ArgAction::SetTrue);
-    command.arg(entry)?.arg(force)
+        .action(ArgAction::SetTrue)
+}
+
+// What is written of a text, and where to.
+fn with_output<'a>(alloc: Global, command: Command<'a>) -> Result<Command<'a>, AllocError> {
+    command
+        .arg(output_option(alloc))?
+        .arg(format_option(alloc))?
+        .arg(entry_option(alloc))?
+        .arg(force_option(alloc))
 }
 
 fn assemble_command<'a>(alloc: Global) -> Result<Command<'a>, AllocError> {
     let command = Command::new(alloc, "asm").about("Assembles a file");
-    let command = with_choices(alloc, with_output(alloc, command)?)?;
+    let command = with_output(alloc, command)?;
     with_reports(alloc, command.arg(text_base(alloc))?)?.arg(file_argument(alloc))
 }
 
@@ -221,15 +240,19 @@ fn disassemble_command<'a>(alloc: Global) -> Result<Command<'a>, AllocError> {
         .arg(file_argument(alloc))
 }
 
-fn explain_command<'a>(alloc: Global) -> Result<Command<'a>, AllocError> {
-    let name = Arg::new(alloc, "name")
+// The name of a fault.
+fn name_argument<'a>(alloc: Global) -> Arg<'a> {
+    Arg::new(alloc, "name")
         .value_name("NAME")
         .help("The name of a fault, or its number")
         .required(true)
-        .action(ArgAction::Set);
+        .action(ArgAction::Set)
+}
+
+fn explain_command<'a>(alloc: Global) -> Result<Command<'a>, AllocError> {
     Command::new(alloc, "explain")
         .about("Says what a fault means")
-        .arg(name)
+        .arg(name_argument(alloc))
 }
 
 // The program's own command.

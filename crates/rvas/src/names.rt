@@ -1,6 +1,6 @@
 //! Names of files and of other things, as they are shown.
 
-use rv_report::is_visible;
+use rv_show::is_visible;
 use std::fmt::{self, Display, Formatter};
 
 /// A name as it is shown: a dot for each byte of a character that is not shown in lines either.

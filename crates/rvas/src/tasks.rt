@@ -15,7 +15,7 @@ use crate::sums::Sums;
 use rv_dis::{DisRow, first_row};
 use rv_files::{Counts, ReportError, Wanted, line_marks, report_counts, write_reports};
 use rv_list::write_listing;
-use rv_report::{LineMark, Page, Style};
+use rv_show::{LineMark, Page, Style};
 use rv_store::Store;
 use rv_text::StdSink;
 use std::env::{self, VarError};

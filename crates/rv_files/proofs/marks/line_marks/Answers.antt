@@ -1,5 +1,5 @@
 use Rattle.std.proofs.Common.{◌+◌, map, refl}
-use Rattle.rv_report.specs.Origins.{mark_of}
+use Rattle.rv_show.specs.Origins.{mark_of}
 use Rattle.rv_files.proofs.LineMarks.{line_below, marks_more}
 use Rattle.rv_files.proofs.marks.line_marks.Goals as goal
 

@@ -1,5 +1,5 @@
 use Rattle.std.proofs.Common.{◌≡◌, ◌+◌, ◌++◌, drop, map}
-use Rattle.rv_report.specs.Origins.{mark_of}
+use Rattle.rv_show.specs.Origins.{mark_of}
 use Rattle.rv_files.specs.LineMarks.{marks_from}
 use Rattle.rv_files.proofs.marks.line_marks.Given as goal
 

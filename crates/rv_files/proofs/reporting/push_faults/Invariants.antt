@@ -1,7 +1,7 @@
 use Rattle.std.proofs.Common.{◌≡◌, ◌++◌, length}
 use Rattle.std.specs.List.{flat_map}
+use Rattle.rv_show.specs.Origins.{source_of}
 use Rattle.rv_report.specs.Lines.{line_of}
-use Rattle.rv_report.specs.Origins.{source_of}
 use Rattle.rv_report.specs.Reports.{report_of}
 use Rattle.rv_files.specs.OddAddresses.{one_reported}
 use Rattle.rv_files.proofs.reporting.push_faults.Given as goal

@@ -1,7 +1,7 @@
 use Rattle.std.proofs.Common.{◌≡◌, ◌++◌, length, map, take, OnOk, ap, sym, subst, ◌∙◌}
 use Rattle.std.specs.List.{concat}
 use Rattle.rv_list.specs.Shown.{shown_line}
-use Rattle.rv_report.specs.Origins.{source_of}
+use Rattle.rv_show.specs.Origins.{source_of}
 use Rattle.rv_files.specs.TextReports.{line_reports}
 use Rattle.rv_files.proofs.Reports.{told_of_line, bytes_of_line, line_reports-are}
 use Rattle.rv_files.proofs.reporting.push_line.Goals as goal

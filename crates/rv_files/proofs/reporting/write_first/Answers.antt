@@ -2,7 +2,7 @@ use Rattle.std.proofs.Common.{◌≡◌, ◌-◌, List, ℕ, [], map, take, true
 use Rattle.std.specs.List.{concat}
 use Rattle.std.proofs.lemmas.Result.{err_from_is_err_and}
 use Rattle.rv_text.specs.StreamLaws.{prefix_first, writes_then}
-use Rattle.rv_report.specs.Origins.{source_of}
+use Rattle.rv_show.specs.Origins.{source_of}
 use Rattle.rv_files.specs.TextReports.{all_reports, all_warnings, report_count}
 use Rattle.rv_files.proofs.FirstReports.{all_counted, first_of_both, is_on}
 use Rattle.rv_files.proofs.reporting.write_first.Goals as goal

@@ -5,8 +5,8 @@ use Rattle.std.proofs.lemmas.Result.{err_from_is_err_and}
 use Rattle.rv_text.specs.Streams.{after}
 use Rattle.rv_text.specs.StreamLaws.{after_none}
 use Rattle.rv_list.specs.Joined.{joined}
+use Rattle.rv_show.specs.Origins.{source_of}
 use Rattle.rv_store.specs.Shown.{shown_of}
-use Rattle.rv_report.specs.Origins.{source_of}
 use Rattle.rv_files.specs.TextReports.{line_reports}
 use Rattle.rv_list.specs.JoinedLaws.{length_of_more}
 use Rattle.rv_list.specs.PassedLines.{passed_line}

@@ -2,8 +2,8 @@ use Rattle.std.proofs.Common.{◌≡◌, ◌+◌, ◌-◌, length, map, take}
 use Rattle.std.specs.List.{concat}
 use Rattle.rv_text.specs.Streams.{after}
 use Rattle.rv_list.specs.Joined.{joined}
+use Rattle.rv_show.specs.Origins.{source_of}
 use Rattle.rv_store.specs.Shown.{shown_of}
-use Rattle.rv_report.specs.Origins.{source_of}
 use Rattle.rv_files.specs.TextReports.{line_reports}
 use Rattle.rv_files.proofs.reporting.write_lines.Given as goal
 

@@ -1,7 +1,7 @@
 use Rattle.std.proofs.Common.{◌≡◌, arith, ap, sym, ◌∙◌}
 use Rattle.rv_text.specs.Streams.{after}
 use Rattle.rv_text.specs.StreamLaws.{after_none}
-use Rattle.rv_report.specs.Origins.{source_of}
+use Rattle.rv_show.specs.Origins.{source_of}
 use Rattle.rv_files.specs.TextReports.{asked_warnings, fault_count}
 use Rattle.rv_files.proofs.FirstReports.{none_reported}
 use Rattle.rv_files.proofs.reporting.write_reports.Goals as goal

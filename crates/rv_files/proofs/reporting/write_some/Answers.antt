@@ -1,7 +1,7 @@
 use Rattle.std.proofs.Common.{◌≡◌, ◌+◌, ◌/◌, length, map, take, min, max, arith, refl, ap, ◌∙◌}
 use Rattle.std.proofs.lemmas.Result.{err_from_is_err_and}
 use Rattle.rv_text.specs.StreamLaws.{prefix_first, prefix_none, writes_then}
-use Rattle.rv_report.specs.Reports.{last_rows}
+use Rattle.rv_show.specs.Totals.{last_rows}
 use Rattle.rv_files.specs.TextReports.{asked_warnings, fault_count, report_count, searched_symbols, text_reports}
 use Rattle.rv_files.proofs.FirstReports.{first_of_more}
 use Rattle.rv_files.proofs.OddAddresses.{no_more_reports}

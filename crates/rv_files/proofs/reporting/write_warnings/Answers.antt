@@ -7,10 +7,10 @@ use Rattle.rv_text.specs.Streams.{after}
 use Rattle.rv_text.specs.StreamLaws.{after_none}
 use Rattle.rv_list.specs.Joined.{joined}
 use Rattle.rv_list.specs.Shown.{ShownLine}
+use Rattle.rv_show.specs.Origins.{source_of}
 use Rattle.rv_report.specs.Reports.{warning_report_of}
 use Rattle.rv_report.specs.Warnings.{warning_of, warning_seen}
 use Rattle.rv_store.specs.Shown.{shown_of}
-use Rattle.rv_report.specs.Origins.{source_of}
 use Rattle.rv_files.specs.TextReports.{warning_reports}
 use Rattle.rv_list.specs.JoinedLaws.{joined_none, length_of_more}
 use Rattle.rv_list.specs.PassedLines.{passed_line}

@@ -1,6 +1,5 @@
 use Rattle.std.proofs.Common.{◌<◌, ◌∙◌, arith}
-use Rattle.rv_report.proofs.Columns.{length_of_rest}
-use Rattle.rv_report.proofs.Strings.{next_place}
+use Rattle.rv_report.proofs.Strings.{length_of_rest, next_place}
 use Rattle.rv_report.proofs.lexical_messages.stop_of.Goals as goal
 
 pub bytes-preserved : goal.bytes-preserved

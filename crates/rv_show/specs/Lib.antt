@@ -1,0 +1,9 @@
+pub mod Characters
+pub mod Digits
+pub mod Numbers
+pub mod Origins
+pub mod Parts
+pub mod Rows
+pub mod Suggestions
+pub mod Texts
+pub mod Totals
