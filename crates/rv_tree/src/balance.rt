@@ -25,6 +25,36 @@ impl<T: Summed> Subtree<T> {
         Ok(Rc::new(alloc, Subtree::fork(left, right))?)
     }
 
+    // The tree of a left side that was made and a right side that is shared.
+    pub(crate) fn joined_left(
+        alloc: Global,
+        left: Rc<Subtree<T>>,
+        right: &Rc<Subtree<T>>,
+    ) -> Result<Rc<Subtree<T>>, AllocError>
+        requires left_low { left.value.height ≤ right.now.value.height + 1 }
+        requires right_low { right.now.value.height ≤ left.value.height + 1 }
+        requires few { length left.value.items + length right.now.value.items ≤ MAX_ITEMS }
+        ensures items { IfOk result (λ t. t.value.items ≡ left.value.items ++ right.now.value.items) }
+        ensures height { IfOk result (λ t. t.value.height ≡ max left.value.height right.now.value.height + 1) }
+    {
+        Subtree::joined(alloc, left, Rc::clone(right)?)
+    }
+
+    // The tree of a left side that is shared and a right side that was made.
+    pub(crate) fn joined_right(
+        alloc: Global,
+        left: &Rc<Subtree<T>>,
+        right: Rc<Subtree<T>>,
+    ) -> Result<Rc<Subtree<T>>, AllocError>
+        requires left_low { left.now.value.height ≤ right.value.height + 1 }
+        requires right_low { right.value.height ≤ left.now.value.height + 1 }
+        requires few { length left.now.value.items + length right.value.items ≤ MAX_ITEMS }
+        ensures items { IfOk result (λ t. t.value.items ≡ left.now.value.items ++ right.value.items) }
+        ensures height { IfOk result (λ t. t.value.height ≡ max left.now.value.height right.value.height + 1) }
+    {
+        Subtree::joined(alloc, Rc::clone(left)?, right)
+    }
+
     // A tree of the items of two sides, one of which may be 2 higher than the other.
     pub(crate) fn balanced(
         alloc: Global,
@@ -44,6 +74,34 @@ impl<T: Summed> Subtree<T> {
         } else {
             Subtree::joined(alloc, left, right)
         }
+    }
+
+    // The balanced tree of a left side that was made and a right side that is shared.
+    pub(crate) fn balanced_left(
+        alloc: Global,
+        left: Rc<Subtree<T>>,
+        right: &Rc<Subtree<T>>,
+    ) -> Result<Rc<Subtree<T>>, AllocError>
+        requires near { IsNear left.value.height right.now.value.height }
+        requires few { length left.value.items + length right.now.value.items ≤ MAX_ITEMS }
+        ensures items { IfOk result (λ t. t.value.items ≡ left.value.items ++ right.now.value.items) }
+        ensures height { IfOk result (λ t. IsSettled left.value.height right.now.value.height t.value.height) }
+    {
+        Subtree::balanced(alloc, left, Rc::clone(right)?)
+    }
+
+    // The balanced tree of a left side that is shared and a right side that was made.
+    pub(crate) fn balanced_right(
+        alloc: Global,
+        left: &Rc<Subtree<T>>,
+        right: Rc<Subtree<T>>,
+    ) -> Result<Rc<Subtree<T>>, AllocError>
+        requires near { IsNear left.now.value.height right.value.height }
+        requires few { length left.now.value.items + length right.value.items ≤ MAX_ITEMS }
+        ensures items { IfOk result (λ t. t.value.items ≡ left.now.value.items ++ right.value.items) }
+        ensures height { IfOk result (λ t. IsSettled left.now.value.height right.value.height t.value.height) }
+    {
+        Subtree::balanced(alloc, Rc::clone(left)?, right)
     }
 
     // The left side is 2 higher.
@@ -67,8 +125,8 @@ impl<T: Summed> Subtree<T> {
             unreachable!()
         };
         if outer.height() >= inner.height() {
-            let low = Subtree::joined(alloc, Rc::clone(inner)?, right)?;
-            return Subtree::joined(alloc, Rc::clone(outer)?, low);
+            let low = Subtree::joined_right(alloc, inner, right)?;
+            return Subtree::joined_right(alloc, outer, low);
         }
         Subtree::shared_out(alloc, Rc::clone(outer)?, inner, right)
     }
@@ -94,8 +152,8 @@ impl<T: Summed> Subtree<T> {
             unreachable!()
         };
         if outer.height() >= inner.height() {
-            let low = Subtree::joined(alloc, left, Rc::clone(inner)?)?;
-            return Subtree::joined(alloc, low, Rc::clone(outer)?);
+            let low = Subtree::joined_left(alloc, left, inner)?;
+            return Subtree::joined_left(alloc, low, outer);
         }
         Subtree::shared_out(alloc, left, inner, Rc::clone(outer)?)
     }
@@ -122,8 +180,8 @@ impl<T: Summed> Subtree<T> {
         else {
             unreachable!()
         };
-        let low_left = Subtree::joined(alloc, left, Rc::clone(first)?)?;
-        let low_right = Subtree::joined(alloc, Rc::clone(second)?, right)?;
+        let low_left = Subtree::joined_left(alloc, left, first)?;
+        let low_right = Subtree::joined_right(alloc, second, right)?;
         Subtree::joined(alloc, low_left, low_right)
     }
 }

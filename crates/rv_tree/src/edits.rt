@@ -1,6 +1,7 @@
 //! One item put in, taken out or replaced. Only the nodes on the path to it are made anew.
 
-ghost use Rattle.std.specs.Prelude.{◌≡◌, ◌+◌, ◌≤◌, ◌<◌, length, [], IfOk, MatchOption, slice_set, insert, remove};
+ghost use Rattle.std.specs.Prelude.{◌≡◌, ◌+◌, ◌≤◌, ◌<◌, length, [], ◌++◌, IfOk, IfSome, MatchOption, slice_set, insert, remove};
+ghost use Rattle.rv_tree.specs.Shape.{IsNear, IsSettled};
 
 use crate::limits::MAX_ITEMS;
 use crate::node::{Node, Subtree};
@@ -28,10 +29,10 @@ impl<T: Summed> Subtree<T> {
                 let left_len = left.len();
                 if before <= left_len {
                     let side = Subtree::inserted(alloc, left, before, item)?;
-                    Subtree::balanced(alloc, side, Rc::clone(right)?)
+                    Subtree::balanced_left(alloc, side, right)
                 } else {
                     let side = Subtree::inserted(alloc, right, before - left_len, item)?;
-                    Subtree::balanced(alloc, Rc::clone(left)?, side)
+                    Subtree::balanced_right(alloc, left, side)
                 }
             }
         }
@@ -57,17 +58,47 @@ impl<T: Summed> Subtree<T> {
             Node::Fork { left, right, .. } => {
                 let left_len = left.len();
                 if before < left_len {
-                    match Subtree::deleted(alloc, left, before)? {
-                        None => Ok(Some(Rc::clone(right)?)),
-                        Some(side) => Ok(Some(Subtree::balanced(alloc, side, Rc::clone(right)?)?)),
-                    }
+                    let side = Subtree::deleted(alloc, left, before)?;
+                    Ok(Some(Subtree::left_over(alloc, side, right)?))
                 } else {
-                    match Subtree::deleted(alloc, right, before - left_len)? {
-                        None => Ok(Some(Rc::clone(left)?)),
-                        Some(side) => Ok(Some(Subtree::balanced(alloc, Rc::clone(left)?, side)?)),
-                    }
+                    let side = Subtree::deleted(alloc, right, before - left_len)?;
+                    Ok(Some(Subtree::right_over(alloc, left, side)?))
                 }
             }
+        }
+    }
+
+    // The tree of what is left of a left side, and a right side.
+    fn left_over(
+        alloc: Global,
+        left: Option<Rc<Subtree<T>>>,
+        right: &Rc<Subtree<T>>,
+    ) -> Result<Rc<Subtree<T>>, AllocError>
+        requires near { IfSome left (λ l. IsNear l.value.height right.now.value.height) }
+        requires few { IfSome left (λ l. length l.value.items + length right.now.value.items ≤ MAX_ITEMS) }
+        ensures items { IfOk result (λ t. MatchOption left (t.value.items ≡ right.now.value.items) (λ l. t.value.items ≡ l.value.items ++ right.now.value.items)) }
+        ensures height { IfOk result (λ t. MatchOption left (t.value.height ≡ right.now.value.height) (λ l. IsSettled l.value.height right.now.value.height t.value.height)) }
+    {
+        match left {
+            None => Rc::clone(right),
+            Some(left) => Subtree::balanced_left(alloc, left, right),
+        }
+    }
+
+    // The tree of a left side, and what is left of a right side.
+    fn right_over(
+        alloc: Global,
+        left: &Rc<Subtree<T>>,
+        right: Option<Rc<Subtree<T>>>,
+    ) -> Result<Rc<Subtree<T>>, AllocError>
+        requires near { IfSome right (λ r. IsNear left.now.value.height r.value.height) }
+        requires few { IfSome right (λ r. length left.now.value.items + length r.value.items ≤ MAX_ITEMS) }
+        ensures items { IfOk result (λ t. MatchOption right (t.value.items ≡ left.now.value.items) (λ r. t.value.items ≡ left.now.value.items ++ r.value.items)) }
+        ensures height { IfOk result (λ t. MatchOption right (t.value.height ≡ left.now.value.height) (λ r. IsSettled left.now.value.height r.value.height t.value.height)) }
+    {
+        match right {
+            None => Rc::clone(left),
+            Some(right) => Subtree::balanced_right(alloc, left, right),
         }
     }
 
@@ -89,10 +120,10 @@ impl<T: Summed> Subtree<T> {
                 let left_len = left.len();
                 if before < left_len {
                     let side = Subtree::replaced(alloc, left, before, item)?;
-                    Subtree::joined(alloc, side, Rc::clone(right)?)
+                    Subtree::joined_left(alloc, side, right)
                 } else {
                     let side = Subtree::replaced(alloc, right, before - left_len, item)?;
-                    Subtree::joined(alloc, Rc::clone(left)?, side)
+                    Subtree::joined_right(alloc, left, side)
                 }
             }
         }

@@ -1,8 +1,8 @@
 //! One item put in, taken out or replaced in a leaf.
 
-ghost use Rattle.std.specs.Prelude.{◌≡◌, ◌≤◌, ◌<◌, length, [], IfOk, IfSome, IsTrue, MatchOption, slice_set, insert, remove};
+ghost use Rattle.std.specs.Prelude.{◌≡◌, ◌+◌, ◌≤◌, ◌<◌, length, [], ◌++◌, IfOk, IfSome, IsTrue, MatchOption, slice_set, insert, remove};
 
-use crate::limits::WIDTH;
+use crate::limits::{HALF, MAX_ITEMS, WIDTH};
 use crate::node::{Node, Subtree};
 use crate::row::Row;
 use crate::sums::Summed;
@@ -27,9 +27,7 @@ impl<T: Summed> Subtree<T> {
         if row.len() >= WIDTH {
             return Subtree::inserted_in_full_leaf(alloc, tree, row, before, item);
         }
-        let mut row = row.copied(alloc)?;
-        row.insert(before, item)?;
-        Subtree::of_row(alloc, row)
+        Subtree::of_row(alloc, Row::with_item(alloc, row.items(), before, item)?)
     }
 
     // Two leaves of the items of a full `row`, and one more behind the first `before`. At either end it gets a leaf of its own.
@@ -70,7 +68,26 @@ impl<T: Summed> Subtree<T> {
         ensures items { IfOk result (λ t. t.value.items ≡ insert row.now before item.value) }
         ensures height { IfOk result (λ t. t.value.height ≡ 2) }
     {
-        let (first, second) = row.divided(alloc, before, item)?;
+        let (first, second) = row.halves();
+        if before <= HALF {
+            let first = Row::with_item(alloc, first, before, item)?;
+            return Subtree::two_leaves(alloc, first, Row::of(alloc, second)?);
+        }
+        let second = Row::with_item(alloc, second, before - HALF, item)?;
+        Subtree::two_leaves(alloc, Row::of(alloc, first)?, second)
+    }
+
+    // Two leaves of the items of these rows.
+    fn two_leaves(
+        alloc: Global,
+        first: Row<T>,
+        second: Row<T>,
+    ) -> Result<Rc<Subtree<T>>, AllocError>
+        requires some { (1 ≤ length first) × (1 ≤ length second) }
+        requires few { length first + length second ≤ MAX_ITEMS }
+        ensures items { IfOk result (λ t. t.value.items ≡ first ++ second) }
+        ensures height { IfOk result (λ t. t.value.height ≡ 2) }
+    {
         let left = Subtree::of_row(alloc, first)?;
         let right = Subtree::of_row(alloc, second)?;
         Subtree::joined(alloc, left, right)

@@ -55,12 +55,28 @@ impl<T: Summed> Row<T> {
     }
 
     // A row of these items, with room for one more.
-    fn of(alloc: Global, shared: &[Rc<T>]) -> Result<Row<T>, AllocError>
+    pub(crate) fn of(alloc: Global, shared: &[Rc<T>]) -> Result<Row<T>, AllocError>
         requires { length shared.now ≤ WIDTH }
         ensures { IfOk result (λ r. r ≡ values shared.now) }
     {
         let mut row = Row::with_room(alloc, shared.len() + 1)?;
         row.share(shared)?;
+        Ok(row)
+    }
+
+    // A row of these items, and one more behind the first `before`.
+    pub(crate) fn with_item(
+        alloc: Global,
+        shared: &[Rc<T>],
+        before: u32,
+        item: Rc<T>,
+    ) -> Result<Row<T>, AllocError>
+        requires place { before ≤ length shared.now }
+        requires room { length shared.now < WIDTH }
+        ensures { IfOk result (λ r. r ≡ insert (values shared.now) before item.value) }
+    {
+        let mut row = Row::of(alloc, shared)?;
+        row.insert(before, item)?;
         Ok(row)
     }
 
@@ -103,7 +119,7 @@ impl<T: Summed> Row<T> {
     }
 
     // Puts an item in behind the first `before`.
-    pub(crate) fn insert(&mut self, before: u32, item: Rc<T>) -> Result<(), AllocError>
+    fn insert(&mut self, before: u32, item: Rc<T>) -> Result<(), AllocError>
         requires place { before ≤ length self.old }
         requires room { length self.old < WIDTH }
         ensures { OnOk result (self.new ≡ insert self.old before item.value) }
@@ -128,34 +144,13 @@ impl<T: Summed> Row<T> {
     }
 
     // The first `HALF` items of a full row, and the others.
-    fn halves(&self, alloc: Global) -> Result<(Row<T>, Row<T>), AllocError>
+    pub(crate) fn halves(&self) -> (&[Rc<T>], &[Rc<T>])
         requires full { length self.now ≡ WIDTH }
-        ensures items { IfOk result (λ r. self.now ≡ r.0 ++ r.1) }
-        ensures first { IfOk result (λ r. length r.0 ≡ HALF) }
+        ensures items { self.now ≡ values result.0.now ++ values result.1.now }
+        ensures first { length result.0.now ≡ HALF }
+        ensures second { length result.1.now ≡ HALF }
     {
-        let (first, second) = self.items.as_slice().split_at(HALF as usize);
-        Ok((Row::of(alloc, first)?, Row::of(alloc, second)?))
-    }
-
-    // The items of a full row, and one more behind the first `before`, in two rows.
-    pub(crate) fn divided(
-        &self,
-        alloc: Global,
-        before: u32,
-        item: Rc<T>,
-    ) -> Result<(Row<T>, Row<T>), AllocError>
-        requires full { length self.now ≡ WIDTH }
-        requires place { before ≤ WIDTH }
-        ensures items { IfOk result (λ r. r.0 ++ r.1 ≡ insert self.now before item.value) }
-        ensures some { IfOk result (λ r. (1 ≤ length r.0) × (1 ≤ length r.1)) }
-    {
-        let (mut first, mut second) = self.halves(alloc)?;
-        if before <= HALF {
-            first.insert(before, item)?;
-            return Ok((first, second));
-        }
-        second.insert(before - HALF, item)?;
-        Ok((first, second))
+        self.items.as_slice().split_at(HALF as usize)
     }
 
     // The sum of the first `count` items.

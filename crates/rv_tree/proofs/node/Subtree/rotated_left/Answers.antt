@@ -18,60 +18,60 @@ bent h i o e p lt = (omega arith, omega arith)
 within : (h : ℕ) → (h ≤ h) × (h ≤ h + 1)
 within h = (omega arith, omega arith)
 
-pub joined-requires-clause-left_low : goal.joined-requires-clause-left_low
-joined-requires-clause-left_low g c =
+pub joined_left-requires-clause-left_low : goal.joined_left-requires-clause-left_low
+joined_left-requires-clause-left_low g c =
     let is = rw c.in-Fork.is at c.right.view_is in
     let ok = rw c.in-Fork.is at c.right.invariant in
-    rw c.in_ok-clone.ensures.cases ((sides _ _ _ (ap (λ d. d.height) is ∙ c.requires.higher) ok.balanced).0)
+    (sides _ _ _ (ap (λ d. d.height) is ∙ c.requires.higher) ok.balanced).0
 
-pub joined-requires-clause-right_low : goal.joined-requires-clause-right_low
-joined-requires-clause-right_low g c =
+pub joined_left-requires-clause-right_low : goal.joined_left-requires-clause-right_low
+joined_left-requires-clause-right_low g c =
     let is = rw c.in-Fork.is at c.right.view_is in
     let ok = rw c.in-Fork.is at c.right.invariant in
-    rw c.in_ok-clone.ensures.cases ((sides _ _ _ (ap (λ d. d.height) is ∙ c.requires.higher) ok.balanced).1)
+    (sides _ _ _ (ap (λ d. d.height) is ∙ c.requires.higher) ok.balanced).1
 
 pub unreachable-requires : goal.unreachable-requires
 unreachable-requires g c =
     let is = rw c.in_default.is at c.right.view_is in
     omega (arith, ap (λ d. d.height) is, c.requires.higher, c.requires.positive)
 
-pub joined-requires-clause-few : goal.joined-requires-clause-few
-joined-requires-clause-few g c =
+pub joined_left-requires-clause-few : goal.joined_left-requires-clause-few
+joined_left-requires-clause-few g c =
     let is = rw c.in-Fork.is at c.right.view_is in
-    rw c.in_ok-clone.ensures.cases (omega (arith, c.requires.few, ap (λ d. length d.items) is, length-append c.in-Fork.inner.value.items c.in-Fork.outer.value.items))
+    omega (arith, c.requires.few, ap (λ d. length d.items) is, length-append c.in-Fork.inner.value.items c.in-Fork.outer.value.items)
 
-pub joined-requires-then-height-clause-left_low : goal.joined-requires-then-height-clause-left_low
-joined-requires-then-height-clause-left_low g c =
+pub joined_left-requires-then-height-clause-left_low : goal.joined_left-requires-then-height-clause-left_low
+joined_left-requires-then-height-clause-left_low g c =
     let is = rw c.in-Fork.is at c.right.view_is in
     let ok = rw c.in-Fork.is at c.right.invariant in
     let outer = rw c.deref.ensures at c.height.ensures.value in
     let inner = rw c.deref-2.ensures at c.height-2.ensures.value in
-    let low = rw c.in_ok-clone.ensures.cases at c.in_ok-low.ensures.height in
+    let low = c.in_ok-low.ensures.height in
     let t = turned _ _ _ _ (ap (λ d. d.height) is ∙ c.requires.higher) ok.balanced (rw (outer, inner) at c.if-height.true) low in
-    rw c.in_ok-clone-2.ensures.cases t.0
+    t.0
 
-pub joined-requires-then-height-clause-right_low : goal.joined-requires-then-height-clause-right_low
-joined-requires-then-height-clause-right_low g c =
+pub joined_left-requires-then-height-clause-right_low : goal.joined_left-requires-then-height-clause-right_low
+joined_left-requires-then-height-clause-right_low g c =
     let is = rw c.in-Fork.is at c.right.view_is in
     let ok = rw c.in-Fork.is at c.right.invariant in
     let outer = rw c.deref.ensures at c.height.ensures.value in
     let inner = rw c.deref-2.ensures at c.height-2.ensures.value in
-    let low = rw c.in_ok-clone.ensures.cases at c.in_ok-low.ensures.height in
+    let low = c.in_ok-low.ensures.height in
     let t = turned _ _ _ _ (ap (λ d. d.height) is ∙ c.requires.higher) ok.balanced (rw (outer, inner) at c.if-height.true) low in
-    rw c.in_ok-clone-2.ensures.cases t.1
+    t.1
 
-pub joined-requires-then-height-clause-few : goal.joined-requires-then-height-clause-few
-joined-requires-then-height-clause-few g c =
+pub joined_left-requires-then-height-clause-few : goal.joined_left-requires-then-height-clause-few
+joined_left-requires-then-height-clause-few g c =
     let is = rw c.in-Fork.is at c.right.view_is in
-    rw (c.in_ok-low.ensures.items, c.in_ok-clone.ensures.cases, c.in_ok-clone-2.ensures.cases, length-append c.args.left.value.items c.in-Fork.inner.value.items)
-    (omega (arith, c.requires.few, ap (λ d. length d.items) is, length-append c.in-Fork.inner.value.items c.in-Fork.outer.value.items))
+    rw (c.in_ok-low.ensures.items, length-append c.args.left.value.items c.in-Fork.inner.value.items)
+    omega (arith, c.requires.few, ap (λ d. length d.items) is, length-append c.in-Fork.inner.value.items c.in-Fork.outer.value.items)
 
 pub returns-then-height-clause-items : goal.returns-then-height-clause-items
 returns-then-height-clause-items g c =
     let is = rw c.in-Fork.is at c.right.view_is in
-    let items : c.in_ok-low.low.value.items ++ c.in_ok-clone-2.field-0.value.items ≡ c.args.left.value.items ++ c.args.right.now.items =
-    rw (c.in_ok-low.ensures.items, c.in_ok-clone.ensures.cases, c.in_ok-clone-2.ensures.cases, ← ap (λ d. d.items) is) (simp append_assoc) in
-    rw items at c.joined-then-height.ensures.items
+    let items : c.in_ok-low.low.value.items ++ c.in-Fork.outer.value.items ≡ c.args.left.value.items ++ c.args.right.now.items =
+    rw (c.in_ok-low.ensures.items, ← ap (λ d. d.items) is) (simp append_assoc) in
+    rw items at c.joined_left-then-height.ensures.items
 
 pub returns-then-height-clause-height : goal.returns-then-height-clause-height
 returns-then-height-clause-height g c =
@@ -79,9 +79,9 @@ returns-then-height-clause-height g c =
     let ok = rw c.in-Fork.is at c.right.invariant in
     let outer = rw c.deref.ensures at c.height.ensures.value in
     let inner = rw c.deref-2.ensures at c.height-2.ensures.value in
-    let low = rw c.in_ok-clone.ensures.cases at c.in_ok-low.ensures.height in
+    let low = c.in_ok-low.ensures.height in
     let t = turned _ _ _ _ (ap (λ d. d.height) is ∙ c.requires.higher) ok.balanced (rw (outer, inner) at c.if-height.true) low in
-    as_high_or_one_more c.joined-then-height.result (λ t. t.value.height) c.args.right.now.height (max c.in_ok-low.low.value.height c.in_ok-clone-2.field-0.value.height + 1) (rw (c.requires.higher, c.in_ok-clone-2.ensures.cases) (t.2, t.3)) c.joined-then-height.ensures.height
+    as_high_or_one_more c.joined_left-then-height.result (λ t. t.value.height) c.args.right.now.height (max c.in_ok-low.low.value.height c.in-Fork.outer.value.height + 1) (rw c.requires.higher (t.2, t.3)) c.joined_left-then-height.ensures.height
 
 pub shared_out-requires-clause-level : goal.shared_out-requires-clause-level
 shared_out-requires-clause-level g c =
@@ -90,7 +90,7 @@ shared_out-requires-clause-level g c =
     let outer = rw c.deref.ensures at c.height.ensures.value in
     let inner = rw c.deref-2.ensures at c.height-2.ensures.value in
     let b = bent _ _ _ (ap (λ d. d.height) is ∙ c.requires.higher) ok.balanced (rw (outer, inner) at c.if-height.false) in
-    rw c.in_ok-clone-3.ensures.cases b.0
+    rw c.in_ok-clone.ensures.cases b.0
 
 pub shared_out-requires-clause-higher : goal.shared_out-requires-clause-higher
 shared_out-requires-clause-higher g c =
@@ -108,13 +108,13 @@ shared_out-requires-clause-positive g c =
 pub shared_out-requires-clause-few : goal.shared_out-requires-clause-few
 shared_out-requires-clause-few g c =
     let is = rw c.in-Fork.is at c.right.view_is in
-    rw (c.deref-3.ensures, c.in_ok-clone-3.ensures.cases) (omega (arith, c.requires.few, ap (λ d. length d.items) is, length-append c.in-Fork.inner.value.items c.in-Fork.outer.value.items))
+    rw (c.deref-3.ensures, c.in_ok-clone.ensures.cases) (omega (arith, c.requires.few, ap (λ d. length d.items) is, length-append c.in-Fork.inner.value.items c.in-Fork.outer.value.items))
 
 pub returns-clause-items : goal.returns-clause-items
 returns-clause-items g c =
     let is = rw c.in-Fork.is at c.right.view_is in
-    let items : (c.args.left.value.items ++ c.deref-3.result.now.items) ++ c.in_ok-clone-3.field-0.value.items ≡ c.args.left.value.items ++ c.args.right.now.items =
-    rw (c.deref-3.ensures, c.in_ok-clone-3.ensures.cases, ← ap (λ d. d.items) is) (simp append_assoc) in
+    let items : (c.args.left.value.items ++ c.deref-3.result.now.items) ++ c.in_ok-clone.field-0.value.items ≡ c.args.left.value.items ++ c.args.right.now.items =
+    rw (c.deref-3.ensures, c.in_ok-clone.ensures.cases, ← ap (λ d. d.items) is) (simp append_assoc) in
     rw items at c.shared_out.ensures.items
 
 pub returns-clause-height : goal.returns-clause-height
