@@ -47,11 +47,11 @@ impl<T: Summed> Subtree<T> {
     {
         if before == 0 {
             let new = Subtree::of_one(alloc, item)?;
-            return Subtree::joined(alloc, new, Rc::clone(tree)?);
+            return Subtree::joined_left(alloc, new, tree);
         }
         if before == WIDTH {
             let new = Subtree::of_one(alloc, item)?;
-            return Subtree::joined(alloc, Rc::clone(tree)?, new);
+            return Subtree::joined_right(alloc, tree, new);
         }
         Subtree::cut_in_two(alloc, row, before, item)
     }

@@ -1,8 +1,9 @@
 //! A pass over all items. A part whose items are all kept is shared, not made anew.
 
-ghost use Rattle.std.specs.Prelude.{◌≡◌, ◌+◌, ◌≤◌, max, length, ◌++◌, List, IfOk, OnErr, false};
+ghost use Rattle.std.specs.Prelude.{◌≡◌, ◌+◌, ◌≤◌, max, length, ◌++◌, List, IfOk, OnErr, IsTrue, false};
 ghost use Rattle.rv_tree.specs.Passes.{Runs, Stops};
 ghost use Rattle.rv_tree.specs.Shape.{IsBalanced};
+ghost use Rattle.rv_tree.specs.Sums.{total, AllSums};
 
 use crate::limits::MAX_ITEMS;
 use crate::node::{Node, Subtree};
@@ -20,7 +21,38 @@ pub(crate) struct Rewritten<T: Summed> {
     pub(crate) changed: bool,
 }
 
+impl<T: Summed> Rewritten<T> {
+    // A tree that stays as it is.
+    fn kept(tree: &Rc<Subtree<T>>) -> Result<Rewritten<T>, AllocError>
+        ensures { IfOk result (λ r. r.tree.value ≡ tree.now.value) }
+    {
+        Ok(Rewritten {
+            tree: Rc::clone(tree)?,
+            changed: false,
+        })
+    }
+
+    // The sum of the new items up to the end of the tree, where `before` is that of those before it.
+    fn sum_behind(&self, before: &T::Sum) -> T::Sum
+        ensures value { result ≡ T.Sum.op before.now (total T.Sum.empty T.Sum.op T.sum_of self.now.tree.value.items) }
+        ensures sums { AllSums T.Sum.IsValue T.sum_of self.now.tree.value.items }
+    {
+        let tree: &Subtree<T> = &self.tree;
+        before.join(tree.sum())
+    }
+}
+
 impl<T: Summed> Subtree<T> {
+    // Whether a pass may leave the tree out, since it would keep all items.
+    fn is_left_out<P: Pass<T>>(&self, before: &T::Sum, pass: &P) -> bool
+        requires { length self.now.items ≤ MAX_ITEMS }
+        ensures known { T.Sum.IsValue before.now }
+        ensures kept { IsTrue result → Runs P.gives T.Sum.op T.sum_of pass.now before.now self.now.items self.now.items pass.now }
+    {
+        before.known();
+        pass.skips(before, self.sum())
+    }
+
     // `before` is the sum of the new items before the tree.
     pub(crate) fn rewritten<P: Pass<T>>(
         alloc: Global,
@@ -35,22 +67,17 @@ impl<T: Summed> Subtree<T> {
         ensures same { IfOk result (λ r. r.changed ≡ false → r.tree.value.items ≡ tree.now.value.items) }
         ensures stops { OnErr result (Stops P.gives P.refuses T.Sum.op T.sum_of pass.old before.now tree.now.value.items pass.new) }
     {
-        before.known();
         let here: &Subtree<T> = tree;
-        if pass.skips(before, here.sum()) {
-            return Ok(Rewritten {
-                tree: Rc::clone(tree)?,
-                changed: false,
-            });
+        if here.is_left_out(before, pass) {
+            return Rewritten::kept(tree);
         }
         match &here.node {
-            Node::Leaf { row, .. } => Ok(Subtree::rewritten_leaf(alloc, tree, row, before, pass)?),
+            Node::Leaf { row, .. } => Subtree::rewritten_leaf(alloc, tree, row, before, pass),
             Node::Fork { left, right, .. } => {
                 let first = Subtree::rewritten(alloc, left, before, pass)?;
-                let made: &Subtree<T> = &first.tree;
-                let middle = before.join(made.sum());
+                let middle = first.sum_behind(before);
                 let second = Subtree::rewritten(alloc, right, &middle, pass)?;
-                Ok(Subtree::rejoined(alloc, tree, first, second)?)
+                Subtree::rejoined(alloc, tree, first, second)
             }
         }
     }
@@ -74,10 +101,7 @@ impl<T: Summed> Subtree<T> {
         ensures stops { OnErr result (Stops P.gives P.refuses T.Sum.op T.sum_of pass.old before.now row.now pass.new) }
     {
         match row.rewritten(alloc, before, pass)? {
-            None => Ok(Rewritten {
-                tree: Rc::clone(tree)?,
-                changed: false,
-            }),
+            None => Rewritten::kept(tree),
             Some(row) => Ok(Rewritten {
                 tree: Subtree::of_row(alloc, row)?,
                 changed: true,
@@ -106,9 +130,6 @@ impl<T: Summed> Subtree<T> {
                 changed: true,
             });
         }
-        Ok(Rewritten {
-            tree: Rc::clone(tree)?,
-            changed: false,
-        })
+        Rewritten::kept(tree)
     }
 }

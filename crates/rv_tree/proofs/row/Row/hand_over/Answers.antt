@@ -62,3 +62,24 @@ returns-in_ok-change-in-Some-clause-runs g c =
     let one : one_behind c.args.at self ≡ x ∷ [] = ap (take 1) (drop_at self c.args.at x c.get-item.ensures) in
     let made : one_behind c.args.at (unwrap_or c.change.new.made self) ≡ y ∷ [] = ap (take 1) new in
     rw (one, made) (one_more (rw c.in-Some.is at c.in_ok-visit.ensures.given) none)
+
+pub returns-in_ok-change-in-Some-clause-sum : goal.returns-in_ok-change-in-Some-clause-sum
+returns-in_ok-change-in-Some-clause-sum g c =
+    let j = g.T.Sum.Joined in
+    let of = g.T.Summed.sum_of in
+    let self = c.args.self.now in
+    let y = c.in-Some.item in
+    let was = unwrap_or c.args.made.now self in
+    let made : one_behind c.args.at (unwrap_or c.change.new.made self) ≡ y ∷ [] = ap (take 1) (ap (drop c.args.at) c.in_ok-change-in-Some.ensures ∙ drop-set was c.args.at y (rw c.requires.same c.requires.within)) in
+    let value : j.IsValue (of y) = rw c.sum-sum-in-Some.ensures at c.known-in-Some.ensures in
+    let sum = c.sum-sum-in-Some.ensures ∙ sym (g.met.T.Sum.Joined.laws.right_unit (of y) value) ∙ ap (total j.empty j.op of) (sym made) in
+    c.join-in-Some.ensures ∙ ap (j.op c.args.before.now) sum
+
+pub returns-in_ok-change-in-Some-clause-sums : goal.returns-in_ok-change-in-Some-clause-sums
+returns-in_ok-change-in-Some-clause-sums g c =
+    let self = c.args.self.now in
+    let y = c.in-Some.item in
+    let was = unwrap_or c.args.made.now self in
+    let made : one_behind c.args.at (unwrap_or c.change.new.made self) ≡ y ∷ [] = ap (take 1) (ap (drop c.args.at) c.in_ok-change-in-Some.ensures ∙ drop-set was c.args.at y (rw c.requires.same c.requires.within)) in
+    let value : g.T.Sum.Joined.IsValue (g.T.Summed.sum_of y) = rw c.sum-sum-in-Some.ensures at c.known-in-Some.ensures in
+    rw made (value, tt)
