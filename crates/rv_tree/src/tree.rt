@@ -1,6 +1,6 @@
 //! The list of items that callers see.
 
-ghost use Rattle.std.specs.Prelude.{◌≡◌, ◌-◌, ◌≤◌, ◌==◌, length, [], None, if◌then◌else◌, IfOk, IfErr, OnErr, slice_get, slice_set, take, insert, remove, unwrap_or};
+ghost use Rattle.std.specs.Prelude.{◌≡◌, ◌+◌, ◌-◌, ◌≤◌, ◌<◌, ◌==◌, length, [], None, if◌then◌else◌, IfOk, IfErr, IfNone, OnErr, slice_get, slice_set, take, insert, remove, unwrap_or};
 ghost use Rattle.std.specs.Option.{option_map};
 ghost use Rattle.rv_tree.specs.Passes.{Runs, Stops};
 ghost use Rattle.rv_tree.specs.Refusals.{insert_refusal, place_refusal};
@@ -13,7 +13,7 @@ use crate::node::Subtree;
 use crate::passes::Pass;
 use crate::rewriting::Rewritten;
 use crate::sums::{Joined, Summed};
-use std::alloc::Global;
+use std::alloc::{AllocError, Global};
 use std::marker::Model;
 use std::rc::Rc;
 
@@ -120,19 +120,58 @@ impl<T: Summed> SumTree<T> {
         ensures items { IfOk result (λ t. t.items ≡ insert self.now.items (k - 1) item) }
         ensures height { IfOk result (λ t. t.height ≤ MAX_HEIGHT) }
     {
+        if let Some(refusal) = self.insert_refusal(k) {
+            return Err(refusal);
+        }
+        let root = self.root_with(k - 1, item)?;
+        Ok(SumTree::with_root(self.alloc, root))
+    }
+
+    // Why no item becomes number `k`, whatever the memory.
+    fn insert_refusal(&self, k: u32) -> Option<TreeError>
+        ensures refusal { result ≡ insert_refusal k (length self.now.items) }
+        ensures inside { IfNone result ((1 ≤ k) × (k ≤ length self.now.items + 1)) }
+        ensures room { IfNone result (length self.now.items < MAX_ITEMS) }
+    {
         let len = self.len();
-        if k == 0 || k > len + 1 {
-            return Err(TreeError::Place);
+        if k == 0 {
+            return Some(TreeError::Place);
+        }
+        if k > len + 1 {
+            return Some(TreeError::Place);
         }
         if len >= MAX_ITEMS {
-            return Err(TreeError::Full);
+            return Some(TreeError::Full);
         }
+        None
+    }
+
+    // Why item number `k` is not deleted or replaced, whatever the memory.
+    fn place_refusal(&self, k: u32) -> Option<TreeError>
+        ensures refusal { result ≡ place_refusal k (length self.now.items) }
+        ensures inside { IfNone result ((1 ≤ k) × (k ≤ length self.now.items)) }
+    {
+        if k == 0 {
+            return Some(TreeError::Place);
+        }
+        if k > self.len() {
+            return Some(TreeError::Place);
+        }
+        None
+    }
+
+    // The root of the list with an item behind the first `before`.
+    fn root_with(&self, before: u32, item: T) -> Result<Rc<Subtree<T>>, AllocError>
+        requires place { before ≤ length self.now.items }
+        requires room { length self.now.items < MAX_ITEMS }
+        ensures items { IfOk result (λ t. t.value.items ≡ insert self.now.items before item) }
+        ensures few { IfOk result (λ t. length t.value.items ≤ MAX_ITEMS) }
+    {
         let item = Rc::new(self.alloc, item)?;
-        let root = match &self.root {
-            None => Subtree::of_one(self.alloc, item)?,
-            Some(root) => Subtree::inserted(self.alloc, root, k - 1, item)?,
-        };
-        Ok(SumTree::with_root(self.alloc, root))
+        match &self.root {
+            None => Subtree::of_one(self.alloc, item),
+            Some(root) => Subtree::inserted(self.alloc, root, before, item),
+        }
     }
 
     /// The list without item number `k`.
@@ -144,8 +183,8 @@ impl<T: Summed> SumTree<T> {
         ensures items { IfOk result (λ t. t.items ≡ remove self.now.items (k - 1)) }
         ensures height { IfOk result (λ t. t.height ≤ MAX_HEIGHT) }
     {
-        if k == 0 || k > self.len() {
-            return Err(TreeError::Place);
+        if let Some(refusal) = self.place_refusal(k) {
+            return Err(refusal);
         }
         match &self.root {
             None => Err(TreeError::Place),
@@ -165,8 +204,8 @@ impl<T: Summed> SumTree<T> {
         ensures items { IfOk result (λ t. t.items ≡ slice_set self.now.items (k - 1) item) }
         ensures height { IfOk result (λ t. t.height ≤ MAX_HEIGHT) }
     {
-        if k == 0 || k > self.len() {
-            return Err(TreeError::Place);
+        if let Some(refusal) = self.place_refusal(k) {
+            return Err(refusal);
         }
         match &self.root {
             None => Err(TreeError::Place),
