@@ -10,7 +10,7 @@ use crate::advice_tables::{
 use rv_ops::is_name;
 
 /// What a message gives advice about.
-#[derive(Clone, Copy, Debug, PartialEq, Eq)]
+#[derive(Clone, Copy)]
 pub enum Topic {
     /// A directive that other assemblers have.
     OtherDirective,

@@ -15,7 +15,7 @@ use rv_text::Span;
 use std::alloc::AllocError;
 
 /// What an operand has to be.
-#[derive(Clone, Copy, Debug, PartialEq, Eq)]
+#[derive(Clone, Copy, PartialEq, Eq)]
 pub enum Wanted {
     Number,
     Address,
