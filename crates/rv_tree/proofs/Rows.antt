@@ -63,3 +63,7 @@ one_more_taken xs i = rw add-one (taken xs i)
 -- one item, and those behind it
 pub one_and_rest : {X : Type 0} (xs : List X) (i : ℕ) → one_behind i xs ++ drop (i + 1) xs ≡ drop i xs
 one_and_rest xs i = ap (λ ys. one_behind i xs ++ ys) (sym (drop-drop 1 i xs)) ∙ take-append-drop 1 (drop i xs)
+
+-- what is alike from a place on is alike behind it
+pub alike_behind : {X : Type 0} (xs ys : List X) (i : ℕ) → drop i xs ≡ drop i ys → drop (i + 1) xs ≡ drop (i + 1) ys
+alike_behind xs ys i e = sym (drop-drop 1 i xs) ∙ ap (drop 1) e ∙ drop-drop 1 i ys

@@ -1,11 +1,11 @@
-use Rattle.std.proofs.Common.{◌≡◌, ◌+◌, ◌∷◌, [], ◌++◌, ◌∙◌, drop, take, ap, sym}
+use Rattle.std.proofs.Common.{◌≡◌, ◌+◌, ◌∷◌, [], ◌++◌, ◌∙◌, drop, length, take, ap, arith, refl, sym}
 use Rattle.std.specs.Prelude.{unwrap_or}
-use Rattle.std.proofs.lemmas.List.{drop-set}
+use Rattle.std.proofs.lemmas.List.{drop-set, drop-set-lt, length-set, take-set}
 use Rattle.rv_tree.specs.Passes.{none, one_more, Stops, here, refused, later}
 use Rattle.rv_tree.specs.Rows.{one_behind}
 use Rattle.rv_tree.specs.Sums.{total}
 use Rattle.rv_tree.proofs.Exits.{on_err}
-use Rattle.rv_tree.proofs.Rows.{drop_at}
+use Rattle.rv_tree.proofs.Rows.{alike_behind, drop_at}
 use Rattle.rv_tree.proofs.row.Row.hand_over.Goals as goal
 
 pub visit-requires : goal.visit-requires
@@ -83,3 +83,24 @@ returns-in_ok-change-in-Some-clause-sums g c =
     let made : one_behind c.args.at (unwrap_or c.change.new.made self) ≡ y ∷ [] = ap (take 1) (ap (drop c.args.at) c.in_ok-change-in-Some.ensures ∙ drop-set was c.args.at y (rw c.requires.same c.requires.within)) in
     let value : g.T.Sum.Joined.IsValue (g.T.Summed.sum_of y) = rw c.sum-sum-in-Some.ensures at c.known-in-Some.ensures in
     rw made (value, tt)
+
+pub returns-in-None-clause-front : goal.returns-in-None-clause-front
+returns-in-None-clause-front g c = refl
+
+pub returns-in-None-clause-behind : goal.returns-in-None-clause-behind
+returns-in-None-clause-behind g c = alike_behind _ _ c.args.at c.requires.behind
+
+pub returns-in_ok-change-in-Some-clause-front : goal.returns-in_ok-change-in-Some-clause-front
+returns-in_ok-change-in-Some-clause-front g c =
+    let was = unwrap_or c.args.made.now c.args.self.now in
+    ap (take c.args.at) c.in_ok-change-in-Some.ensures ∙ take-set was c.args.at c.in-Some.item
+
+pub returns-in_ok-change-in-Some-clause-behind : goal.returns-in_ok-change-in-Some-clause-behind
+returns-in_ok-change-in-Some-clause-behind g c =
+    let was = unwrap_or c.args.made.now c.args.self.now in
+    ap (drop (c.args.at + 1)) c.in_ok-change-in-Some.ensures ∙ drop-set-lt (c.args.at + 1) was c.args.at c.in-Some.item (omega arith) ∙ alike_behind was c.args.self.now c.args.at c.requires.behind
+
+pub returns-in_ok-change-in-Some-clause-same : goal.returns-in_ok-change-in-Some-clause-same
+returns-in_ok-change-in-Some-clause-same g c =
+    let was = unwrap_or c.args.made.now c.args.self.now in
+    ap length c.in_ok-change-in-Some.ensures ∙ length-set was c.args.at c.in-Some.item ∙ c.requires.same
