@@ -1,10 +1,10 @@
 //! Files as texts.
 
-ghost use Rattle.std.specs.Prelude.{◌≡◌, ◌<◌, ◌++◌, ◌∷◌, [], true, None, length, unwrap_or, IfOk, OnOk, IfErr};
+ghost use Rattle.std.specs.Prelude.{◌≡◌, ◌+◌, ◌<◌, ◌++◌, ◌∷◌, [], true, None, length, unwrap_or, IfOk, OnOk, IfErr};
 ghost use Rattle.rv_layout.specs.Places.{is_base};
 ghost use Rattle.rv_store.specs.Text.{is_line};
 ghost use Rattle.rv_files.specs.Lines.{lines_of};
-ghost use Rattle.rv_files.specs.Loading.{load_refusal};
+ghost use Rattle.rv_files.specs.Loading.{load_refusal, refusal_from};
 ghost use Rattle.rv_files.specs.declared.limits.LoadError.TheVariants.{Memory};
 
 use crate::limits::{LoadError, check_limits};
@@ -29,6 +29,18 @@ fn append(store: &mut Store, line: &[u8]) -> Result<(), LoadError>
     }
 }
 
+// Puts lines at the end of a text, none of which is past a limit.
+fn append_all(store: &mut Store, mut lines: Lines<'_>) -> Result<(), LoadError>
+    requires { refusal_from (length store.old.lines + 1) lines ≡ None }
+    ensures ok { OnOk result (store.new ≡ record { base = store.old.base; lines = store.old.lines ++ lines.entry }) }
+    ensures memory { IfErr result (λ e. e ≡ Memory) }
+{
+    'lines: while let Some(line) = lines.next_line() {
+        append(store, line)?;
+    }
+    Ok(())
+}
+
 /// The text of a file's lines, whose first section begins at the base.
 ///
 /// # Errors
@@ -45,9 +57,6 @@ pub fn load(alloc: Global, base: u32, file: &[u8]) -> Result<Store, LoadError>
     let Ok(mut store) = Store::new(alloc, base) else {
         unreachable!()
     };
-    let mut lines = Lines::new(file);
-    'lines: while let Some(line) = lines.next_line() {
-        append(&mut store, line)?;
-    }
+    append_all(&mut store, Lines::new(file))?;
     Ok(store)
 }

@@ -16,7 +16,7 @@ use rv_text::{Fault, FaultNumber};
 use std::alloc::{AllocError, Global};
 
 /// How a line stands to odd addresses.
-#[derive(Clone, Copy, Debug, PartialEq, Eq)]
+#[derive(Clone, Copy)]
 pub struct Parity {
     pub section: Sect,
     /// It is an instruction at an odd address.
@@ -26,14 +26,14 @@ pub struct Parity {
 }
 
 /// A fault that has a report, and how many more instructions are at odd addresses for the same reason.
-#[derive(Clone, Copy, Debug, PartialEq, Eq)]
+#[derive(Clone, Copy)]
 pub struct Reported {
     pub fault: Fault,
     pub more: u32,
 }
 
 /// How many faults a text has, and how many of them have a report.
-#[derive(Clone, Copy, Debug, PartialEq, Eq)]
+#[derive(Clone, Copy)]
 pub struct FaultCounts {
     pub faults: u32,
     pub reported: u32,

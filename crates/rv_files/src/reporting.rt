@@ -166,6 +166,26 @@ fn write_lines<W: Sink>(
     Ok(())
 }
 
+// Appends the report of a warning about a line.
+fn push_warning(
+    out: &mut Vec<u8>,
+    alloc: Global,
+    page: &Page<'_>,
+    store: &Store,
+    number: u32,
+    warning: &Warning<'_>,
+) -> Result<(), AllocError>
+    requires first { 1 ≤ number }
+    requires last { number ≤ length store.now.lines }
+    ensures { OnOk result (out.new.items
+        ≡ out.old.items ++ warning_report_of page.now.style (source_of page.now) number ((shown_of store.now).line number).text (warning_seen warning.now)) }
+{
+    let Some(line) = store.line(number) else {
+        unreachable!()
+    };
+    report_warning(out, alloc, page, number, line, warning)
+}
+
 // Writes the report of a warning about a line.
 fn write_warning<W: Sink>(
     sink: &mut W,
@@ -181,11 +201,8 @@ fn write_warning<W: Sink>(
     ensures text { Writes (W.taken sink.old) (warning_report_of page.now.style (source_of page.now) number ((shown_of store.now).line number).text (warning_seen warning.now)) result (W.taken sink.new) }
     ensures count { W.failures sink.new ≡ failures_by_report (W.failures sink.old) result }
 {
-    let Some(line) = store.line(number) else {
-        unreachable!()
-    };
     let mut text = Vec::new(alloc);
-    report_warning(&mut text, alloc, page, number, line, warning)?;
+    push_warning(&mut text, alloc, page, store, number, warning)?;
     write_all(sink, text.as_slice())?;
     Ok(())
 }

@@ -1,13 +1,12 @@
 use Rattle.std.proofs.Common.{◌≡◌, ◌+◌, ◌++◌, None, length}
-use Rattle.rv_files.specs.Lines.{lines_of}
 use Rattle.rv_files.specs.Loading.{refusal_from}
-use Rattle.rv_files.proofs.loading.load.Given as goal
+use Rattle.rv_files.proofs.loading.append_all.Given as goal
 
 -- the lines so far are in the text, and none of the others is past a limit
 abbrev pub invariant-lines : goal.invariant-lines
 invariant-lines l = record {
-  base : l.store.base ≡ l.base;
-  whole : l.store.lines ++ l.lines ≡ lines_of l.file;
+  base : l.store.base ≡ l.fn.store.base;
+  whole : l.store.lines ++ l.lines ≡ l.fn.store.lines ++ l.initial.lines;
   left : refusal_from (length l.store.lines + 1) l.lines ≡ None;
 }
 
