@@ -13,7 +13,7 @@ use std::convert::AsStr;
 pub const VERSION: &str = "0.1.0";
 
 /// Why the arguments ask for nothing.
-#[derive(Debug, Drop)]
+#[derive(Drop)]
 pub enum ArgumentFault {
     /// Help or the version was asked for: its text.
     Help(String),
@@ -30,7 +30,7 @@ impl From<AllocError> for ArgumentFault {
 }
 
 /// What the program is asked to do.
-#[derive(Clone, Copy, Debug, PartialEq, Eq)]
+#[derive(Clone, Copy)]
 pub enum Task {
     Assemble,
     Check,
@@ -48,7 +48,7 @@ const TASKS: [(&str, Task); 5] = [
 ];
 
 /// When reports have colors.
-#[derive(Clone, Copy, Debug, PartialEq, Eq)]
+#[derive(Clone, Copy)]
 pub enum Color {
     Always,
     Never,
@@ -255,18 +255,26 @@ fn explain_command<'a>(alloc: Global) -> Result<Command<'a>, AllocError> {
         .arg(name_argument(alloc))
 }
 
+// A command with one more below it, if there was memory for that.
+fn with_command<'a>(
+    command: Command<'a>,
+    below: Result<Command<'a>, AllocError>,
+) -> Result<Command<'a>, AllocError> {
+    command.subcommand(below?)
+}
+
 // The program's own command.
 fn command<'a>(alloc: Global) -> Result<Command<'a>, AllocError> {
-    Command::new(alloc, "rvas")
+    let command = Command::new(alloc, "rvas")
         .version(VERSION)
         .about("Assembles RISC-V text in files")
         .after_help("The commands and formats are described in docs/FILES.md.")
-        .subcommand_required(true)
-        .subcommand(assemble_command(alloc)?)?
-        .subcommand(check_command(alloc)?)?
-        .subcommand(list_command(alloc)?)?
-        .subcommand(disassemble_command(alloc)?)?
-        .subcommand(explain_command(alloc)?)
+        .subcommand_required(true);
+    let command = with_command(command, assemble_command(alloc))?;
+    let command = with_command(command, check_command(alloc))?;
+    let command = with_command(command, list_command(alloc))?;
+    let command = with_command(command, disassemble_command(alloc))?;
+    with_command(command, explain_command(alloc))
 }
 
 // What clap says against the arguments.
@@ -290,13 +298,29 @@ fn task_named(name: &str) -> Option<Task> {
     None
 }
 
-// The base that a text spells as a whole, as the language spells numbers. Bytes may be disassembled from any address on.
+// Whether a task may begin at an address. Bytes may be disassembled from any address on.
+fn is_base(task: Task, base: u32) -> bool {
+    match task {
+        Task::Disassemble => true,
+        _ => base_ok(base),
+    }
+}
+
+// The base that a text spells as a whole, as the language spells numbers.
 fn base_named(task: Task, text: &str) -> Option<u32> {
     let base = u32::try_from(number(text.as_bytes())?).ok()?;
-    if task == Task::Disassemble || base_ok(base) {
+    if is_base(task, base) {
         Some(base)
     } else {
         None
+    }
+}
+
+// Why a text is wrong, since it has to be one of these bases.
+fn no_base(alloc: Global, text: &str, bases: &str) -> ArgumentFault {
+    match format!(in alloc; "rvas: '{}' is no base: {bases}\n", Shown(text)) {
+        Ok(said) => ArgumentFault::Usage(said),
+        Err(_) => ArgumentFault::Memory,
     }
 }
 
@@ -308,12 +332,10 @@ fn base_of(alloc: Global, task: Task, text: Option<&str>) -> Result<u32, Argumen
     if let Some(base) = base_named(task, text) {
         return Ok(base);
     }
-    let bases = match task {
-        Task::Disassemble => "a number below 2^32",
-        _ => "a multiple of 4096, at most 0x80000000",
-    };
-    let said = format!(in alloc; "rvas: '{}' is no base: {bases}\n", Shown(text))?;
-    Err(ArgumentFault::Usage(said))
+    match task {
+        Task::Disassemble => Err(no_base(alloc, text, "a number below 2^32")),
+        _ => Err(no_base(alloc, text, "a multiple of 4096, at most 0x80000000")),
+    }
 }
 
 // Whether standard input stands among the files more than once.
@@ -351,6 +373,15 @@ fn names_of<'a>(alloc: Global, matches: &ArgMatches<'a>) -> Result<Vec<&'a str>,
     Ok(names)
 }
 
+// Refuses files among which standard input stands more than once.
+fn check_inputs(alloc: Global, names: &[&str]) -> Result<(), ArgumentFault> {
+    if !repeats_input(names) {
+        return Ok(());
+    }
+    let said = "rvas: standard input can be read once: '-' is given twice\n";
+    Err(ArgumentFault::Usage(String::from_str(alloc, said)?))
+}
+
 // The arguments of a command.
 fn arguments_of<'a>(
     alloc: Global,
@@ -359,12 +390,7 @@ fn arguments_of<'a>(
 ) -> Result<Arguments<'a>, ArgumentFault> {
     let names = names_of(alloc, matches)?;
     let task = task_named(name).unwrap_or(Task::Explain);
-    if repeats_input(names.as_slice()) {
-        let said = format!(in alloc;
-            "rvas: standard input can be read once: '-' is given twice\n"
-        )?;
-        return Err(ArgumentFault::Usage(said));
-    }
+    check_inputs(alloc, names.as_slice())?;
     Ok(Arguments {
         task,
         names,

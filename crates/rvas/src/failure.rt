@@ -4,7 +4,7 @@ use std::alloc::AllocError;
 use std::io::ErrorKind;
 
 /// Why a task was not done.
-#[derive(Clone, Copy, Debug, PartialEq, Eq)]
+#[derive(Clone, Copy)]
 pub enum Failure {
     /// The text has faults, or is past a limit, which was reported.
     Faulty,

@@ -1,7 +1,7 @@
 //! The formats of output.
 
 /// A format in which a text is written.
-#[derive(Clone, Copy, Debug, PartialEq, Eq)]
+#[derive(Clone, Copy)]
 pub enum Format {
     /// The bytes of memory, from the base on.
     Bin,

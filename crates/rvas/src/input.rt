@@ -1,11 +1,11 @@
 //! Files that are read.
 
 use crate::failure::Failure;
-use crate::names::{NOT_TEXT, shown_file, was_text};
+use crate::names::{NOT_TEXT, Shown, shown_file, was_text};
 use rv_files::{LoadError, load};
 use rv_store::{Store, base_ok};
 use std::fs;
-use std::io::Read;
+use std::io::{self, Read};
 
 // The most bytes of a file.
 const MOST: u64 = 64 * 1024 * 1024;
@@ -34,19 +34,29 @@ pub fn read(rt: &HostRuntime, name: &str) -> Result<Vec<u8>, Failure> {
     }
 }
 
+// Says that a line has too many bytes.
+fn say_long_line(rt: &HostRuntime, file: Shown<'_>, line: u32) -> io::Result<()> {
+    eprintln!(rt; "{file}:{line}:1001: error: a line has at most 1000 bytes [line-too-long]")
+}
+
+// Says that there are too many lines.
+fn say_many_lines(rt: &HostRuntime, file: Shown<'_>) -> io::Result<()> {
+    eprintln!(rt; "{file}:16385:1: error: a text has at most 16384 lines [too-many-lines]")
+}
+
 // Reports a line past a limit.
 fn report_limit(rt: &HostRuntime, name: &str, error: LoadError) -> Failure {
-    let file = shown_file(name);
-    let _ = match error {
-        LoadError::LineTooLong(line) => eprintln!(rt;
-            "{file}:{line}:1001: error: a line has at most 1000 bytes [line-too-long]"
-        ),
-        LoadError::TooManyLines => eprintln!(rt;
-            "{file}:16385:1: error: a text has at most 16384 lines [too-many-lines]"
-        ),
-        LoadError::Memory => return Failure::Memory,
-    };
-    Failure::Faulty
+    match error {
+        LoadError::LineTooLong(line) => {
+            let _ = say_long_line(rt, shown_file(name), line);
+            Failure::Faulty
+        }
+        LoadError::TooManyLines => {
+            let _ = say_many_lines(rt, shown_file(name));
+            Failure::Faulty
+        }
+        LoadError::Memory => Failure::Memory,
+    }
 }
 
 /// The text of a file whose first section begins at the base.

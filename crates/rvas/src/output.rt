@@ -11,6 +11,7 @@ use rv_files::{Elf, Segment, segments, symbols, write_bin, write_elf, write_hex}
 use rv_list::write_image;
 use rv_store::{Store, SymValue};
 use rv_text::{Failed, StdSink};
+use std::alloc::{AllocError, Global};
 use std::fs::{self, File};
 use std::io::{self, Write};
 use std::os::unix::fs::PermissionsExt;
@@ -28,11 +29,20 @@ pub enum Output<'a> {
 
 // The address at which the program starts.
 fn entry_of(store: &Store, base: u32, name: Option<&str>) -> Result<u32, Failure> {
-    match (store.symbol(name.unwrap_or("_start").as_bytes()), name) {
-        (Some(SymValue::Label(address)), _) => Ok(address),
-        (_, Some(_)) => Err(Failure::NoLabel),
-        (_, None) => Ok(base),
+    if let Some(SymValue::Label(address)) = store.symbol(name.unwrap_or("_start").as_bytes()) {
+        return Ok(address);
     }
+    match name {
+        Some(_) => Err(Failure::NoLabel),
+        None => Ok(base),
+    }
+}
+
+// The ELF file of a text that starts at an address.
+fn elf_of(alloc: Global, store: &Store, entry: u32) -> Result<Elf, AllocError> {
+    let symbols = symbols(alloc, &store)?;
+    let segments = segments(alloc, &store)?;
+    Elf::of(alloc, entry, segments, symbols.as_slice())
 }
 
 // Lets all execute a plain file who may read it.
@@ -61,11 +71,7 @@ impl<'a> Output<'a> {
         match format {
             Format::Bin => Ok(Output::Bin(base, segments(alloc, &store)?)),
             Format::Hex => Ok(Output::Hex(entry, segments(alloc, &store)?)),
-            Format::Elf => {
-                let symbols = symbols(alloc, &store)?;
-                let segments = segments(alloc, &store)?;
-                Ok(Output::Elf(Elf::of(alloc, entry, segments, symbols.as_slice())?))
-            }
+            Format::Elf => Ok(Output::Elf(elf_of(alloc, store, entry)?)),
             Format::Image => Ok(Output::Image(store)),
         }
     }

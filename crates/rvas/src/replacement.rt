@@ -58,21 +58,37 @@ impl Replacement {
     /// A new file beside the one of this name, with its owner and permissions. `None` if there is no such file, if it is not a plain
     /// one that may be written, or if none can be made beside it: then the file itself has to be written.
     pub fn of(rt: &HostRuntime, name: &str) -> Result<Option<(File, Replacement)>, Failure> {
-        let (place, found) = match place_of(rt, name) {
-            Ok(Some(found)) => found,
-            Ok(None) => return Ok(None),
-            Err(error) => return unless_memory(&error),
-        };
-        let (file, name) = match new_beside(rt, &place) {
-            Ok(made) => made,
-            Err(error) => return unless_memory(&error),
-        };
-        let replacement = Replacement { place, name };
-        if !takes_after(&file, &found) {
-            replacement.drop_file(rt);
-            return Ok(None);
+        match place_of(rt, name) {
+            Ok(Some((place, found))) => Replacement::beside(rt, place, &found),
+            Ok(None) => Ok(None),
+            Err(error) => unless_memory(&error),
         }
-        Ok(Some((file, replacement)))
+    }
+
+    // A new file beside the one of a path, with its owner and permissions.
+    fn beside(
+        rt: &HostRuntime,
+        place: PathBuf,
+        found: &Metadata,
+    ) -> Result<Option<(File, Replacement)>, Failure> {
+        match new_beside(rt, &place) {
+            Ok((file, name)) => Ok(Replacement { place, name }.if_alike(rt, file, found)),
+            Err(error) => unless_memory(&error),
+        }
+    }
+
+    // It and its file, if that takes after the other one; else the file goes.
+    fn if_alike(
+        self,
+        rt: &HostRuntime,
+        file: File,
+        found: &Metadata,
+    ) -> Option<(File, Replacement)> {
+        if takes_after(&file, found) {
+            return Some((file, self));
+        }
+        self.drop_file(rt);
+        None
     }
 
     /// Takes the place, where the file was written; else it goes, and the other file stays.

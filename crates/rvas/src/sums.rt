@@ -1,6 +1,7 @@
 //! What came of several files.
 
 use crate::failure::Failure;
+use std::io;
 
 /// What came of the files so far.
 #[derive(Drop)]
@@ -50,18 +51,18 @@ impl Sums {
         if files < 2 || self.status == 0 {
             return;
         }
-        let Sums {
-            faulty,
-            missed,
-            faults,
-            ..
-        } = self;
-        let noun = if *faults == 1 { "fault" } else { "faults" };
-        let _ = match *missed {
+        let _ = self.say_counts(rt, files);
+    }
+
+    // Says how many files have faults, how many were not checked, and how many faults there are.
+    fn say_counts(&self, rt: &HostRuntime, files: usize) -> io::Result<()> {
+        let (faulty, missed, faults) = (self.faulty, self.missed, self.faults);
+        let noun = if faults == 1 { "fault" } else { "faults" };
+        match missed {
             0 => eprintln!(rt; "{files} files, {faulty} with faults: {faults} {noun}"),
             _ => eprintln!(rt;
                 "{files} files, {faulty} with faults, {missed} not checked: {faults} {noun}"
             ),
-        };
+        }
     }
 }

@@ -19,7 +19,7 @@ use rv_show::{LineMark, Page, Style};
 use rv_store::Store;
 use rv_text::StdSink;
 use std::env::{self, VarError};
-use std::fs;
+use std::fs::{self, Metadata};
 use std::io::{self, IsTerminal, Write};
 use std::os::unix::fs::MetadataExt;
 
@@ -69,7 +69,36 @@ fn marks_in<'a>(
     }
 }
 
-// Writes the reports of a text to standard error, and counts the faults and warnings. Where they cannot be written, they are lost.
+// How many reports of a file are shown at most.
+fn most_reports(arguments: &Arguments<'_>) -> u32 {
+    if arguments.all {
+        u32::MAX
+    } else {
+        MOST_REPORTS
+    }
+}
+
+// Writes the reports of a text to standard error, as a page shows them, and counts the faults and warnings. Where they cannot be
+// written, they are lost.
+fn report_on(
+    rt: &HostRuntime,
+    page: &Page<'_>,
+    store: &Store,
+    wanted: Wanted,
+) -> Result<Counts, Failure>
+    ensures faults { IfOk result (λ counts. counts.faults ≡ fault_count store.now) }
+    ensures few { IfOk result (λ counts. counts.faults + counts.warnings < 2 ^ 32) }
+    ensures warnings { IfOk result (λ counts. counts.warnings ≡ asked_warnings store.now wanted.warnings) }
+{
+    let mut sink = StdSink::new(rt.stderr());
+    match write_reports(&mut sink, rt.alloc(), page, store, wanted) {
+        Ok(counts) => Ok(counts),
+        Err(ReportError::Write) => Ok(report_counts(store, wanted.warnings)),
+        Err(ReportError::Memory) => Err(Failure::Memory),
+    }
+}
+
+// Writes the reports of a text to standard error, and counts the faults and warnings.
 fn report(
     rt: &HostRuntime,
     arguments: &Arguments<'_>,
@@ -80,6 +109,10 @@ fn report(
     ensures few { IfOk result (λ counts. counts.faults + counts.warnings < 2 ^ 32) }
     ensures warnings { IfOk result (λ counts. counts.warnings ≡ asked_warnings store.now arguments.now.warnings) }
 {
+    let wanted = Wanted {
+        most: most_reports(arguments),
+        warnings: arguments.warnings,
+    };
     let file = format!(in rt.alloc(); "{}", shown_file(name))?;
     let marks = marks_in(rt, arguments, store)?;
     let page = Page {
@@ -87,20 +120,7 @@ fn report(
         marks: marks.as_slice(),
         style: style_of(rt, arguments.color),
     };
-    let wanted = Wanted {
-        most: if arguments.all {
-            u32::MAX
-        } else {
-            MOST_REPORTS
-        },
-        warnings: arguments.warnings,
-    };
-    let mut sink = StdSink::new(rt.stderr());
-    match write_reports(&mut sink, rt.alloc(), &page, store, wanted) {
-        Ok(counts) => Ok(counts),
-        Err(ReportError::Write) => Ok(report_counts(store, wanted.warnings)),
-        Err(ReportError::Memory) => Err(Failure::Memory),
-    }
+    report_on(rt, &page, store, wanted)
 }
 
 // Reports the faults of a text and the warnings about it, and says how many of them make it wrong: warnings only if that is asked for.
@@ -126,24 +146,42 @@ fn say_about(rt: &HostRuntime, file: Shown<'_>, what: &str, reason: &str) -> io:
     }
 }
 
+// Says something about the program's own work.
+fn say(rt: &HostRuntime, what: &str) -> io::Result<()> {
+    eprintln!(rt; "rvas: {what}")
+}
+
+// Says that there is none of a name.
+fn say_missing(rt: &HostRuntime, what: &str, name: &str) -> io::Result<()> {
+    eprintln!(rt; "rvas: no {what} '{}'", Shown(name))
+}
+
+// Says why a task was not done with a file.
+fn say_failure(rt: &HostRuntime, failure: Failure, file: &str, other: &str) -> io::Result<()> {
+    match failure {
+        Failure::Faulty => Ok(()),
+        Failure::Base => say(rt, "bad base"),
+        Failure::SameFile => say(rt, "OUT and FILE are the same"),
+        Failure::Terminal => {
+            say(
+                rt,
+                "bytes are not written to a terminal: name a file with -o",
+            )
+        }
+        Failure::NoLabel => say_missing(rt, "label", other),
+        Failure::NoFault => say_missing(rt, "fault", file),
+        Failure::Read(reason) => say_about(rt, shown_file(file), "cannot be read", reason),
+        Failure::Write(reason) => say_about(rt, Shown(other), "cannot be written", reason),
+        Failure::Memory => say(rt, "out of memory"),
+    }
+}
+
 // Says why a task was not done with a file, and gives the status.
 fn status_of(rt: &HostRuntime, done: Result<(), Failure>, file: &str, other: &str) -> u8 {
     let Err(failure) = done else {
         return 0;
     };
-    let _ = match failure {
-        Failure::Faulty => Ok(()),
-        Failure::Base => eprintln!(rt; "rvas: bad base"),
-        Failure::SameFile => eprintln!(rt; "rvas: OUT and FILE are the same"),
-        Failure::Terminal => eprintln!(rt;
-            "rvas: bytes are not written to a terminal: name a file with -o"
-        ),
-        Failure::NoLabel => eprintln!(rt; "rvas: no label '{}'", Shown(other)),
-        Failure::NoFault => eprintln!(rt; "rvas: no fault '{}'", Shown(file)),
-        Failure::Read(reason) => say_about(rt, shown_file(file), "cannot be read", reason),
-        Failure::Write(reason) => say_about(rt, Shown(other), "cannot be written", reason),
-        Failure::Memory => eprintln!(rt; "rvas: out of memory"),
-    };
+    let _ = say_failure(rt, failure, file, other);
     failure.status()
 }
 
@@ -152,21 +190,56 @@ fn first_name<'a>(arguments: &Arguments<'a>) -> &'a str {
     arguments.names.first().copied().unwrap_or("-")
 }
 
+// Where a file lies: `-` is the standard one.
+fn path_of<'a>(name: &'a str, standard: &'a str) -> &'a str {
+    if name == "-" { standard } else { name }
+}
+
+// Whether two files are one plain file.
+fn are_one_file(one: &Metadata, other: &Metadata) -> bool {
+    one.is_file() && one.dev() == other.dev() && one.ino() == other.ino()
+}
+
 // Whether the output has the same plain file as the input.
 fn is_same_file(rt: &HostRuntime, file: &str, out: &str) -> bool {
-    let file = if file == "-" { "/dev/stdin" } else { file };
-    let out = if out == "-" { "/dev/stdout" } else { out };
-    match (fs::metadata(rt, file), fs::metadata(rt, out)) {
-        (Ok(one), Ok(other)) => {
-            one.is_file() && one.dev() == other.dev() && one.ino() == other.ino()
-        }
-        _ => false,
+    let Ok(one) = fs::metadata(rt, path_of(file, "/dev/stdin")) else {
+        return false;
+    };
+    match fs::metadata(rt, path_of(out, "/dev/stdout")) {
+        Ok(other) => are_one_file(&one, &other),
+        Err(_) => false,
     }
 }
 
 // Whether bytes that are no text would be shown on a terminal.
 fn is_for_terminal(rt: &HostRuntime, out: &str, format: Format) -> bool {
     out == "-" && !format.is_text() && rt.stdout().is_terminal()
+}
+
+// Writes a text that was read, unless it has faults and only a right one is to be written.
+fn assemble_text(
+    rt: &HostRuntime,
+    arguments: &Arguments<'_>,
+    store: &Store,
+    out: &str,
+    format: Format,
+    is_right: bool,
+) -> Result<(), Failure> {
+    if !is_right && !arguments.force {
+        return Err(Failure::Faulty);
+    }
+    let output = Output::of(rt, store, arguments.base, arguments.entry, format)?;
+    output.write_to(rt, out)?;
+    unless_faulty(is_right)
+}
+
+// What a task comes to that is done with a text: it fails with a wrong one.
+fn unless_faulty(is_right: bool) -> Result<(), Failure> {
+    if is_right {
+        Ok(())
+    } else {
+        Err(Failure::Faulty)
+    }
 }
 
 // Assembles a file. Nothing is written where it has faults, unless that is asked for.
@@ -185,16 +258,7 @@ fn assemble_file(
     }
     let store = read_text(rt, file, arguments.base)?;
     let is_right = report_faults(rt, arguments, file, &store)? == 0;
-    if !is_right && !arguments.force {
-        return Err(Failure::Faulty);
-    }
-    let output = Output::of(rt, &store, arguments.base, arguments.entry, format)?;
-    output.write_to(rt, out)?;
-    if is_right {
-        Ok(())
-    } else {
-        Err(Failure::Faulty)
-    }
+    assemble_text(rt, arguments, &store, out, format, is_right)
 }
 
 /// Assembles a file, and gives the status.
@@ -232,19 +296,21 @@ pub fn check(rt: &HostRuntime, arguments: &Arguments<'_>) -> u8 {
     sums.status()
 }
 
+// Writes the listing of a text.
+fn write_list(rt: &HostRuntime, store: &Store) -> Result<(), Failure> {
+    let mut sink = StdSink::new(Noting::new(io::writer(rt)));
+    match write_listing(&store, &mut sink) {
+        Ok(()) => Ok(()),
+        Err(_) => unless_closed(sink.writer.kind()),
+    }
+}
+
 // Writes the listing of a file.
 fn list_file(rt: &HostRuntime, arguments: &Arguments<'_>, file: &str) -> Result<(), Failure> {
     let store = read_text(rt, file, arguments.base)?;
     let is_right = report_faults(rt, arguments, file, &store)? == 0;
-    let mut sink = StdSink::new(Noting::new(io::writer(rt)));
-    if write_listing(&&store, &mut sink).is_err() {
-        unless_closed(sink.writer.kind())?;
-    }
-    if is_right {
-        Ok(())
-    } else {
-        Err(Failure::Faulty)
-    }
+    write_list(rt, &store)?;
+    unless_faulty(is_right)
 }
 
 /// Writes the listing of a file, and gives the status.
