@@ -87,10 +87,16 @@ impl<'a> Replay<'a> {
     // Prints a row with its answer.
     fn print_answered(&mut self, rt: &HostRuntime, row: &'a str) -> Result<(), Fail> {
         let (name, rest) = parts_of(row);
-        match (name, number_of(rest)) {
-            ("base", Some(base)) => self.begin_text(rt, row, base),
-            ("session", Some(base)) => self.begin_session(rt, row, base),
-            ("call", _) => Ok(println!(rt; "{row} => {}", outcome_of(rt.alloc(), rest))?),
+        match name {
+            "base" => match number_of(rest) {
+                Some(base) => self.begin_text(rt, row, base),
+                None => self.answer(rt, row),
+            },
+            "session" => match number_of(rest) {
+                Some(base) => self.begin_session(rt, row, base),
+                None => self.answer(rt, row),
+            },
+            "call" => Ok(println!(rt; "{row} => {}", outcome_of(rt.alloc(), rest))?),
             _ => self.answer(rt, row),
         }
     }

@@ -3,7 +3,7 @@
 use crate::calls::tree_call::TreeCall;
 
 /// Which call is made.
-#[derive(Clone, Copy, Debug)]
+#[derive(Clone, Copy)]
 pub enum Call {
     Tokens,
     Sink,
@@ -51,7 +51,7 @@ pub const CALLS: [(&str, Call); 21] = [
 ];
 
 /// What a call answered.
-#[derive(Clone, Copy, Debug, PartialEq, Eq)]
+#[derive(Clone, Copy, PartialEq, Eq)]
 pub enum Answer {
     /// What it has to.
     Right,

@@ -5,6 +5,7 @@ ghost use Rattle.std.specs.Prelude.{◌≡◌};
 use crate::calls::call::Answer;
 use crate::calls::dis_calls::{BYTES, ROWS, are_rows};
 use rv_commands::{LineEdit, live_assembler_is_exact};
+use rv_dis::DisRow;
 use rv_store::EditError;
 use rv_text::MemSink;
 use std::alloc::Global;
@@ -68,15 +69,56 @@ faults 0
 ",
 ];
 
+// What is shown where an edit was made, and else, if it found no memory, what is shown without it.
+fn shown_by(
+    answer: Result<(), EditError>,
+    made: Option<&'static str>,
+    refused: Option<&'static str>,
+) -> Option<&'static str> {
+    match answer {
+        Ok(()) => made,
+        Err(EditError::Memory) => refused,
+        Err(_) => None,
+    }
+}
+
 // What is shown after the edits that were made, if at most one was refused.
 fn shown_after(results: &[Result<(), EditError>; 3]) -> Option<&'static str> {
-    let refused = Err(EditError::Memory);
-    match *results {
-        [Ok(()), Ok(()), Ok(())] => Some(EDITED),
-        [first, Ok(()), Ok(())] if first == refused => Some(EDITED_WITHOUT[0]),
-        [Ok(()), second, Ok(())] if second == refused => Some(EDITED_WITHOUT[1]),
-        [Ok(()), Ok(()), third] if third == refused => Some(EDITED_WITHOUT[2]),
-        _ => None,
+    let [first, second, third] = *results;
+    let [without_first, without_second, without_third] = EDITED_WITHOUT;
+    let after_two = shown_by(third, Some(EDITED), Some(without_third));
+    let after_one = shown_by(
+        second,
+        after_two,
+        shown_by(third, Some(without_second), None),
+    );
+    let others = shown_by(third, Some(without_first), None);
+    shown_by(first, after_one, shown_by(second, others, None))
+}
+
+// Whether all edits were made.
+fn are_made(results: &[Result<(), EditError>]) -> bool {
+    results.iter().all(|answer| answer.is_ok())
+}
+
+// What comes of rows, where all edits were made or one was refused.
+fn answer_of_rows(rows: &[DisRow], are_made: bool) -> Answer {
+    if !are_rows(rows, &ROWS) {
+        return Answer::Wrong;
+    }
+    if are_made {
+        Answer::Right
+    } else {
+        Answer::Refused
+    }
+}
+
+// What comes of a disassembly that was refused: an edit must not be refused beside it.
+fn answer_without_rows(are_made: bool) -> Answer {
+    if are_made {
+        Answer::Refused
+    } else {
+        Answer::Wrong
     }
 }
 
@@ -100,12 +142,9 @@ fn edit_and_disassemble(alloc: Global, sink: &mut MemSink) -> Answer
     if written.is_err() || sink.bytes() != shown.as_bytes() {
         return Answer::Wrong;
     }
-    let are_made = results == [Ok(()); 3];
     match rows {
-        Ok(rows) if !are_rows(rows.as_slice(), &ROWS) => Answer::Wrong,
-        Ok(_) if are_made => Answer::Right,
-        Err(_) if !are_made => Answer::Wrong,
-        _ => Answer::Refused,
+        Ok(rows) => answer_of_rows(rows.as_slice(), are_made(&results)),
+        Err(_) => answer_without_rows(are_made(&results)),
     }
 }
 

@@ -6,7 +6,7 @@ use std::alloc::{AllocError, Global};
 use tree_example::extent::{Block, Extent};
 
 /// A call on a tree.
-#[derive(Clone, Copy, Debug, PartialEq, Eq)]
+#[derive(Clone, Copy)]
 pub enum TreeCall {
     Insert,
     Delete,
@@ -53,16 +53,27 @@ fn make_tree(alloc: Global) -> Result<SumTree<Block>, TreeError> {
     Ok(tree)
 }
 
+// Whether a block of this size stands behind the first `k`, and these have this sum.
+fn has_block(tree: &SumTree<Block>, k: u32, size: u64, sum: u64) -> bool {
+    if k >= tree.len() {
+        return false;
+    }
+    match tree.get(k + 1) {
+        Some(block) => block.size == size && tree.prefix(k).size == sum,
+        None => false,
+    }
+}
+
 // Whether these are the sizes of the blocks, and the sums those of the first blocks.
 fn has_blocks(tree: &SumTree<Block>, sizes: &[u64]) -> bool {
     let mut sum = 0u64;
-    for k in 0..tree.len() {
-        match (tree.get(k + 1), sizes.get(k as usize)) {
-            (Some(block), Some(size)) if block.size == *size && tree.prefix(k).size == sum => {
-                sum = sum.wrapping_add(*size);
-            }
-            _ => return false,
+    let mut k = 0u32;
+    for size in sizes {
+        if !has_block(tree, k, *size, sum) {
+            return false;
         }
+        sum = sum.wrapping_add(*size);
+        k = k.wrapping_add(1);
     }
     tree.len() as usize == sizes.len() && tree.total().size == sum
 }

@@ -67,6 +67,25 @@ fn rows_text(alloc: Global, rows: &[DisRow]) -> Result<String, AllocError> {
     Ok(text)
 }
 
+// What is shown of these answers, rows and bytes.
+fn shown_of(
+    alloc: Global,
+    is_done: bool,
+    answers: &[Result<(), EditError>],
+    rows: &[DisRow],
+    output: &[u8],
+) -> Result<Shown, Fail> {
+    let answers = answers_text(alloc, answers)?;
+    let rows = rows_text(alloc, rows)?;
+    let output = Vec::from_slice(alloc, output)?;
+    Ok(Shown {
+        is_done,
+        answers,
+        rows,
+        output,
+    })
+}
+
 // Makes the edits and shows them and the bytes.
 fn show_edits(alloc: Global, writes: Calls) -> Result<Shown, Fail> {
     let mut answers: Answers = [Ok(()); 11];
@@ -80,12 +99,8 @@ fn show_edits(alloc: Global, writes: Calls) -> Result<Shown, Fail> {
         &BYTES,
         0xfffffffe,
     );
-    Ok(Shown {
-        is_done: written.is_ok(),
-        answers: answers_text(alloc, &answers)?,
-        rows: rows_text(alloc, rows?.as_slice())?,
-        output: Vec::from_slice(alloc, sink.inner.inner.bytes())?,
-    })
+    let output = sink.inner.inner.bytes();
+    shown_of(alloc, written.is_ok(), &answers, rows?.as_slice(), output)
 }
 
 /// Which edits are made, and below that what is written and the rows of the bytes.

@@ -43,15 +43,19 @@ fn write_pages<W: Write>(store: &Store, sink: &mut StdSink<W>) -> Result<(), Lis
     write_faults(&store, sink)
 }
 
+// The text of a line.
+fn shown_line(store: &Store, place: u32) -> Result<&str, Fail> {
+    match store.line(place) {
+        Some(line) => Ok(str::from_utf8(line)?),
+        None => Ok("none"),
+    }
+}
+
 // Prints a line with its address and code.
 fn show_line(rt: &HostRuntime, store: &Store, place: u32) -> Result<(), Fail> {
     let address = address_text(rt.alloc(), store, place)?;
     let code = code_text(rt.alloc(), store, place)?;
-    let line = match store.line(place) {
-        Some(line) => str::from_utf8(line)?,
-        None => "none",
-    };
-    println!(rt; "{address} {code} | {line}")?;
+    println!(rt; "{address} {code} | {}", shown_line(store, place)?)?;
     Ok(())
 }
 
@@ -174,11 +178,19 @@ impl<'a> Text<'a> {
         }
     }
 
+    // Whether the last edit read so many lines, or fewer where it found no memory.
+    fn has_read(&self, parsed: u64) -> bool {
+        let read = self.tally.parsed_calls();
+        match self.without_memory {
+            Some(_) => read <= parsed,
+            None => read == parsed,
+        }
+    }
+
     // Whether the last edit counted no more.
     fn counts_at_most(&self, most: [u64; 3]) -> bool {
         let [parsed, valued, encoded] = most;
-        let read = self.tally.parsed_calls();
-        (read == parsed || self.without_memory.is_some() && read < parsed)
+        self.has_read(parsed)
             && self.tally.valued_calls() <= valued
             && self.tally.encoded_calls() <= encoded
     }
@@ -242,13 +254,14 @@ impl<'a> Text<'a> {
         if let Some(edit) = Edit::of_row(row) {
             return self.edit(rt, row, edit);
         }
-        match parts_of(row) {
-            ("spelled", edit) => self.edit_spelled(rt, row, edit),
-            ("repeat", repeated) => self.repeat(rt, row, repeated),
-            ("chain", count) => self.chain(rt, row, count),
-            ("again", _) => self.edit_again(rt, row),
-            ("show", _) => show(rt, &self.store),
-            ("faults", _) => show_faults(rt, &self.store),
+        let (name, rest) = parts_of(row);
+        match name {
+            "spelled" => self.edit_spelled(rt, row, rest),
+            "repeat" => self.repeat(rt, row, rest),
+            "chain" => self.chain(rt, row, rest),
+            "again" => self.edit_again(rt, row),
+            "show" => show(rt, &self.store),
+            "faults" => show_faults(rt, &self.store),
             _ => self.ask(rt, row),
         }
     }
