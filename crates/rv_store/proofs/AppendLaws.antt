@@ -1,4 +1,4 @@
--- A statement at the end of a text, where no line before it defines or uses what it defines: those lines stay as they are, if
+-- A statement at the end of a text, where no line before it uses a name that it adds: those lines stay as they are, if
 -- no section moves.
 use Rattle.std.proofs.Common.{◌≡◌, ℕ, zero, suc, ◌+◌, ◌-◌, ◌<◌, ◌≤◌, nat_le, Bool, true, false, ◌==◌, not, ◌&&◌, List, [], ◌∷◌, ◌++◌, length, Option, Some, None, Err, Ok, ok_or, pos, if◌then◌else◌, arith, ap, sym, ◌∙◌, refl}
 use Rattle.std.specs.List.{list_any}
@@ -13,7 +13,6 @@ use Rattle.rv_stmt.specs.declared.statement.Body.{Body}
 use Rattle.rv_stmt.specs.declared.statement.Body.TheVariants as body
 use Rattle.rv_stmt.specs.declared.statement.Stmt.{Stmt}
 use Rattle.rv_stmt.specs.declared.section.Sect.TheVariants.{Text}
-use Rattle.rv_stmt.specs.LabelNames.{Label}
 use Rattle.rv_stmt.specs.Readings.{and_then}
 use Rattle.rv_layout.specs.declared.measured.Measured.TheVariants as measured
 use Rattle.rv_layout.specs.PlaceLaws.{number_below}
@@ -23,18 +22,17 @@ use Rattle.rv_fix.specs.Values.{Entry, operand_values_of}
 use Rattle.rv_list.specs.declared.view.DefinitionPlace.{DefinitionPlace}
 use Rattle.rv_list.specs.declared.view.DefinitionPlace.TheVariants.{Nowhere, Label as ByLabel, Equ}
 use Rattle.rv_store.specs.declared.line_values.LineValues.TheVariants.{Nothing, Operands, Symbol, Padding}
-use Rattle.rv_store.specs.Appended.{defines_in_body, defines, IsApart, shape_at_end, StaySections}
+use Rattle.rv_store.specs.Appended.{adds, IsApart, shape_at_end, StaySections}
 use Rattle.rv_store.specs.Codes.{values_of_body, values_by_shape, values_at, code_by_values, code_at}
 use Rattle.rv_store.specs.Constants.{defined_value}
-use Rattle.rv_store.specs.Definitions.{defines_symbol, place_among_labels, place_in_body, or_place, place_in_statement, definition_of, is_equ_on}
+use Rattle.rv_store.specs.Definitions.{or_place, place_in_statement, definition_of, is_defined, is_equ_on}
 use Rattle.rv_store.specs.Layout.{shape_at, shapes_of, section_at, address_at, size_at as size_on, place_at}
 use Rattle.rv_store.specs.Pairs.{pcrel_high_of, high_by, high_at, has_bytes_in, high_at_line, paired_high_of, names_at}
 use Rattle.rv_store.specs.Program.{Program, body_at, lines_that, last_line, first_line}
 use Rattle.rv_store.specs.References.{among_local, has_local, local_line, line_of_place, label_line, or_faulty_equ, by_definition, address_of_line, names_on, no_pairs, equ_value, symbol_through, usable_equs, reference_of, references_at}
 use Rattle.rv_store.specs.Uses.{names_in, tree_of_label, names_used}
 use Rattle.rv_store.proofs.AgreeingNames.{Agree, operand_values-agree, defined_value-agrees, high-agrees}
-use Rattle.rv_store.proofs.DefinitionLaws.{IsWithin, definition-within}
-use Rattle.rv_store.proofs.DefinitionRows.{or_place-nowhere}
+use Rattle.rv_store.proofs.DefinitionLaws.{IsWithin, definition-within, undefined}
 use Rattle.rv_store.proofs.EquLaws.{equ_value-kept}
 use Rattle.rv_store.proofs.LongerPrograms.{more, count-more, statement-earlier, statement-last, body-earlier, body-last, definitions-more, equ-earlier, shape-same, shapes-more}
 use Rattle.rv_store.proofs.Programs.{length-for_lines}
@@ -92,25 +90,6 @@ local_line-within p i number Forward line within e =
     let there = first_line-within (has_local p number) i (length p - i) line e in
     (omega (arith, there.0), omega (arith, there.1, within))
 
--- What a statement does not define
-
-labels-nowhere : (line index : ℕ) (ls : List Label) (name : List ℕ) → list_any (λ l. defines_symbol l.name name) ls ≡ false → place_among_labels line index ls name ≡ Nowhere
-labels-nowhere line index [] name none = refl
-labels-nowhere line index (l ∷ ls) name none =
-    let parts = or_parts (defines_symbol l.name name) (list_any (λ l. defines_symbol l.name name) ls) none in
-    ap (λ b. if b then ByLabel line index else place_among_labels line (index + 1) ls name) parts.0
-    ∙ labels-nowhere line (index + 1) ls name parts.1
-
-body-nowhere : (line : ℕ) (b : Body) (name : List ℕ) → defines_in_body b name ≡ false → place_in_body line b name ≡ Nowhere
-body-nowhere line (body.Equ d) name none = ap (λ b. if b then Equ line else Nowhere) none
-body-nowhere line b name none = refl
-
-statement-nowhere : (line : ℕ) (s : Stmt) (name : List ℕ) → defines s name ≡ false → place_in_statement line s name ≡ Nowhere
-statement-nowhere line s name none =
-    let parts = or_parts (list_any (λ l. defines_symbol l.name name) s.labels) (defines_in_body s.body name) none in
-    ap (λ place. or_place place (place_in_body line s.body name)) (labels-nowhere line 0 s.labels name parts.0)
-    ∙ body-nowhere line s.body name parts.1
-
 -- what a text defines is no `.equ` after it
 pub no_equ_after : (n : ℕ) (place : DefinitionPlace) → IsWithin 1 (1 + n) place → is_equ_on (suc n) place ≡ false
 no_equ_after n Nowhere within = refl
@@ -120,17 +99,22 @@ no_equ_after n (Equ line) within = ne_eqb line (suc n) (λ same. omega (arith, s
 -- The text with one statement more
 
 module _ (p : Program) (s : Stmt) (apart : IsApart p s) where
-  -- no name among these is a symbol that the statement defines
+  -- the statement adds no name among these
   abbrev NoneIn : List (List ℕ) → Type 0
-  NoneIn names = list_any (defines s) names ≡ false
+  NoneIn names = list_any (adds p s) names ≡ false
 
   -- Definitions
 
-  pub definition-same : (name : List ℕ) → defines s name ≡ false → definition_of (more p s) name ≡ definition_of p name
-  definition-same name none =
-      ap (λ f. f name) (definitions-more p s)
-      ∙ ap (or_place (definition_of p name)) (statement-nowhere (suc (length p)) s name none)
-      ∙ or_place-nowhere (definition_of p name)
+  pub definition-same : (name : List ℕ) → adds p s name ≡ false → definition_of (more p s) name ≡ definition_of p name
+  definition-same name none = ap (λ f. f name) (definitions-more p s) ∙ at (definition_of p name) none
+    where
+      here : DefinitionPlace
+      here = place_in_statement (suc (length p)) s name
+
+      at : (place : DefinitionPlace) → (not (is_defined place) && is_defined here) ≡ false → or_place place here ≡ place
+      at Nowhere h = undefined here h
+      at (ByLabel line index) h = refl
+      at (Equ line) h = refl
 
   -- Local labels
 
@@ -153,7 +137,7 @@ module _ (p : Program) (s : Stmt) (apart : IsApart p s) where
 
   label_line-same : (i : ℕ) (label : LabelReference) → i ≤ length p → NoneIn (names_in (tree_of_label label)) → label_line (more p s) i label ≡ label_line p i label
   label_line-same i (reference.Symbol name) within none =
-      ap line_of_place (definition-same name (or_parts (defines s name) false none).0)
+      ap line_of_place (definition-same name (or_parts (adds p s name) false none).0)
   label_line-same i (reference.Local number direction) within none =
       λ j. ok_or (local_line-same i number direction within j) Undefined
   label_line-same i reference.Here within none = refl
@@ -204,7 +188,7 @@ module _ (p : Program) (s : Stmt) (apart : IsApart p s) where
         ap (address_of_line base (more p s)) (local_line-same i number direction within)
         ∙ address_of_line-same (local_line p i number direction) (λ line e. local_line-within p i number direction line within e)
 
-    names_on-agree : (i : ℕ) (symbol symbol' : List ℕ → Entry) (paired paired' : ℕ → Entry) → i ≤ length p → ((name : List ℕ) → defines s name ≡ false → symbol name ≡ symbol' name) → ((label : LabelReference) → NoneIn (names_in (tree_of_label label)) → and_then (label_line (more p s) i label) paired ≡ and_then (label_line p i label) paired') → Agree (defines s) (names_on base (more p s) i symbol paired) (names_on base p i symbol' paired')
+    names_on-agree : (i : ℕ) (symbol symbol' : List ℕ → Entry) (paired paired' : ℕ → Entry) → i ≤ length p → ((name : List ℕ) → adds p s name ≡ false → symbol name ≡ symbol' name) → ((label : LabelReference) → NoneIn (names_in (tree_of_label label)) → and_then (label_line (more p s) i label) paired ≡ and_then (label_line p i label) paired') → Agree (adds p s) (names_on base (more p s) i symbol paired) (names_on base p i symbol' paired')
     names_on-agree i symbol symbol' paired paired' within symbols pairs =
         let here = address-same i (omega (arith, within)) in record {
           symbols = symbols;
@@ -214,7 +198,7 @@ module _ (p : Program) (s : Stmt) (apart : IsApart p s) where
         }
 
     -- for expressions
-    expressions-agree : (i : ℕ) (symbol symbol' : List ℕ → Entry) → i ≤ length p → ((name : List ℕ) → defines s name ≡ false → symbol name ≡ symbol' name) → Agree (defines s) (names_on base (more p s) i symbol no_pairs) (names_on base p i symbol' no_pairs)
+    expressions-agree : (i : ℕ) (symbol symbol' : List ℕ → Entry) → i ≤ length p → ((name : List ℕ) → adds p s name ≡ false → symbol name ≡ symbol' name) → Agree (adds p s) (names_on base (more p s) i symbol no_pairs) (names_on base p i symbol' no_pairs)
     expressions-agree i symbol symbol' within symbols =
         names_on-agree i symbol symbol' no_pairs no_pairs within symbols (λ label none j. and_then (label_line-same i label within none j) no_pairs)
 
@@ -233,7 +217,7 @@ module _ (p : Program) (s : Stmt) (apart : IsApart p s) where
         let other : nat_le line (length p) ≡ true = le-leb line (length p) (omega (arith, within.1)) in
         ap (λ b. if b then or_faulty_equ value else Err LaterEqu) (one ∙ sym other)
 
-    symbol-by : (m : ℕ) → equ_value base (more p s) m ≡ equ_value base p m → (name : List ℕ) → defines s name ≡ false → symbol_through base (more p s) m name ≡ symbol_through base p m name
+    symbol-by : (m : ℕ) → equ_value base (more p s) m ≡ equ_value base p m → (name : List ℕ) → adds p s name ≡ false → symbol_through base (more p s) m name ≡ symbol_through base p m name
     symbol-by m equs name none =
         (λ j. by_definition (address_at base (more p s)) m (definition-same name none j) (equs j name))
         ∙ by_definition-same m (definition_of p name) (equ_value base p m name) (definition-within p name)
@@ -248,29 +232,29 @@ module _ (p : Program) (s : Stmt) (apart : IsApart p s) where
         λ j name. if equ-earlier p s (suc m) name within j then value j else earlier j name
 
     -- the last line gives none of the other symbols
-    pub equ_value-last : (name : List ℕ) → defines s name ≡ false → equ_value base (more p s) (length (more p s)) name ≡ equ_value base p (length p) name
+    pub equ_value-last : (name : List ℕ) → adds p s name ≡ false → equ_value base (more p s) (length (more p s)) name ≡ equ_value base p (length p) name
     equ_value-last name none =
         let other = ap (is_equ_on (suc (length p))) (definition-same name none) ∙ no_equ_after (length p) (definition_of p name) (definition-within p name) in
         ap (λ n. equ_value base (more p s) n name) (count-more p s)
         ∙ equ_value-kept base (more p s) (length p) name other
         ∙ ap (λ f. f name) (equ_value-same (length p) (omega arith))
 
-    pub symbol-last : (name : List ℕ) → defines s name ≡ false → symbol_through base (more p s) (length (more p s)) name ≡ symbol_through base p (length p) name
+    pub symbol-last : (name : List ℕ) → adds p s name ≡ false → symbol_through base (more p s) (length (more p s)) name ≡ symbol_through base p (length p) name
     symbol-last name none =
         let equ = equ_value-last name none in
         (λ j. by_definition (address_at base (more p s)) (count-more p s j) (definition-same name none j) (equ j))
         ∙ by_definition-same (suc (length p)) (definition_of p name) (equ_value base p (length p) name) (definition-within p name)
         ∙ by_definition-all (definition_of p name) (equ_value base p (length p) name) (definition-within p name)
 
-    symbol-usable : (i : ℕ) (b : Body) → i ≤ length p → (name : List ℕ) → defines s name ≡ false → symbol_through base (more p s) (usable_equs (more p s) i b) name ≡ symbol_through base p (usable_equs p i b) name
+    symbol-usable : (i : ℕ) (b : Body) → i ≤ length p → (name : List ℕ) → adds p s name ≡ false → symbol_through base (more p s) (usable_equs (more p s) i b) name ≡ symbol_through base p (usable_equs p i b) name
     symbol-usable i (body.Equ d) last name none = symbol-by (i - 1) (equ_value-same (i - 1) (omega (arith, last))) name none
     symbol-usable i b last name none = symbol-last name none
 
-    pub reference-same : (i : ℕ) → 1 ≤ i → i ≤ length p → (name : List ℕ) → defines s name ≡ false → reference_of base (more p s) i name ≡ reference_of base p i name
+    pub reference-same : (i : ℕ) → 1 ≤ i → i ≤ length p → (name : List ℕ) → adds p s name ≡ false → reference_of base (more p s) i name ≡ reference_of base p i name
     reference-same i first last name none =
         ap (λ b. symbol_through base (more p s) (usable_equs (more p s) i b) name) (body-earlier p s i first last) ∙ symbol-usable i (body_at p i) last name none
 
-    references-agree : (i : ℕ) → 1 ≤ i → i ≤ length p → Agree (defines s) (references_at base (more p s) i) (references_at base p i)
+    references-agree : (i : ℕ) → 1 ≤ i → i ≤ length p → Agree (adds p s) (references_at base (more p s) i) (references_at base p i)
     references-agree i first last =
         expressions-agree i (reference_of base (more p s) i) (reference_of base p i) last (reference-same i first last)
 
@@ -351,7 +335,7 @@ module _ (p : Program) (s : Stmt) (apart : IsApart p s) where
         at (Ok line) w = let there = w line refl in paired_high-same line there.0 there.1
         at (Err fault) w = refl
 
-    names-agree : (i : ℕ) → 1 ≤ i → i ≤ length p → Agree (defines s) (names_at base (more p s) i) (names_at base p i)
+    names-agree : (i : ℕ) → 1 ≤ i → i ≤ length p → Agree (adds p s) (names_at base (more p s) i) (names_at base p i)
     names-agree i first last =
         names_on-agree i (reference_of base (more p s) i) (reference_of base p i) (paired_high_of base (more p s)) (paired_high_of base p) last (reference-same i first last) (λ label none. pair-same i label last none)
 

@@ -174,7 +174,6 @@ module _ (base : ℕ) (lines : List (List ℕ)) (line : List ℕ) (end : Ending)
   pub is_last : IsLast base lines line
   is_last = record {
     apart = is.apart;
-    alone = is.alone;
     earlier =
         ap (λ q. equ_value base q (length lines)) after-more
         ∙ equ_value-same p (statement_of line) is.apart base stay (length lines) (omega (arith, count));
@@ -204,12 +203,11 @@ module _ (base : ℕ) (lines : List (List ℕ)) (line : List ℕ) (end : Ending)
         ∙ ap (lines_that (has_local (more p s) number)) (sym n)
 
     -- the rows by names wait for the line
-    pub unsettled : length after ≤ 16384 → AreSameSymbols old new → old.lines.items ≡ lines → IsUnsettled base names line new
+    pub unsettled : length after ≤ 16384 → AreSameSymbols old new → old.lines.items ≡ lines → IsUnsettled base lines names line new
     unsettled few same listed =
         let now : new.lines.items ≡ after = extended.lines ∙ ap (λ ls. ls ++ line ∷ []) listed in
         let all : new.lines.items ≡ after = now in
         record {
-          lines = lines;
           more = now;
           few = rw now few;
           last = is_last;

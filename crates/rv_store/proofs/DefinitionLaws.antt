@@ -1,12 +1,12 @@
 -- Where definitions can stand.
-use Rattle.std.proofs.Common.{◌≡◌, ℕ, ◌+◌, ◌<◌, ◌≤◌, Bool, true, false, List, [], ◌∷◌, length, bytes_eq, if◌then◌else◌, arith, ap, eqb-true}
+use Rattle.std.proofs.Common.{◌≡◌, ℕ, ◌+◌, ◌<◌, ◌≤◌, Bool, true, false, List, [], ◌∷◌, length, bytes_eq, if◌then◌else◌, true≢false, arith, ap, eqb-true, refl}
 use Rattle.rv_stmt.specs.declared.statement.Body.{Body}
 use Rattle.rv_stmt.specs.declared.statement.Body.TheVariants.{Equ as EquBody}
 use Rattle.rv_stmt.specs.declared.statement.Stmt.{Stmt}
 use Rattle.rv_stmt.specs.LabelNames.{Label}
 use Rattle.rv_list.specs.declared.view.DefinitionPlace.{DefinitionPlace}
 use Rattle.rv_list.specs.declared.view.DefinitionPlace.TheVariants.{Nowhere, Label as ByLabel, Equ}
-use Rattle.rv_store.specs.Definitions.{defines_symbol, place_among_labels, place_in_body, or_place, place_in_statement, first_place, definition_of, is_equ_on}
+use Rattle.rv_store.specs.Definitions.{defines_symbol, place_among_labels, place_in_body, or_place, place_in_statement, first_place, definition_of, is_defined, is_equ_on}
 use Rattle.rv_store.specs.Program.{Program}
 
 -- on one of the lines from `from` to before `to`
@@ -63,3 +63,8 @@ pub is_equ_on-true : (line : ℕ) (place : DefinitionPlace) → is_equ_on line p
 is_equ_on-true line Nowhere h = absurd (let no : false ≡ true = h in cc)
 is_equ_on-true line (ByLabel l index) h = absurd (let no : false ≡ true = h in cc)
 is_equ_on-true line (Equ l) h = ap Equ (eqb-true l line h)
+
+pub undefined : (place : DefinitionPlace) → is_defined place ≡ false → place ≡ Nowhere
+undefined Nowhere h = refl
+undefined (ByLabel line index) h = absurd (true≢false h)
+undefined (Equ line) h = absurd (true≢false h)

@@ -1,5 +1,5 @@
 -- A line at the end of some lines: where it lies.
-use Rattle.std.proofs.Common.{◌≡◌, ℕ, suc, ◌+◌, ◌^◌, ◌<◌, ◌≤◌, true, List, [], ◌∷◌, ◌++◌, length, take, slice_index, arith, ap, sym, subst, ◌∙◌}
+use Rattle.std.proofs.Common.{◌≡◌, ℕ, suc, ◌+◌, ◌^◌, ◌<◌, ◌≤◌, true, false, List, [], ◌∷◌, ◌++◌, length, take, slice_index, arith, ap, sym, subst, ◌∙◌}
 use Rattle.std.proofs.lemmas.List.{length-append}
 use Rattle.std.proofs.Math.Seq.{get_or-append_seam, take-append_seam}
 use Rattle.rv_stmt.specs.declared.statement.Stmt.{Stmt}
@@ -9,7 +9,7 @@ use Rattle.rv_layout.specs.Places.{sum_below, section_base_of, is_base, IsLimite
 use Rattle.rv_layout.specs.Sections.{sections, section_number}
 use Rattle.rv_store.specs.declared.ending.Ending.{Ending}
 use Rattle.rv_store.specs.declared.ends.Ends.{Ends}
-use Rattle.rv_store.specs.Appended.{IsApart, IsAlone, shape_at_end, IsEnding}
+use Rattle.rv_store.specs.Appended.{adds, IsApart, shape_at_end, IsEnding}
 use Rattle.rv_store.specs.Ends.{ends_of, ends_after, end_in, base_by_ends, next_offset, next_place, place_by_shapes}
 use Rattle.rv_store.specs.Layout.{shape_at, shapes_of}
 use Rattle.rv_store.specs.Program.{program_of}
@@ -64,10 +64,10 @@ module _ (ms : List Measured) (m : Measured) (few : length ms < 16384) (limited 
 
 -- What the line adds
 
-pub ending-is : (base : ℕ) (lines : List (List ℕ)) (s : Stmt) (shapes : List Measured) (before : Ends) (end : Ending) → AreShapes (program_of lines) shapes → AreLimited shapes → length lines < 16384 → IsApart (program_of lines) s → IsAlone s
+pub ending-is : (base : ℕ) (lines : List (List ℕ)) (s : Stmt) (shapes : List Measured) (before : Ends) (end : Ending) → AreShapes (program_of lines) shapes → AreLimited shapes → length lines < 16384 → IsApart (program_of lines) s → (end.defines ≡ false → (name : List ℕ) → adds (program_of lines) s name ≡ false)
     → end.shape ≡ shape_at_end (program_of lines) s → IsLimited end.shape → before ≡ ends_of shapes → end.ends ≡ ends_of (shapes ++ end.shape ∷ [])
     → ((t : ℕ) → t < sections → base_by_ends base end.ends t ≡ base_by_ends base before t) → end.place ≡ place_by_shapes base (shapes ++ end.shape ∷ []) (suc (length shapes)) → IsEnding base (program_of lines) s end
-ending-is base lines s shapes before end are limited few apart alone shape limited_end is all stay place =
+ending-is base lines s shapes before end are limited few apart nothing shape limited_end is all stay place =
     let p = program_of lines in
     let count : length shapes ≡ length lines = ap length are ∙ length-for_lines (shape_at p) (length p) ∙ length-program lines in
     let limited_all : AreLimited (shapes ++ end.shape ∷ []) = limited-push shapes end.shape limited limited_end in
@@ -75,7 +75,7 @@ ending-is base lines s shapes before end are limited few apart alone shape limit
     let rows : shapes ++ end.shape ∷ [] ≡ shapes_of (p ++ s ∷ []) = (λ i. are i ++ shape i ∷ []) ∙ sym (shapes-more p s) in
     record {
       apart = apart;
-      alone = alone;
+      nothing = nothing;
       shape = shape;
       limited = limited_end;
       ends = all ∙ ap (λ ms. ends_of (ms ++ end.shape ∷ [])) are;

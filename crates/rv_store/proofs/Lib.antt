@@ -5,6 +5,7 @@ pub mod AlikeTexts
 pub mod AppendLaws
 pub mod AppendTexts
 pub mod Alignments
+pub mod ApartLines
 pub mod CarriedJumps
 pub mod ChangeLaws
 pub mod Columns
@@ -15,6 +16,7 @@ pub mod ConstantValues
 pub mod CountedEdits
 pub mod CountedLines
 pub mod DefinitionLaws
+pub mod DefinitionParts
 pub mod DefinitionRows
 pub mod DifferingNames
 pub mod DueLines
@@ -42,7 +44,7 @@ pub mod LineNameLaws
 pub mod LinePairLaws
 pub mod LinesWithout
 pub mod ListedLines
-pub mod LastSymbols
+pub mod LastDefinitions
 pub mod Lists
 pub mod LocalLines
 pub mod LongerPrograms
@@ -53,7 +55,6 @@ pub mod MovedPlaces
 pub mod NameRows
 pub mod NameSets
 pub mod NewShapes
-pub mod OnlySymbols
 pub mod PairedHighs
 pub mod PartedShapes
 pub mod PassedItems

@@ -3,7 +3,7 @@ use Rattle.std.proofs.Common.{◌≡◌, ℕ, suc, ◌+◌, ◌-◌, ◌^◌, �
 use Rattle.std.specs.Prelude.{remove}
 use Rattle.std.proofs.Math.Path.{fun_ext}
 use Rattle.std.proofs.Math.Seq.{drop-append_seam}
-use Rattle.std.proofs.lemmas.Bool.{cases_lt, eq-eqb, ne_eqb, not-true}
+use Rattle.std.proofs.lemmas.Bool.{cases_lt, eq-eqb, ne_eqb, not-true, lt-ltb, ltb-true}
 use Rattle.std.proofs.lemmas.Bool.Decides.{nat_tests}
 use Rattle.std.proofs.lemmas.Grind.{common_steps}
 use Rattle.std.proofs.lemmas.List.Edits.{length-insert, get_or-insert_at, length-remove}
@@ -19,7 +19,7 @@ use Rattle.rv_store.specs.declared.limits.TheConstants.{MAX_LINES}
 use Rattle.rv_store.specs.Defining.{Definitions, is_up_to, or_here, also_on}
 use Rattle.rv_store.specs.Definitions.{defines_symbol, place_among_labels, place_in_body, or_place, place_in_statement, first_place, definition_of}
 use Rattle.rv_store.specs.Edits.{place_of_edit}
-use Rattle.rv_store.specs.MovedDefinitions.{may_define, is_on, line_after_edit, moved_place, place_after, found_after, kept_after, put_in, replaces_nothing}
+use Rattle.rv_store.specs.MovedDefinitions.{may_define, is_on, line_after_edit, moved_place, place_after, found_after, kept_after, put_in, leaves_definitions}
 use Rattle.rv_store.specs.Program.{Program, program_of}
 use Rattle.rv_store.specs.Rows.{number_of, entry_at, in_row}
 use Rattle.rv_store.specs.Text.{Edit, Insert, Delete, Replace, refusal_of, lines_after}
@@ -354,9 +354,20 @@ place-within lines after (Replace place line) is allowed =
     let within = replace_within lines place line allowed in
     let count = length-set lines (place - 1) line in omega (arith, ap length is, count, within.1)
 
--- where the line that is replaced defines nothing, all definitions stay
-pub all-stay : (lines after : List (List ℕ)) (edit : Edit) → refusal_of lines edit ≡ None → replaces_nothing lines edit ≡ true → definition_of (program_of lines) ≡ kept_after edit after (definition_of (program_of lines))
-all-stay lines after (Insert place line) allowed nothing = absurd (true≢false (sym nothing))
+-- a definition before the place of a line that is put in
+stays-before : (place : ℕ) (line : List ℕ) (found a : DefinitionPlace) (end : ℕ) → IsWithin 1 end a → end ≤ place → a ≡ place_after (Insert place line) found a
+stays-before place line found Nowhere end within before = refl
+stays-before place line found (ByLabel l index) end within before =
+    ap (λ b. ByLabel (if b then l else min (l + 1) (2 ^ 32 - 1)) index) (sym (lt-ltb l place (omega (arith, within.1, before))))
+stays-before place line found (Equ l) end within before =
+    ap (λ b. Equ (if b then l else min (l + 1) (2 ^ 32 - 1))) (sym (lt-ltb l place (omega (arith, within.1, before))))
+
+-- where an edit takes out no definition and moves none, all stay
+pub all-stay : (lines after : List (List ℕ)) (edit : Edit) → refusal_of lines edit ≡ None → leaves_definitions lines edit ≡ true → definition_of (program_of lines) ≡ kept_after edit after (definition_of (program_of lines))
+all-stay lines after (Insert place line) allowed end = fun_ext (λ name.
+    let behind : length lines < place = ltb-true (length lines) place end in
+    let within = within-lines 1 (program_of lines) name in
+    stays-before place line (found_after (Insert place line) after name) (definition_of (program_of lines) name) (1 + length (program_of lines)) within (omega (arith, behind, length-map lines statement_of)))
 all-stay lines after (Delete place) allowed nothing = absurd (true≢false (sym nothing))
 all-stay lines after (Replace place line) allowed nothing = fun_ext (λ name.
     let within = replace_within lines place line allowed in

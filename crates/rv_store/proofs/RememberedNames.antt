@@ -7,14 +7,15 @@ use Rattle.std.proofs.lemmas.Slice.Eq.{bytes_eq-Decides}
 use Rattle.std.specs.List.{filter}
 use Rattle.rv_expr.specs.declared.faults.ValueFault.TheVariants.{LaterEqu}
 use Rattle.rv_list.specs.declared.view.DefinitionPlace.{DefinitionPlace}
-use Rattle.rv_list.specs.declared.view.DefinitionPlace.TheVariants.{Nowhere, Label as ByLabel, Equ}
+use Rattle.rv_list.specs.declared.view.DefinitionPlace.TheVariants.{Nowhere}
 use Rattle.rv_store.specs.declared.forgetting.Remembered.{Remembered}
 use Rattle.rv_store.specs.declared.survey.Survey.{Survey}
-use Rattle.rv_store.specs.Definitions.{definition_of}
-use Rattle.rv_store.specs.Forgetting.{is_defined, AreRemembered}
+use Rattle.rv_store.specs.Definitions.{definition_of, is_defined}
+use Rattle.rv_store.specs.Forgetting.{AreRemembered}
 use Rattle.rv_store.specs.Program.{Program}
 use Rattle.rv_store.specs.Rows.{number_of, entry_at, in_row, AreDefinitions, AreConstants, AreEquValues}
-use Rattle.rv_store.proofs.LastSymbols.{no-constant, no-equ_value}
+use Rattle.rv_store.proofs.DefinitionLaws.{undefined}
+use Rattle.rv_store.proofs.LastDefinitions.{no-constant, no-equ_value}
 use Rattle.rv_store.proofs.NameRows.{position-cons, number-below, name-at}
 
 -- One name more
@@ -121,20 +122,15 @@ row-remembered p names row other names' row' kept made nothing =
       omega (arith, count),
     )
 
-is_defined-false : (place : DefinitionPlace) → is_defined place ≡ false → place ≡ Nowhere
-is_defined-false Nowhere e = refl
-is_defined-false (ByLabel line index) e = absurd (true≢false e)
-is_defined-false (Equ line) e = absurd (true≢false e)
-
 -- The rows of a text
 
 nowhere : (program : Program) (names : List (List ℕ)) (row : List DefinitionPlace) (name : List ℕ) → AreDefinitions program names row → is_defined (in_row names row Nowhere name) ≡ false → definition_of program name ≡ Nowhere
-nowhere program names row name are none = ap (λ f. f name) (sym are.each) ∙ is_defined-false (in_row names row Nowhere name) none
+nowhere program names row name are none = ap (λ f. f name) (sym are.each) ∙ undefined (in_row names row Nowhere name) none
 
 pub definitions-remembered : (program : Program) (names : List (List ℕ)) (survey : Survey) (r : Remembered) → AreRemembered names survey (length names) r → AreDefinitions program names survey.definitions.items → AreDefinitions program r.names r.definitions.items
 definitions-remembered program names survey r are defined =
     let held = row-remembered _ names survey.definitions.items Nowhere r.names r.definitions.items are.names are.definitions
-    (λ name none. is_defined-false (in_row names survey.definitions.items Nowhere name) none) in
+    (λ name none. undefined (in_row names survey.definitions.items Nowhere name) none) in
     record { each = held.0 ∙ defined.each; within = held.1 }
 
 pub constants-remembered : (program : Program) (k : ℕ) (names : List (List ℕ)) (survey : Survey) (r : Remembered) → AreRemembered names survey (length names) r → AreDefinitions program names survey.definitions.items → AreConstants program k names survey.constants.items → AreConstants program k r.names r.constants.items

@@ -1,77 +1,43 @@
--- A line at the end of a text. No other line has to do with it where none defines or uses what it defines, and no section
--- moves by it.
-use Rattle.std.specs.Prelude.{◌≡◌, ℕ, suc, ◌<◌, ◌≤◌, Bool, true, false, ◌||◌, List, [], ◌∷◌, ◌++◌, length, take, bytes_eq, Option, Some, None, if◌then◌else◌}
+-- A line at the end of a text. No other line has to do with it where none uses what it defines, and no section moves by it.
+use Rattle.std.specs.Prelude.{◌≡◌, ℕ, suc, ◌<◌, ◌≤◌, Bool, false, not, ◌&&◌, List, [], ◌∷◌, ◌++◌, length, take, None, Err}
 use Rattle.std.specs.List.{list_any}
-use Rattle.rv_stmt.specs.declared.statement.Body.{Body}
-use Rattle.rv_stmt.specs.declared.statement.Body.TheVariants.{Equ as EquBody}
+use Rattle.rv_expr.specs.declared.faults.ValueFault.TheVariants.{LaterEqu}
 use Rattle.rv_stmt.specs.declared.statement.Stmt.{Stmt}
-use Rattle.rv_stmt.specs.LabelNames.{Label, LabelName}
-use Rattle.rv_stmt.specs.LabelNames as label
 use Rattle.rv_stmt.specs.Statement.{statement_of}
 use Rattle.rv_layout.specs.declared.measured.Measured.{Measured}
 use Rattle.rv_layout.specs.Places.{section_base_of, IsLimited}
 use Rattle.rv_layout.specs.Sections.{sections}
 use Rattle.rv_layout.specs.Shapes.{shape_of}
 use Rattle.rv_list.specs.declared.view.DefinitionPlace.{DefinitionPlace}
-use Rattle.rv_list.specs.declared.view.DefinitionPlace.TheVariants.{Nowhere, Label as ByLabel, Equ}
+use Rattle.rv_list.specs.declared.view.DefinitionPlace.TheVariants.{Nowhere}
 use Rattle.rv_store.specs.declared.ending.Ending.{Ending}
 use Rattle.rv_store.specs.declared.limits.TheConstants.{MAX_LINES}
 use Rattle.rv_store.specs.declared.survey.Survey.{Survey}
 use Rattle.rv_store.specs.Constants.{constant_through}
-use Rattle.rv_store.specs.Definitions.{defines_symbol, definition_of}
+use Rattle.rv_store.specs.Defining.{HoldsPart}
+use Rattle.rv_store.specs.Definitions.{place_in_body, place_in_statement, definition_of, is_defined, is_equ_on}
 use Rattle.rv_store.specs.Ends.{ends_of}
 use Rattle.rv_store.specs.Layout.{shapes_of, place_at}
 use Rattle.rv_store.specs.Pairs.{pcrel_high_of}
 use Rattle.rv_store.specs.Program.{Program, program_of, body_at}
 use Rattle.rv_store.specs.References.{among_local, equ_value}
-use Rattle.rv_store.specs.Rows.{AreDefinitions, AreConstants, AreEquValues, ArePlaces, AreLocals}
-use Rattle.rv_store.specs.Uses.{names_used, is_equ}
+use Rattle.rv_store.specs.Rows.{in_row, AreDefinitions, AreConstants, AreEquValues, ArePlaces, AreLocals}
+use Rattle.rv_store.specs.Uses.{names_used}
 
--- a statement defines a symbol
-abbrev pub defines_in_body : Body → (name : List ℕ) → Bool
-defines_in_body (EquBody d) name = bytes_eq d.symbol name
-defines_in_body body name = false
+-- a statement at the end of a text defines a name that the text does not
+abbrev pub adds : Program → Stmt → (name : List ℕ) → Bool
+adds program s name = not (is_defined (definition_of program name)) && is_defined (place_in_statement (suc (length program)) s name)
 
-abbrev pub defines : Stmt → (name : List ℕ) → Bool
-defines s name = list_any (λ l. defines_symbol l.name name) s.labels || defines_in_body s.body name
+-- the same by rows that say where names are defined, and the number of its line
+abbrev pub adds_by_rows : (names : List (List ℕ)) → List DefinitionPlace → (line : ℕ) → Stmt → (name : List ℕ) → Bool
+adds_by_rows names row line s name = not (is_defined (in_row names row Nowhere name)) && is_defined (place_in_statement line s name)
 
--- a statement with which no line of a text has to do: the text neither defines nor uses what it defines, and it has no local
--- label, and is no high half
+-- a statement with which no line of a text has to do: the text uses no name that it adds, and it has no local label, and is
+-- no high half
 pub record IsApart (program : Program) (s : Stmt) : Type 0 where
   pub local : (number : ℕ) → among_local number s.labels ≡ false
   pub high : pcrel_high_of s.body ≡ None
-  pub new : (name : List ℕ) → defines s name ≡ true → definition_of program name ≡ Nowhere
-  pub unused : (i : ℕ) → 1 ≤ i → i ≤ length program → list_any (defines s) (names_used (body_at program i)) ≡ false
-
--- the symbol that a statement defines, where it defines no more: by its only label, or by its `.equ`
-abbrev pub symbol_of_label : LabelName → Option (List ℕ)
-symbol_of_label (label.Symbol symbol) = Some symbol
-symbol_of_label (label.Local number) = None
-
-abbrev pub symbol_of_equ : Body → Option (List ℕ)
-symbol_of_equ (EquBody d) = Some d.symbol
-symbol_of_equ body = None
-
-abbrev pub one_symbol : List Label → Body → Option (List ℕ)
-one_symbol [] body = symbol_of_equ body
-one_symbol (l ∷ []) body = if is_equ body then None else symbol_of_label l.name
-one_symbol labels body = None
-
-abbrev pub only_symbol : Stmt → Option (List ℕ)
-only_symbol s = one_symbol s.labels s.body
-
--- a statement that defines one symbol, or nothing
-abbrev pub IsAlone : Stmt → Type 0
-IsAlone s = only_symbol s ≡ None → (name : List ℕ) → defines s name ≡ false
-
--- a text neither defines nor uses a name
-pub record IsUnknown (program : Program) (name : List ℕ) : Type 0 where
-  pub new : definition_of program name ≡ Nowhere
-  pub unused : (i : ℕ) → 1 ≤ i → i ≤ length program → list_any (bytes_eq name) (names_used (body_at program i)) ≡ false
-
--- where it defines it
-abbrev pub place_of_symbol : (line : ℕ) → Stmt → DefinitionPlace
-place_of_symbol line s = if is_equ s.body then Equ line else ByLabel line 0
+  pub unused : (i : ℕ) → 1 ≤ i → i ≤ length program → list_any (adds program s) (names_used (body_at program i)) ≡ false
 
 -- the shape of a statement at the end of a text
 abbrev pub shape_at_end : Program → Stmt → Measured
@@ -85,7 +51,7 @@ StaySections base program shape =
 -- what the statement adds at the end of the text
 pub record IsEnding (base : ℕ) (program : Program) (s : Stmt) (end : Ending) : Type 0 where
   pub apart : IsApart program s
-  pub alone : IsAlone s
+  pub nothing : end.defines ≡ false → (name : List ℕ) → adds program s name ≡ false
   pub shape : end.shape ≡ shape_at_end program s
   pub limited : IsLimited end.shape
   pub ends : end.ends ≡ ends_of (shapes_of program ++ end.shape ∷ [])
@@ -145,15 +111,33 @@ pub record HavePlaces (names : List (List ℕ)) (s : Survey) : Type 0 where
 
 pub record IsLast (base : ℕ) (lines : List (List ℕ)) (line : List ℕ) : Type 0 where
   pub apart : IsApart (program_of lines) (statement_of line)
-  pub alone : IsAlone (statement_of line)
   pub earlier : equ_value base (program_of (lines ++ line ∷ [])) (length lines) ≡ equ_value base (program_of lines) (length lines)
 
 -- the rows by lines are those of the text with the line, and the rows by names still those of the text without it
-pub record IsUnsettled (base : ℕ) (names : List (List ℕ)) (line : List ℕ) (s : Survey) : Type 0 where
-  pub lines : List (List ℕ)
+pub record IsUnsettled (base : ℕ) (lines names : List (List ℕ)) (line : List ℕ) (s : Survey) : Type 0 where
   pub more : s.lines.items ≡ lines ++ line ∷ []
   pub few : length s.lines.items ≤ MAX_LINES
   pub last : IsLast base lines line
   pub symbols : AreSymbols base (program_of lines) (length lines) names s
   pub places : ArePlaces base (program_of s.lines.items) s.places.items
   pub locals : AreLocals (program_of s.lines.items) (length (program_of s.lines.items)) s.locals
+
+-- a definition by the `.equ` of the line behind the text
+abbrev pub is_equ_behind : (lines : List (List ℕ)) → Stmt → (name : List ℕ) → DefinitionPlace → Bool
+is_equ_behind lines s name place = is_equ_on (suc (length lines)) place && is_defined (place_in_body (suc (length lines)) s.body name)
+
+-- the rows by names hold a part of what the line defines
+pub record AreInPart (base : ℕ) (lines names : List (List ℕ)) (s : Stmt) (survey : Survey) : Type 0 where
+  pub definitions : HoldsPart names survey.definitions.items (suc (length lines)) (definition_of (program_of lines))
+  pub constants : (name : List ℕ) → is_equ_behind lines s name (in_row names survey.definitions.items Nowhere name) ≡ false
+      → in_row names survey.constants.items None name ≡ constant_through (program_of lines) (length lines) name
+  pub equ_values : (name : List ℕ) → is_equ_behind lines s name (in_row names survey.definitions.items Nowhere name) ≡ false
+      → in_row names survey.equ_values.items (Err LaterEqu) name ≡ equ_value base (program_of lines) (length lines) name
+  pub constants_within : length survey.constants.items ≤ length names
+  pub equ_values_within : length survey.equ_values.items ≤ length names
+
+-- those hold a part of it that say where names are defined, and the others nothing
+pub record AreDefinitionsInPart (base : ℕ) (lines names : List (List ℕ)) (survey : Survey) : Type 0 where
+  pub definitions : HoldsPart names survey.definitions.items (suc (length lines)) (definition_of (program_of lines))
+  pub constants : AreConstants (program_of lines) (length lines) names survey.constants.items
+  pub equ_values : AreEquValues base (program_of lines) (length lines) names survey.equ_values.items

@@ -40,3 +40,15 @@ also_on line others here name = or_here line (others name) (here name)
 pub record Holds (names : List (List ℕ)) (row : List DefinitionPlace) (definitions : Definitions) : Type 0 where
   pub each : in_row names row Nowhere ≡ definitions
   pub within : length row ≤ length names
+
+-- a definition on this line, or none
+abbrev pub IsOn : (line : ℕ) → DefinitionPlace → Type 0
+IsOn line Nowhere = Unit {0}
+IsOn line (ByLabel l index) = l ≡ line
+IsOn line (Equ l) = l ≡ line
+
+-- a row that holds these, and some that are on this line
+pub record HoldsPart (names : List (List ℕ)) (row : List DefinitionPlace) (line : ℕ) (others : Definitions) : Type 0 where
+  pub part : Definitions
+  pub on_line : (name : List ℕ) → IsOn line (part name)
+  pub holds : Holds names row (also_on line others part)

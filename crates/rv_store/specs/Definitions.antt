@@ -1,5 +1,5 @@
 -- Where the names of a text are defined. (docs/LANGUAGE.md, Symbols)
-use Rattle.std.specs.Prelude.{ℕ, ◌+◌, ◌==◌, Bool, false, List, [], ◌∷◌, bytes_eq, Option, Some, None, if◌then◌else◌}
+use Rattle.std.specs.Prelude.{ℕ, ◌+◌, ◌==◌, Bool, true, false, List, [], ◌∷◌, bytes_eq, Option, Some, None, if◌then◌else◌}
 use Rattle.rv_stmt.specs.declared.statement.Body.{Body}
 use Rattle.rv_stmt.specs.declared.statement.Body.TheVariants.{Equ as EquBody}
 use Rattle.rv_stmt.specs.declared.statement.Stmt.{Stmt}
@@ -41,6 +41,11 @@ first_place line (s ∷ ss) name = or_place (place_in_statement line s name) (fi
 -- the definition of a name: the first one in the text
 abbrev pub definition_of : Program → (name : List ℕ) → DefinitionPlace
 definition_of program name = first_place 1 program name
+
+-- there is a definition
+abbrev pub is_defined : DefinitionPlace → Bool
+is_defined Nowhere = false
+is_defined place = true
 
 -- it is the `.equ` of this line
 abbrev pub is_equ_on : (line : ℕ) → DefinitionPlace → Bool

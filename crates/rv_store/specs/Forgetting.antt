@@ -1,16 +1,13 @@
 -- The names that a text defines, among those that have numbers.
-use Rattle.std.specs.Prelude.{◌≡◌, ℕ, ◌+◌, ◌*◌, Bool, true, false, nat_lt, List, length, map, take, None, Err}
+use Rattle.std.specs.Prelude.{◌≡◌, ℕ, ◌+◌, ◌*◌, Bool, nat_lt, List, length, map, take, None, Err}
 use Rattle.std.specs.List.{filter}
 use Rattle.rv_expr.specs.declared.faults.ValueFault.TheVariants.{LaterEqu}
 use Rattle.rv_list.specs.declared.view.DefinitionPlace.{DefinitionPlace}
 use Rattle.rv_list.specs.declared.view.DefinitionPlace.TheVariants.{Nowhere}
 use Rattle.rv_store.specs.declared.forgetting.Remembered.{Remembered}
 use Rattle.rv_store.specs.declared.survey.Survey.{Survey}
+use Rattle.rv_store.specs.Definitions.{is_defined}
 use Rattle.rv_store.specs.Rows.{in_row}
-
-abbrev pub is_defined : DefinitionPlace → Bool
-is_defined Nowhere = false
-is_defined place = true
 
 -- more than twice as many names have numbers as are defined, and 16 more
 abbrev pub has_many_others : (names : List (List ℕ)) → (definitions : List DefinitionPlace) → Bool

@@ -1,4 +1,5 @@
 pub mod Alike
+pub mod Apart
 pub mod Appended
 pub mod Assembled
 pub mod Before

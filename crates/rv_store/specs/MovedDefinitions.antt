@@ -56,7 +56,8 @@ put_in (Insert place line) name = place_in_statement place (statement_of line) n
 put_in (Delete place) name = Nowhere
 put_in (Replace place line) name = place_in_statement place (statement_of line) name
 
--- an edit puts a line in the place of one that defines nothing
-abbrev pub replaces_nothing : (lines : List (List ℕ)) → Edit → Bool
-replaces_nothing lines (Replace place line) = not (may_define (get_or lines (place - 1) []))
-replaces_nothing lines edit = false
+-- an edit takes out no definition and moves none: it puts a line at the end, or in the place of one that defines nothing
+abbrev pub leaves_definitions : (lines : List (List ℕ)) → Edit → Bool
+leaves_definitions lines (Insert place line) = nat_lt (length lines) place
+leaves_definitions lines (Delete place) = false
+leaves_definitions lines (Replace place line) = not (may_define (get_or lines (place - 1) []))

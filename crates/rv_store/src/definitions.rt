@@ -6,8 +6,8 @@ ghost use Rattle.rv_stmt.specs.declared.statement.Body.TheVariants.{Equ as EquBo
 ghost use Rattle.rv_stmt.specs.LentLabels.{label_lent};
 ghost use Rattle.rv_stmt.specs.Statement.{statement_of};
 ghost use Rattle.rv_list.specs.declared.view.DefinitionPlace.TheVariants.{Nowhere};
-ghost use Rattle.rv_store.specs.Defining.{only, of_label, is_up_to, also_on, Holds};
-ghost use Rattle.rv_store.specs.Definitions.{place_among_labels, place_in_body, place_in_statement, is_equ_on};
+ghost use Rattle.rv_store.specs.Defining.{only, of_label, is_up_to, IsOn, also_on, Holds, HoldsPart};
+ghost use Rattle.rv_store.specs.Definitions.{place_among_labels, place_in_body, place_in_statement, is_defined, is_equ_on};
 ghost use Rattle.rv_store.specs.Rows.{number_of, in_row, Grows};
 ghost use Rattle.rv_store.specs.Uses.{is_equ};
 
@@ -16,6 +16,16 @@ use crate::names::NameTable;
 use rv_list::DefinitionPlace;
 use rv_stmt::{Body, Definition, Label, LabelName, LabelSlice, Stmt};
 use std::alloc::{AllocError, Global};
+
+/// Whether there is a definition.
+pub fn is_defined(place: DefinitionPlace) -> bool
+    ensures { result ≡ is_defined place }
+{
+    match place {
+        DefinitionPlace::Nowhere => false,
+        DefinitionPlace::Label(_, _) | DefinitionPlace::Equ(_) => true,
+    }
+}
 
 // Whether it is the `.equ` of this line.
 fn is_equ_on(line: u32, place: DefinitionPlace) -> bool
@@ -83,7 +93,7 @@ fn number_with_place(
     requires { length row.old.items ≤ length names.old }
     ensures number { IfOk result (λ n. number_of names.new name.now ≡ Some n) }
     ensures below { IfOk result (λ n. n < length row.new.items) }
-    ensures row { IfOk result (λ _. Holds names.new row.new.items (in_row names.old row.old.items Nowhere)) }
+    ensures row { Holds names.new row.new.items (in_row names.old row.old.items Nowhere) }
     ensures names { Grows names.old names.new }
 {
     let number = names.intern(alloc, name)?;
@@ -113,8 +123,10 @@ fn define(
     row: &mut Vec<DefinitionPlace>,
 ) -> Result<(), AllocError>
     requires here { is_up_to line place ≡ true }
+    requires on_line { IsOn line place }
     requires within { length row.old.items ≤ length names.old }
     ensures row { IfOk result (λ _. Holds names.new row.new.items (also_on line (in_row names.old row.old.items Nowhere) (only name.now place))) }
+    ensures part { HoldsPart names.new row.new.items line (in_row names.old row.old.items Nowhere) }
     ensures names { Grows names.old names.new }
 {
     let number = number_with_place(alloc, name, names, row)?;
@@ -135,6 +147,7 @@ fn define_label(
 ) -> Result<(), AllocError>
     requires { length row.old.items ≤ length names.old }
     ensures row { IfOk result (λ _. Holds names.new row.new.items (also_on line (in_row names.old row.old.items Nowhere) (of_label line index (label_lent label.entry)))) }
+    ensures part { HoldsPart names.new row.new.items line (in_row names.old row.old.items Nowhere) }
     ensures names { Grows names.old names.new }
 {
     let place = DefinitionPlace::Label(line, index);
@@ -155,6 +168,7 @@ fn define_labels(
     requires few { length labels ≤ 1000 }
     requires within { length row.old.items ≤ length names.old }
     ensures row { IfOk result (λ _. Holds names.new row.new.items (also_on line (in_row names.old row.old.items Nowhere) (place_among_labels line 0 labels.entry))) }
+    ensures part { HoldsPart names.new row.new.items line (in_row names.old row.old.items Nowhere) }
     ensures names { Grows names.old names.new }
 {
     let mut index = 0;
@@ -176,6 +190,7 @@ fn define_equ(
 ) -> Result<(), AllocError>
     requires { length row.old.items ≤ length names.old }
     ensures row { IfOk result (λ _. Holds names.new row.new.items (also_on line (in_row names.old row.old.items Nowhere) (place_in_body line body.now))) }
+    ensures part { HoldsPart names.new row.new.items line (in_row names.old row.old.items Nowhere) }
     ensures names { Grows names.old names.new }
 {
     match body {
@@ -198,6 +213,7 @@ fn define_statement(
     requires few { length stmt.now.labels ≤ 1000 }
     requires within { length row.old.items ≤ length names.old }
     ensures row { IfOk result (λ _. Holds names.new row.new.items (also_on line (in_row names.old row.old.items Nowhere) (place_in_statement line stmt.now))) }
+    ensures part { HoldsPart names.new row.new.items line (in_row names.old row.old.items Nowhere) }
     ensures names { Grows names.old names.new }
 {
     define_labels(alloc, stmt.labels.as_slice(), line, names, row)?;
@@ -215,6 +231,10 @@ pub fn may_define(line: &Line) -> bool
 
 /// Writes what a line defines into a row of what the lines before it and behind it define. Names that it defines get numbers if they
 /// have none, also where there is no memory for the rest. A line that defines nothing is gone past without a look at its statement.
+///
+/// # Errors
+///
+/// Fails only where there is no memory. The row may then hold a part of what the line defines.
 pub fn define_line(
     alloc: Global,
     line: &Line,
@@ -224,6 +244,7 @@ pub fn define_line(
 ) -> Result<(), AllocError>
     requires { length row.old.items ≤ length names.old }
     ensures row { IfOk result (λ _. Holds names.new row.new.items (also_on number (in_row names.old row.old.items Nowhere) (place_in_statement number (statement_of line.now)))) }
+    ensures part { HoldsPart names.new row.new.items number (in_row names.old row.old.items Nowhere) }
     ensures names { Grows names.old names.new }
 {
     if !may_define(line) {

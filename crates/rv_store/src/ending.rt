@@ -13,6 +13,7 @@ ghost use Rattle.rv_store.specs.Rows.{AreDefinitions, AreShapes};
 ghost use Rattle.rv_store.specs.Surveys.{IsSurvey};
 ghost use Rattle.rv_store.specs.Work.{equ_operands, value_operands};
 
+use crate::apart::adds_apart;
 use crate::changed::Changed;
 use crate::edit_error::EditError;
 use crate::ends::Ends;
@@ -20,7 +21,6 @@ use crate::item::Item;
 use crate::line::Line;
 use crate::lines::Lines;
 use crate::names::NameTable;
-use crate::only_symbol::is_apart;
 use crate::places::{last_place, stay_sections};
 use crate::replacement::item_of_line;
 use crate::survey::Survey;
@@ -39,11 +39,14 @@ pub struct Ending {
     pub ends: Ends,
     /// Where it lies.
     pub place: LinePlace,
+    /// It defines a name that the text does not.
+    pub defines: bool,
 }
 
-/// What a line of this shape adds at the end of a text, if no other line has to do with it: none defines or uses what it defines,
-/// and no section moves by it.
+/// What a line of this shape adds at the end of a text, if no other line has to do with it: none uses what it defines, and no section
+/// moves by it.
 pub fn apart_ending(
+    alloc: Global,
     base: u32,
     names: &NameTable,
     survey: &Survey,
@@ -65,11 +68,14 @@ pub fn apart_ending(
     if !stay_sections(base, &survey.ends, &ends) {
         return None;
     }
-    if !is_apart(&survey.lines, names, &survey.definitions, line) {
-        return None;
-    }
+    let defines = adds_apart(alloc, &survey.lines, names, &survey.definitions, line)?;
     let place = last_place(base, &survey.ends, &ends, &shape);
-    Some(Ending { shape, ends, place })
+    Some(Ending {
+        shape,
+        ends,
+        place,
+        defines,
+    })
 }
 
 impl Survey {
@@ -133,7 +139,7 @@ fn with_last_item<C: Count>(
 }
 
 /// Adds a line at the end of a text, with which no other line has to do, and makes its item, by the survey of the text. The
-/// report is that this line is new. A symbol that the line defines gets a number, whatever the outcome.
+/// report is that this line is new. Names that the line defines get numbers, also where there is no memory for the rest.
 ///
 /// The counter's number of expressions computed rises by at most the operands of the line, two for an `.equ`, and its number of
 /// lines encoded by at most one, whatever the outcome.
@@ -176,7 +182,7 @@ pub fn appended<C: Count>(
     numbers.push(survey.lines.len() as u32 + 1)?;
     let last = line.share()?;
     survey.push(line, end)?;
-    survey.define_last(alloc, base, names, &last, counter)?;
+    survey.define_last(alloc, base, names, &last, end.defines, counter)?;
     match with_last_item(alloc, base, names, survey, items, counter) {
         Ok(items) => Ok((items, Changed::of(numbers))),
         Err(e) => {

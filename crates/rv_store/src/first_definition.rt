@@ -58,9 +58,9 @@ fn place_in_statement(stmt: &Stmt, line: u32, name: &[u8]) -> DefinitionPlace
     }
 }
 
-// Where a name is defined on a line. One that defines nothing is gone past without a look at its statement.
+/// Where a name is defined on a line. One that defines nothing is gone past without a look at its statement.
 #[inline(always)]
-fn place_on(line: &Line, number: u32, name: &[u8]) -> DefinitionPlace
+pub fn place_on(line: &Line, number: u32, name: &[u8]) -> DefinitionPlace
     ensures { result ≡ place_in_statement number (statement_of line.now) name.now }
 {
     if !may_define(line) {

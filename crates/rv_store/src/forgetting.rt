@@ -2,23 +2,16 @@
 
 ghost use Rattle.std.specs.Prelude.{◌≡◌, ◌+◌, ◌<◌, ◌≤◌, length, IfOk, OnOk};
 ghost use Rattle.std.specs.List.{filter};
-ghost use Rattle.rv_store.specs.Forgetting.{is_defined, has_many_others, AreRemembered};
+ghost use Rattle.rv_store.specs.Definitions.{is_defined};
+ghost use Rattle.rv_store.specs.Forgetting.{has_many_others, AreRemembered};
 
+use crate::definitions::is_defined;
 use crate::names::{NameTable, entry_at};
 use crate::survey::Survey;
 use rv_expr::ValueFault;
 use rv_fix::Entry;
 use rv_list::DefinitionPlace;
 use std::alloc::{AllocError, Global};
-
-fn is_defined(place: DefinitionPlace) -> bool
-    ensures { result ≡ is_defined place }
-{
-    match place {
-        DefinitionPlace::Nowhere => false,
-        DefinitionPlace::Label(_, _) | DefinitionPlace::Equ(_) => true,
-    }
-}
 
 // How many names are defined, by the row that says where.
 fn defined_count(definitions: &[DefinitionPlace]) -> usize

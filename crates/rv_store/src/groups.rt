@@ -1,6 +1,6 @@
 //! Groups of buckets of names.
 
-ghost use Rattle.std.specs.Prelude.{◌≡◌, ◌%◌, ◌^◌};
+ghost use Rattle.std.specs.Prelude.{◌≡◌, ◌%◌, ◌^◌, IsTrue};
 ghost use Rattle.rv_store.specs.NameSets.{no_groups, every_group, with_group, has_group, bits_of, groups_of, share_group};
 
 /// A set of groups of buckets, of which there are 64: a bit for each. It stands in two halves, since a line has one, and has no room for
@@ -34,6 +34,13 @@ impl Groups {
         ensures { result ≡ no_groups }
     {
         Groups { low: 0, high: 0 }
+    }
+
+    /// Whether there are none.
+    pub fn are_none(self) -> bool
+        ensures { IsTrue result → self ≡ no_groups }
+    {
+        self.low == 0 && self.high == 0
     }
 
     /// All groups.

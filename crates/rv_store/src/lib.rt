@@ -2,6 +2,7 @@
 #![tactic(auto)]
 
 mod alike;
+mod apart;
 mod assembly;
 mod before;
 mod brief;
@@ -26,7 +27,7 @@ mod item;
 mod jumps;
 mod kept_code;
 mod kept_constants;
-mod last_symbol;
+mod last_definitions;
 mod laws;
 mod limits;
 mod line;
@@ -40,7 +41,6 @@ mod moved_definitions;
 mod name_set;
 mod names;
 mod new_shape;
-mod only_symbol;
 mod paired_highs;
 mod parted_shapes;
 mod places;

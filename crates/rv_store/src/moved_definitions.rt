@@ -6,7 +6,7 @@ ghost use Rattle.rv_list.specs.declared.view.DefinitionPlace.TheVariants.{Nowher
 ghost use Rattle.rv_store.specs.Defining.{also_on, Holds};
 ghost use Rattle.rv_store.specs.Definitions.{definition_of};
 ghost use Rattle.rv_store.specs.Edits.{edit_of, place_of_edit};
-ghost use Rattle.rv_store.specs.MovedDefinitions.{is_on, takes_out, line_after_edit, moved_place, place_after, found_after, kept_after, put_in, replaces_nothing};
+ghost use Rattle.rv_store.specs.MovedDefinitions.{is_on, takes_out, line_after_edit, moved_place, place_after, found_after, kept_after, put_in, leaves_definitions};
 ghost use Rattle.rv_store.specs.Program.{program_of};
 ghost use Rattle.rv_store.specs.Rows.{number_of, in_row, Grows, AreDefinitions};
 ghost use Rattle.rv_store.specs.Text.{refusal_of, lines_after};
@@ -100,8 +100,13 @@ fn place_after(
     }
 }
 
-// The same of all names.
-fn keep_places(edit: &LineEdit<'_>, lines: &[Line], names: &NameTable, row: &mut [DefinitionPlace])
+/// Where all names of a row are defined after an edit that leaves these lines, but for what the line defines that it puts in.
+pub fn keep_places(
+    edit: &LineEdit<'_>,
+    lines: &[Line],
+    names: &NameTable,
+    row: &mut [DefinitionPlace],
+)
     requires first { 1 ≤ place_of_edit (edit_of edit.now) }
     requires within { place_of_edit (edit_of edit.now) - 1 ≤ length lines.now }
     requires few { length lines.now ≤ MAX_LINES }
@@ -114,14 +119,15 @@ fn keep_places(edit: &LineEdit<'_>, lines: &[Line], names: &NameTable, row: &mut
     }
 }
 
-// Whether an edit puts a line in the place of one that defines nothing.
-fn replaces_nothing(old: &Lines<'_>, edit: &LineEdit<'_>) -> bool
+// Whether an edit takes out no definition and moves none: it puts a line at the end, or in the place of one that defines nothing.
+fn leaves_definitions(old: &Lines<'_>, edit: &LineEdit<'_>) -> bool
     requires allowed { refusal_of old.now (edit_of edit.now) ≡ None }
-    ensures { result ≡ replaces_nothing old.now (edit_of edit.now) }
+    ensures { result ≡ leaves_definitions old.now (edit_of edit.now) }
 {
     match *edit {
+        LineEdit::Insert(k, _) => old.len() < k as usize,
+        LineEdit::Delete(_) => false,
         LineEdit::Replace(k, _) => !may_define(old.line(k)),
-        LineEdit::Insert(_, _) | LineEdit::Delete(_) => false,
     }
 }
 
@@ -141,7 +147,7 @@ fn kept_definitions(
     ensures { IfOk result (λ row'. Holds names.now row'.items (kept_after (edit_of edit.now) lines.now (definition_of (program_of old.now)))) }
 {
     let mut kept = Vec::from_slice(alloc, row)?;
-    if replaces_nothing(old, edit) {
+    if leaves_definitions(old, edit) {
         return Ok(kept);
     }
     keep_places(edit, lines, names, kept.as_mut_slice());

@@ -151,6 +151,13 @@ impl NameSet {
         }
     }
 
+    /// Whether it has no name.
+    pub fn is_empty(&self) -> bool
+        ensures { IsTrue result → (bucket : ℕ) → has_bucket self.now bucket ≡ false }
+    {
+        self.groups.are_none()
+    }
+
     // What is true of the names of a bucket.
     #[inline]
     fn mark(&self, bucket: u16) -> Mark

@@ -214,7 +214,14 @@ impl Store {
         if k <= self.items.len() {
             return None;
         }
-        apart_ending(self.base, &self.names, &self.survey, line, shape)
+        apart_ending(
+            self.alloc,
+            self.base,
+            &self.names,
+            &self.survey,
+            line,
+            shape,
+        )
     }
 
     // Puts a line of this shape in the place of line `k`, which it is alike: only this line is made anew. Where there is no memory

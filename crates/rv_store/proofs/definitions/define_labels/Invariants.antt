@@ -1,6 +1,6 @@
 use Rattle.std.proofs.Common.{◌≡◌, ◌+◌, ◌≤◌, length}
 use Rattle.rv_list.specs.declared.view.DefinitionPlace.TheVariants.{Nowhere}
-use Rattle.rv_store.specs.Defining.{also_on}
+use Rattle.rv_store.specs.Defining.{also_on, HoldsPart}
 use Rattle.rv_store.specs.Definitions.{place_among_labels}
 use Rattle.rv_store.specs.Rows.{in_row, Grows}
 use Rattle.rv_store.proofs.definitions.define_labels.Given as goal
@@ -11,6 +11,7 @@ invariant-loop-label l = record {
   each : also_on l.line (in_row l.names l.row.items Nowhere) (place_among_labels l.line l.index l.labels)
       ≡ also_on l.line (in_row l.initial.names l.initial.row.items Nowhere) (place_among_labels l.line 0 l.initial.labels);
   within : length l.row.items ≤ length l.names;
+  part : HoldsPart l.names l.row.items l.line (in_row l.initial.names l.initial.row.items Nowhere);
   names : Grows l.initial.names l.names;
   count : l.index + length l.labels ≡ length l.initial.labels;
 }

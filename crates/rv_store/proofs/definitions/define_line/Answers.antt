@@ -3,6 +3,7 @@ use Rattle.rv_stmt.specs.Statement.{statement_of}
 use Rattle.rv_list.specs.declared.view.DefinitionPlace.TheVariants.{Nowhere}
 use Rattle.rv_store.specs.Defining.{also_on}
 use Rattle.rv_store.specs.Rows.{in_row}
+use Rattle.rv_store.proofs.DefinitionParts.{part-same}
 use Rattle.rv_store.proofs.DefinitionRows.{nothing-defined, also_on-nothing}
 use Rattle.rv_store.proofs.definitions.define_line.Goals as goal
 
@@ -14,3 +15,6 @@ returns-then-not-may_define-clause-row c =
       each = sym (ap (also_on number before) (nothing-defined number (statement_of c.args.line.now) (sym c.may_define.ensures ∙ c.if-not-may_define.true)) ∙ also_on-nothing number before);
       within = c.requires;
     }
+
+pub returns-then-not-may_define-clause-part : goal.returns-then-not-may_define-clause-part
+returns-then-not-may_define-clause-part c = part-same c.args.names.now c.args.row.now.items c.args.number c.requires

@@ -4,6 +4,7 @@ use Rattle.rv_store.specs.Definitions.{place_among_labels, place_in_body}
 use Rattle.rv_list.specs.declared.view.DefinitionPlace.TheVariants.{Nowhere}
 use Rattle.rv_store.specs.Rows.{in_row}
 use Rattle.rv_store.proofs.DefinitionLaws.{within-labels}
+use Rattle.rv_store.proofs.DefinitionParts.{part-more}
 use Rattle.rv_store.proofs.DefinitionRows.{also_on-joined}
 use Rattle.rv_store.proofs.definitions.define_statement.Goals as goal
 
@@ -20,3 +21,11 @@ returns-clause-row c =
           ∙ also_on-joined line before (place_among_labels line 0 stmt.labels) (place_in_body line stmt.body) (within-labels line 0 stmt.labels);
       within = body.within;
     }
+
+pub returns-in_err-define_equ-clause-part : goal.returns-in_err-define_equ-clause-part
+returns-in_err-define_equ-clause-part c =
+    part-more c.define_labels.new.names c.define_labels.new.row.items c.args.line (in_row c.args.names.now c.args.row.now.items Nowhere) c.define_equ.new.names c.define_equ.new.row.items c.define_labels.ensures.part c.define_equ.ensures.part
+
+pub returns-clause-part : goal.returns-clause-part
+returns-clause-part c =
+    part-more c.define_labels.new.names c.define_labels.new.row.items c.args.line (in_row c.args.names.now c.args.row.now.items Nowhere) c.define_equ.new.names c.define_equ.new.row.items c.define_labels.ensures.part c.define_equ.ensures.part

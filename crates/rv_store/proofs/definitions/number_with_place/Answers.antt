@@ -27,3 +27,20 @@ returns-else-number-len-clause-row c =
       each = row-grown c.args.names.now c.intern.new.self c.args.row.now.items Nowhere c.in_ok-number.ensures.grows c.requires;
       within = omega (arith, more, c.requires);
     }
+
+pub returns-in_err-number-clause-row : goal.returns-in_err-number-clause-row
+returns-in_err-number-clause-row c =
+    let more = grows-length c.args.names.now c.intern.new.self c.intern.ensures.grows in
+    record {
+      each = row-grown c.args.names.now c.intern.new.self c.args.row.now.items Nowhere c.intern.ensures.grows c.requires;
+      within = omega (arith, more, c.requires);
+    }
+
+pub returns-in_err-resize-clause-row : goal.returns-in_err-resize-clause-row
+returns-in_err-resize-clause-row c =
+    let more = grows-length c.args.names.now c.intern.new.self c.intern.ensures.grows in
+    record {
+      each = ap (λ r. in_row c.intern.new.self r Nowhere) c.in_err-resize.ensures.items
+          ∙ row-grown c.args.names.now c.intern.new.self c.args.row.now.items Nowhere c.intern.ensures.grows c.requires;
+      within = omega (arith, more, c.requires, ap length c.in_err-resize.ensures.items);
+    }

@@ -1,10 +1,10 @@
-use Rattle.std.proofs.Common.{◌≡◌, ℕ, ◌<◌, List, [], ◌∷◌, ◌++◌, length, arith, subst}
+use Rattle.std.proofs.Common.{◌≡◌, ℕ, ◌<◌, false, List, [], ◌∷◌, ◌++◌, length, arith, subst}
 use Rattle.rv_stmt.specs.Statement.{statement_of}
 use Rattle.rv_layout.specs.declared.measured.Measured.{Measured}
 use Rattle.rv_layout.specs.Places.{IsLimited, AreLimited}
 use Rattle.rv_store.specs.declared.ends.Ends.{Ends}
 use Rattle.rv_store.specs.declared.limits.TheConstants.{MAX_LINES}
-use Rattle.rv_store.specs.Appended.{IsApart}
+use Rattle.rv_store.specs.Appended.{adds, IsApart}
 use Rattle.rv_store.specs.Ends.{ends_of, IsBehind}
 use Rattle.rv_store.specs.Program.{program_of}
 use Rattle.rv_store.specs.Rows.{AreShapes}
@@ -52,6 +52,7 @@ returns c =
     let shapes = c.args.survey.now.shapes.items in
     let all = ends-with shapes c.args.shape c.args.survey.now.ends c.advance.new.self c.requires.ends c.advance.ensures in
     ending-is c.args.base c.args.survey.now.lines.items (statement_of c.args.line.now) shapes c.args.survey.now.ends _ c.requires.shapes c.requires.limited c.requires.few
-    (subst (λ ls. IsApart (program_of ls) (statement_of c.args.line.now)) c.deref.ensures.value (c.is_apart.ensures.apart c.if-not-is_apart.false))
-    (c.is_apart.ensures.alone c.if-not-is_apart.false) c.requires.shape c.requires.limited_shape c.requires.ends all (c.stay_sections.ensures c.if-not-stay_sections.false)
+    (subst (λ ls. IsApart (program_of ls) (statement_of c.args.line.now)) c.deref.ensures.value c.in_ok-defines.ensures.apart)
+    (subst (λ ls. c.in_ok-defines.defines ≡ false → (name : List ℕ) → adds (program_of ls) (statement_of c.args.line.now) name ≡ false) c.deref.ensures.value c.in_ok-defines.ensures.nothing)
+    c.requires.shape c.requires.limited_shape c.requires.ends all (c.stay_sections.ensures c.if-not-stay_sections.false)
     (c.last_place-place.ensures shapes (behind c.args.survey.now.lines.items shapes c.args.shape c.args.survey.now.ends c.advance.new.self c.requires.shapes c.requires.limited c.requires.limited_shape c.requires.few c.requires.ends all))

@@ -1,8 +1,12 @@
-use Rattle.std.proofs.Common.{◌≡◌, ◌≤◌, ◌+◌, [], ◌∷◌, ◌++◌, length, arith, sym, subst, ◌∙◌, refl}
-use Rattle.rv_store.specs.Appended.{AreSymbols, IsLast, IsUnsettled}
+use Rattle.std.proofs.Common.{◌≡◌, ℕ, ◌<◌, ◌≤◌, false, List, [], ◌∷◌, ◌++◌, length, arith, ap, sym, subst, ◌∙◌, refl}
+use Rattle.rv_stmt.specs.Statement.{statement_of}
+use Rattle.rv_store.specs.declared.ending.Ending.{Ending}
+use Rattle.rv_store.specs.declared.limits.TheConstants.{MAX_LINES}
+use Rattle.rv_store.specs.declared.survey.Survey.{Survey}
+use Rattle.rv_store.specs.Appended.{adds, IsEnding, AreSameSymbols, AreExtended, AreSymbols, IsUnsettled}
 use Rattle.rv_store.specs.Program.{program_of}
 use Rattle.rv_store.specs.Surveys.{IsSurvey}
-use Rattle.rv_store.proofs.AppendTexts.{in_any_error, begins-alone, begins-extended, begins-still, symbols-of, symbols-same, count-shapes, count-places, is_last, unsettled, survey-extended}
+use Rattle.rv_store.proofs.AppendTexts.{in_any_error, begins-alone, begins-extended, begins-still, symbols-of, symbols-same, count-shapes, count-places, unsettled, survey-extended}
 use Rattle.rv_store.proofs.LongerTexts.{count-longer}
 use Rattle.rv_store.proofs.ending.appended.Goals as goal
 
@@ -29,12 +33,19 @@ returns-in_err-push-2-clause-symbols g c =
     in_any_error c.from_residual-in_err-push-2.result
     (symbols-same c.args.base (program_of c.args.survey.now.lines.items) (length c.args.survey.now.lines.items) c.args.names.now c.args.survey.now c.push-2.new.self c.push-2.ensures.symbols (symbols-of c.args.base c.args.survey.now.lines.items c.args.names.now c.args.survey.now c.requires.survey))
 
+-- the rows by names wait for the line
+waits : (base : ℕ) (lines names : List (List ℕ)) (line last : List ℕ) (end : Ending) (old new : Survey) → IsEnding base (program_of lines) (statement_of line) end → IsSurvey base (program_of lines) names old → AreExtended line end old new → AreSameSymbols old new → old.lines.items ≡ lines → length lines < MAX_LINES → last ≡ line → IsUnsettled base lines names last new
+waits base lines names line last end old new ending are extended same listed few is =
+    let all : length (lines ++ line ∷ []) ≤ 16384 = omega (arith, few, count-longer lines line) in
+    subst (λ l. IsUnsettled base lines names l new) (sym is) (unsettled base lines line end ending names old new are extended all same listed)
+
 pub define_last-requires-clause-unsettled : goal.define_last-requires-clause-unsettled
 define_last-requires-clause-unsettled g c =
-    let lines = c.args.survey.now.lines.items in
-    let few : length (lines ++ c.args.line ∷ []) ≤ 16384 = omega (arith, c.requires.few, count-longer lines c.args.line) in
-    let waits = unsettled c.args.base lines c.args.line c.args.end.now c.requires.ending c.args.names.now c.args.survey.now c.push-2.new.self c.requires.survey c.in_ok-push-2.ensures.ok few c.push-2.ensures.symbols refl in
-    subst (λ l. IsUnsettled c.args.base c.args.names.now l c.push-2.new.self) (sym c.in_ok-last.ensures) waits
+    let lines = c.args.survey.now.lines.items in (
+      lines,
+      waits c.args.base lines c.args.names.now c.args.line c.in_ok-last.last c.args.end.now c.args.survey.now c.push-2.new.self c.requires.ending c.requires.survey c.in_ok-push-2.ensures.ok c.push-2.ensures.symbols refl c.requires.few c.in_ok-last.ensures,
+      λ none name. subst (λ l. adds (program_of lines) (statement_of l) name ≡ false) (sym c.in_ok-last.ensures) (c.requires.ending.nothing none name),
+    )
 
 pub returns-in_err-define_last-clause-err : goal.returns-in_err-define_last-clause-err
 returns-in_err-define_last-clause-err g c =
@@ -46,7 +57,8 @@ pub returns-in_err-define_last-clause-symbols : goal.returns-in_err-define_last-
 returns-in_err-define_last-clause-symbols g c =
     let lines = c.args.survey.now.lines.items in
     in_any_error c.from_residual-in_err-define_last.result
-    (c.in_err-define_last.ensures.err c.args.base (program_of lines) (length lines) (symbols-same c.args.base (program_of lines) (length lines) c.args.names.now c.args.survey.now c.push-2.new.self c.push-2.ensures.symbols (symbols-of c.args.base c.args.survey.now.lines.items c.args.names.now c.args.survey.now c.requires.survey)))
+    (c.in_err-define_last.ensures.err lines
+    (waits c.args.base lines c.args.names.now c.args.line c.in_ok-last.last c.args.end.now c.args.survey.now c.push-2.new.self c.requires.ending c.requires.survey c.in_ok-push-2.ensures.ok c.push-2.ensures.symbols refl c.requires.few c.in_ok-last.ensures))
 
 pub with_last_item-requires-clause-survey : goal.with_last_item-requires-clause-survey
 with_last_item-requires-clause-survey g c =
@@ -70,17 +82,22 @@ returns-in-Err-clause-err g c =
     begins-still (length lines) c.args.survey.now c.define_last.new.self c.forget_last.new.self
     (begins-still (length lines) c.args.survey.now c.push-2.new.self c.define_last.new.self begin c.define_last.ensures.lines) c.forget_last.ensures.lines
 
+pub forget_last-requires-clause-some : goal.forget_last-requires-clause-some
+forget_last-requires-clause-some g c =
+    let lines = c.args.survey.now.lines.items in
+    let all : c.define_last.new.self.lines.items ≡ lines ++ c.args.line ∷ [] = c.define_last.ensures.lines.lines ∙ c.in_ok-push-2.ensures.ok.lines in
+    omega (arith, ap length all, count-longer lines c.args.line)
+
+pub forget_last-requires-clause-named : goal.forget_last-requires-clause-named
+forget_last-requires-clause-named g c = c.in_ok-define_last.ensures.symbols.definitions.within
+
 pub returns-in-Err-clause-symbols : goal.returns-in-Err-clause-symbols
 returns-in-Err-clause-symbols g c =
     let lines = c.args.survey.now.lines.items in
     let all : c.define_last.new.self.lines.items ≡ lines ++ c.args.line ∷ [] = c.define_last.ensures.lines.lines ∙ c.in_ok-push-2.ensures.ok.lines in
-    let symbols = subst (λ ls. AreSymbols c.args.base (program_of ls) (length ls) c.define_last.new.names c.define_last.new.self) all c.in_ok-define_last.ensures.symbols in
-    let last : c.args.line ≡ c.in_ok-last.last = sym c.in_ok-last.ensures in
-    let count : length (lines ++ c.args.line ∷ []) ≡ length lines + 1 = omega (arith, count-longer lines c.args.line) in
-    let counted = subst (λ k. AreSymbols c.args.base (program_of (lines ++ c.args.line ∷ [])) k c.define_last.new.names c.define_last.new.self) count symbols in
-    c.forget_last.ensures.symbols c.args.base lines
-    (subst (IsLast c.args.base lines) last (is_last c.args.base lines c.args.line c.args.end.now c.requires.ending))
-    (subst (λ l. AreSymbols c.args.base (program_of (lines ++ l ∷ [])) (length lines + 1) c.define_last.new.names c.define_last.new.self) last counted)
+    c.forget_last.ensures.symbols c.args.base lines (all ∙ ap (λ l. lines ++ l ∷ []) (sym c.in_ok-last.ensures))
+    (c.in_ok-define_last.ensures.part lines
+    (waits c.args.base lines c.args.names.now c.args.line c.in_ok-last.last c.args.end.now c.args.survey.now c.push-2.new.self c.requires.ending c.requires.survey c.in_ok-push-2.ensures.ok c.push-2.ensures.symbols refl c.requires.few c.in_ok-last.ensures))
 
 pub returns-in_err-define_last-clause-parsed : goal.returns-in_err-define_last-clause-parsed
 returns-in_err-define_last-clause-parsed g c = c.define_last.ensures.parsed

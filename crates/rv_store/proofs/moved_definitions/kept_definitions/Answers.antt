@@ -8,13 +8,13 @@ use Rattle.rv_store.specs.Rows.{in_row}
 use Rattle.rv_store.proofs.MovedDefinitions.{place-first, place-within, all-stay}
 use Rattle.rv_store.proofs.moved_definitions.kept_definitions.Goals as goal
 
-pub returns-then-replaces_nothing : goal.returns-then-replaces_nothing
-returns-then-replaces_nothing c =
+pub returns-then-leaves_definitions : goal.returns-then-leaves_definitions
+returns-then-leaves_definitions c =
     let old = c.args.old.now in
     let row = c.requires.row in
     record {
       each = ap (λ r. in_row c.args.names.now r Nowhere) c.in_ok-kept.ensures.items ∙ row.each
-          ∙ all-stay old c.args.lines.now (edit_of c.args.edit.now) c.requires.allowed (sym c.replaces_nothing.ensures ∙ c.if-replaces_nothing.true);
+          ∙ all-stay old c.args.lines.now (edit_of c.args.edit.now) c.requires.allowed (sym c.leaves_definitions.ensures ∙ c.if-leaves_definitions.true);
       within = omega (arith, ap length c.in_ok-kept.ensures.items, row.within);
     }
 

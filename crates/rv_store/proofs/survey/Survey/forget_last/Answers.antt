@@ -1,21 +1,34 @@
-use Rattle.std.proofs.Common.{◌≡◌, Some, None, ap, sym, ◌∙◌}
-use Rattle.std.specs.Option.{option_map}
-use Rattle.rv_stmt.specs.Statement.{statement_of}
-use Rattle.rv_store.specs.Appended.{only_symbol}
-use Rattle.rv_store.proofs.LastSymbols.{symbols-none_back, symbols-forgotten, symbols-unnumbered}
+use Rattle.std.proofs.Common.{◌≡◌, ◌-◌, suc, [], ◌∷◌, ◌++◌, length, take, drop, vec_len, append-nil, arith, ap, ◌∙◌, refl}
+use Rattle.std.proofs.Math.ListN.{drop_of_length-le}
+use Rattle.std.proofs.Math.Seq.{take-append_seam}
+use Rattle.std.proofs.lemmas.List.{take_all}
+use Rattle.rv_list.specs.declared.view.DefinitionPlace.TheVariants.{Nowhere}
+use Rattle.rv_store.specs.MovedDefinitions.{kept_after}
+use Rattle.rv_store.specs.Rows.{in_row}
+use Rattle.rv_store.specs.Text.{Delete}
+use Rattle.rv_store.proofs.LastDefinitions.{symbols-forgotten}
+use Rattle.rv_store.proofs.LongerTexts.{count-longer}
 use Rattle.rv_store.proofs.survey.Survey.forget_last.Goals as goal
 
-pub returns-in_default-clause-symbols : goal.returns-in_default-clause-symbols
-returns-in_default-clause-symbols c base lines is are =
-    let none : only_symbol (statement_of c.args.line.now) ≡ None = ap only_symbol (sym c.stmt.ensures) ∙ sym c.only_symbol.ensures ∙ ap (option_map (λ x. x.now)) c.in_default.is in
-    symbols-none_back base lines c.args.line.now is c.args.names.now c.args.self.now none are
-
-pub returns-in_default-number-clause-symbols : goal.returns-in_default-number-clause-symbols
-returns-in_default-number-clause-symbols c base lines is are =
-    let some : only_symbol (statement_of c.args.line.now) ≡ Some c.in-Some.symbol.now = ap only_symbol (sym c.stmt.ensures) ∙ sym c.only_symbol.ensures ∙ ap (option_map (λ x. x.now)) c.in-Some.is in
-    symbols-unnumbered base lines c.args.line.now is c.args.names.now c.in-Some.symbol.now some c.args.self.now (sym c.number.ensures.number ∙ c.in_default-number.is) are
-
 pub returns-clause-symbols : goal.returns-clause-symbols
-returns-clause-symbols c base lines is are =
-    let some : only_symbol (statement_of c.args.line.now) ≡ Some c.in-Some.symbol.now = ap only_symbol (sym c.stmt.ensures) ∙ sym c.only_symbol.ensures ∙ ap (option_map (λ x. x.now)) c.in-Some.is in
-    symbols-forgotten base lines c.args.line.now is c.args.names.now c.in-Some.symbol.now some c.args.self.now _ c.in-Some-number.number (sym c.number.ensures.number ∙ c.in-Some-number.is) c.put_at.ensures c.put_at-2.ensures c.put_at-3.ensures are
+returns-clause-symbols c base lines listed part =
+    let names = c.args.names.now in
+    let line = c.args.line.now in
+    let all = c.args.self.now.lines in
+    let forgotten = c.forget_equ.new.self in
+    let number : c.len-number.result ≡ suc (length lines) = omega (arith, c.len-number.ensures, all.ok.0, ap length listed, count-longer lines line) in
+    let left = c.forget_equ.ensures.symbols base lines (omega (arith, number)) part in
+    let same : c.deref.result.now ≡ lines ++ line ∷ [] = c.deref.ensures.value ∙ c.forget_equ.ensures.lines.lines ∙ listed in
+    let earlier : c.split_at.result.0.now ≡ lines =
+    c.split_at.ensures.front ∙ (λ i. take (let k : c.len-number.result - 1 ≡ length lines = omega (arith, number) in k i) (same i)) ∙ take-append_seam lines (line ∷ []) in
+    let row = c.keep_places.new.row in
+    let lent = c.as_mut_slice.ensures.value in
+    let count : length row ≡ length forgotten.definitions.items = c.keep_places.ensures.as_many ∙ ap length lent in
+    let len : vec_len forgotten.definitions ≡ length forgotten.definitions.items = omega (arith, forgotten.definitions.ok.0) in
+    let whole : take (vec_len forgotten.definitions) (row ++ drop (length row) forgotten.definitions.items) ≡ row =
+    ap (λ rest. take (vec_len forgotten.definitions) (row ++ rest)) (drop_of_length-le forgotten.definitions.items (omega (arith, count)))
+    ∙ ap (take (vec_len forgotten.definitions)) (append-nil row) ∙ take_all (vec_len forgotten.definitions) row (omega (arith, count, len)) in
+    symbols-forgotten base lines names forgotten _ left
+    (ap (λ r. in_row names r Nowhere) whole ∙ c.keep_places.ensures.row
+    ∙ (λ i. kept_after (Delete (number i)) (earlier i) (in_row names (lent i) Nowhere)))
+    (ap length whole ∙ count) refl refl

@@ -1,0 +1,108 @@
+-- Lines with which no line of a text has to do: what they add, and who uses it.
+use Rattle.std.proofs.Common.{◌≡◌, ℕ, zero, suc, ◌+◌, ◌-◌, ◌<◌, ◌⊎◌, inl, inr, Bool, true, false, not, ◌&&◌, ◌||◌, List, [], ◌∷◌, length, get_or, bytes_eq, None, if◌then◌else◌, true≢false, arith, ap, sym, ◌∙◌, refl}
+use Rattle.std.specs.List.{list_any}
+use Rattle.std.proofs.lemmas.Bool.{or_parts}
+use Rattle.std.proofs.lemmas.List.{get_or-map}
+use Rattle.std.proofs.lemmas.Slice.Eq.{bytes_eq-Decides}
+use Rattle.rv_stmt.specs.declared.statement.Stmt.{Stmt}
+use Rattle.rv_stmt.specs.LabelNames.{Label}
+use Rattle.rv_stmt.specs.Statement.{statement_of}
+use Rattle.rv_list.specs.declared.view.DefinitionPlace.{DefinitionPlace}
+use Rattle.rv_list.specs.declared.view.DefinitionPlace.TheVariants.{Nowhere, Label as ByLabel, Equ}
+use Rattle.rv_store.specs.declared.name_set.Mark.{Mark}
+use Rattle.rv_store.specs.declared.name_set.Mark.TheVariants.{Unknown, Same, Moved, Changed}
+use Rattle.rv_store.specs.Appended.{adds, adds_by_rows, IsApart}
+use Rattle.rv_store.specs.Definitions.{defines_symbol, place_among_labels, place_in_body, or_place, place_in_statement, is_defined}
+use Rattle.rv_store.specs.Locals.{has_local_labels}
+use Rattle.rv_store.specs.NameSets.{IsBelow, differs}
+use Rattle.rv_store.specs.Pairs.{pcrel_high_of}
+use Rattle.rv_store.specs.Program.{program_of, no_statement, body_at}
+use Rattle.rv_store.specs.Rows.{AreDefinitions}
+use Rattle.rv_store.specs.Uses.{names_used}
+use Rattle.rv_store.proofs.LocalLines.{none-among}
+use Rattle.rv_store.proofs.Programs.{length-program}
+
+-- Marks
+
+-- what may differ by one mark may do so by one that says less
+pub below-differs : (mark other : Mark) → IsBelow mark other → differs mark ≡ true → differs other ≡ true
+below-differs Unknown other below h = absurd (true≢false (sym h))
+below-differs Same other below h = absurd (true≢false (sym h))
+below-differs Moved Moved below h = refl
+below-differs Moved Changed below h = refl
+below-differs Moved Unknown below h = absurd below
+below-differs Moved Same below h = absurd below
+below-differs Changed Changed below h = refl
+below-differs Changed Unknown below h = absurd below
+below-differs Changed Same below h = absurd below
+below-differs Changed Moved below h = absurd below
+
+pub changed-differs : (mark : Mark) → IsBelow Changed mark → differs mark ≡ true
+changed-differs mark below = below-differs Changed mark below refl
+
+-- Names that a statement defines
+
+labels-define : (line index : ℕ) (ls : List Label) (name : List ℕ) → is_defined (place_among_labels line index ls name) ≡ list_any (λ l. defines_symbol l.name name) ls
+labels-define line index [] name = refl
+labels-define line index (l ∷ ls) name = at (defines_symbol l.name name) (labels-define line (index + 1) ls name)
+  where
+    at : (b : Bool) → is_defined (place_among_labels line (index + 1) ls name) ≡ list_any (λ l. defines_symbol l.name name) ls → is_defined (if b then ByLabel line index else place_among_labels line (index + 1) ls name) ≡ (b || list_any (λ l. defines_symbol l.name name) ls)
+    at true rest = refl
+    at false rest = rest
+
+either-defined : (a b : DefinitionPlace) → is_defined (or_place a b) ≡ true → (is_defined a ≡ true) ⊎ (is_defined b ≡ true)
+either-defined Nowhere b h = inr h
+either-defined (ByLabel line index) b h = inl refl
+either-defined (Equ line) b h = inl refl
+
+-- by one of its labels, or by its `.equ`
+pub statement-defines : (line : ℕ) (s : Stmt) (name : List ℕ) → is_defined (place_in_statement line s name) ≡ true → (list_any (λ l. defines_symbol l.name name) s.labels ≡ true) ⊎ (is_defined (place_in_body line s.body name) ≡ true)
+statement-defines line s name h = at (either-defined (place_among_labels line 0 s.labels name) (place_in_body line s.body name) h)
+  where
+    at : (is_defined (place_among_labels line 0 s.labels name) ≡ true) ⊎ (is_defined (place_in_body line s.body name) ≡ true) → (list_any (λ l. defines_symbol l.name name) s.labels ≡ true) ⊎ (is_defined (place_in_body line s.body name) ≡ true)
+    at (inl labels) = inl (sym (labels-define line 0 s.labels name) ∙ labels)
+    at (inr body) = inr body
+
+-- an `.equ` defines its symbol alone
+pub equ-defines : (line : ℕ) (symbol name : List ℕ) (b : Bool) → b ≡ bytes_eq symbol name → is_defined (if b then Equ line else Nowhere) ≡ true → name ≡ symbol
+equ-defines line symbol name true is h = sym ((bytes_eq-Decides symbol name).0 (sym is))
+equ-defines line symbol name false is h = absurd (true≢false (sym h))
+
+-- Texts that use nothing that a line adds
+
+none-of : (test : List ℕ → Bool) (names : List (List ℕ)) → ((name : List ℕ) → test name ≡ false) → list_any test names ≡ false
+none-of test [] none = refl
+none-of test (n ∷ ns) none = let here = none n in let more = none-of test ns none in λ j. here j || more j
+
+none-at : {A : Type 0} (test : A → Bool) (xs : List A) (i : ℕ) (other : A) → list_any test xs ≡ false → i < length xs → test (get_or xs i other) ≡ false
+none-at test [] i other none within = absurd (omega (arith, within))
+none-at test (x ∷ xs) zero other none within = (or_parts (test x) (list_any test xs) none).0
+none-at test (x ∷ xs) (suc i) other none within = none-at test xs i other (or_parts (test x) (list_any test xs) none).1 (omega (arith, within))
+
+module _ (lines : List (List ℕ)) (s : Stmt) (local : has_local_labels s.labels ≡ false) (high : pcrel_high_of s.body ≡ None) where
+  -- a line that adds nothing
+  pub apart-unadded : ((name : List ℕ) → adds (program_of lines) s name ≡ false) → IsApart (program_of lines) s
+  apart-unadded none = record {
+    local = λ number. none-among number s.labels local;
+    high = high;
+    unused = λ i first last. none-of (adds (program_of lines) s) (names_used (body_at (program_of lines) i)) none;
+  }
+
+  -- one that adds what no line uses
+  pub apart-unused : list_any (λ l. list_any (adds (program_of lines) s) (names_used (statement_of l).body)) lines ≡ false → IsApart (program_of lines) s
+  apart-unused none = record {
+    local = λ number. none-among number s.labels local;
+    high = high;
+    unused = λ i first last.
+        let within : i - 1 < length lines = (let count = length-program lines in omega (arith, first, last, count)) in
+        ap (λ t. list_any (adds (program_of lines) s) (names_used t.body)) (get_or-map statement_of lines (i - 1) [] no_statement within)
+        ∙ none-at (λ l. list_any (adds (program_of lines) s) (names_used (statement_of l).body)) lines (i - 1) [] none within;
+  }
+
+-- What a line adds, by the rows of the text
+
+module _ (lines names : List (List ℕ)) (row : List DefinitionPlace) (s : Stmt) (number : ℕ) (are : AreDefinitions (program_of lines) names row) (behind : number ≡ suc (length lines)) where
+  pub adds-same : adds_by_rows names row number s ≡ adds (program_of lines) s
+  adds-same =
+      let place : number ≡ suc (length (program_of lines)) = behind ∙ ap suc (sym (length-program lines)) in
+      λ i name. not (is_defined (are.each i name)) && is_defined (place_in_statement (place i) s name)

@@ -1,0 +1,20 @@
+use Rattle.std.proofs.Common.{◌≡◌, ◌⊎◌, inl, inr, ℕ, List, Bool, true, false, refl, ap, sym, ◌∙◌}
+use Rattle.rv_stmt.specs.Statement.{statement_of}
+use Rattle.rv_store.specs.Apart.{added_by}
+use Rattle.rv_store.specs.NameSets.{bucket_of, brief_of_names, has_bucket, may_have}
+use Rattle.rv_store.specs.Uses.{names_used}
+use Rattle.rv_store.proofs.NameSets.{none-passes}
+use Rattle.rv_store.proofs.apart.LineBehind.is_used_on.Goals as goal
+
+pub returns-else-meets : goal.returns-else-meets
+returns-else-meets c =
+    let names = names_used (statement_of c.args.line.now).body in
+    let set = c.args.added.now in
+    let only : (name : List ℕ) → (has_bucket set (bucket_of name) ≡ true) ⊎ (added_by c.args.self.now name ≡ false) = λ name. at name (added_by c.args.self.now name) refl in
+    let apart : (bucket : ℕ) → has_bucket set bucket ≡ true → may_have (brief_of_names names) bucket ≡ false =
+    λ bucket has. ap (λ b. may_have b.names bucket) (sym c.brief.ensures) ∙ c.meets.ensures c.if-meets.false bucket has in
+    c.if-meets.false ∙ sym (none-passes (has_bucket set) (added_by c.args.self.now) only names apart)
+  where
+    at : (name : List ℕ) (b : Bool) → added_by c.args.self.now name ≡ b → (has_bucket c.args.added.now (bucket_of name) ≡ true) ⊎ (added_by c.args.self.now name ≡ false)
+    at name true e = inl (c.requires name e)
+    at name false e = inr e

@@ -1,0 +1,58 @@
+use Rattle.std.proofs.Common.{◌≡◌, ◌+◌, suc, Bool, true, false, not, ◌&&◌, length, true≢false, arith, ap, sym, ◌∙◌, refl}
+use Rattle.std.specs.List.{list_any}
+use Rattle.rv_stmt.specs.Statement.{statement_of}
+use Rattle.rv_store.specs.Appended.{adds}
+use Rattle.rv_store.specs.Definitions.{definition_of, is_defined}
+use Rattle.rv_store.specs.NameSets.{bucket_of}
+use Rattle.rv_store.specs.Program.{program_of}
+use Rattle.rv_store.specs.Uses.{names_used}
+use Rattle.rv_store.proofs.AlikeLines.{no_high}
+use Rattle.rv_store.proofs.ApartLines.{apart-unadded, apart-unused, adds-same}
+use Rattle.rv_store.proofs.DefinitionRows.{nothing-defined}
+use Rattle.rv_store.proofs.apart.adds_apart.Goals as goal
+
+and-false : (b : Bool) → (b && false) ≡ false
+and-false true = refl
+and-false false = refl
+
+pub returns-then-not-may_define-clause-nothing : goal.returns-then-not-may_define-clause-nothing
+returns-then-not-may_define-clause-nothing c h name =
+    let p = program_of c.args.lines.now in
+    let nothing = nothing-defined (suc (length p)) (statement_of c.args.line.now) (sym c.may_define.ensures ∙ c.if-not-may_define.true) in
+    ap (λ f. not (is_defined (definition_of p name)) && is_defined (f name)) nothing ∙ and-false (not (is_defined (definition_of p name)))
+
+pub returns-then-not-may_define-clause-apart : goal.returns-then-not-may_define-clause-apart
+returns-then-not-may_define-clause-apart c =
+    let s = statement_of c.args.line.now in
+    let brief = c.brief-brief.ensures in
+    apart-unadded c.args.lines.now s (sym (ap (λ b. b.local_labels) brief) ∙ c.if-brief.false) (no_high s c.brief-brief.result brief c.if-brief-2.false)
+    (λ name. returns-then-not-may_define-clause-nothing c refl name)
+
+pub returns-then-is_empty-clause-nothing : goal.returns-then-is_empty-clause-nothing
+returns-then-is_empty-clause-nothing c h name = at (adds (program_of c.args.lines.now) (statement_of c.args.line.now) name) refl
+  where
+    number : length c.args.lines.now + 1 ≡ suc (length c.args.lines.now)
+    number = omega arith
+
+    at : (b : Bool) → adds (program_of c.args.lines.now) (statement_of c.args.line.now) name ≡ b → adds (program_of c.args.lines.now) (statement_of c.args.line.now) name ≡ false
+    at false e = e
+    at true e =
+        let same = adds-same c.args.lines.now c.args.names.now c.args.definitions.now (statement_of c.args.line.now) (length c.args.lines.now + 1) c.requires.definitions number in
+        absurd (true≢false (sym (c.in-Ok.ensures name (ap (λ f. f name) same ∙ e)) ∙ c.is_empty.ensures c.if-is_empty.true (bucket_of name)))
+
+pub returns-then-is_empty-clause-apart : goal.returns-then-is_empty-clause-apart
+returns-then-is_empty-clause-apart c =
+    let s = statement_of c.args.line.now in
+    let brief = c.brief-brief.ensures in
+    apart-unadded c.args.lines.now s (sym (ap (λ b. b.local_labels) brief) ∙ c.if-brief.false) (no_high s c.brief-brief.result brief c.if-brief-2.false)
+    (λ name. returns-then-is_empty-clause-nothing c refl name)
+
+pub returns-clause-apart : goal.returns-clause-apart
+returns-clause-apart c =
+    let lines = c.args.lines.now in
+    let s = statement_of c.args.line.now in
+    let brief = c.brief-brief.ensures in
+    let number : length lines + 1 ≡ suc (length lines) = omega arith in
+    let same = adds-same lines c.args.names.now c.args.definitions.now s (length lines + 1) c.requires.definitions number in
+    apart-unused lines s (sym (ap (λ b. b.local_labels) brief) ∙ c.if-brief.false) (no_high s c.brief-brief.result brief c.if-brief-2.false)
+    (ap (λ f. list_any (λ l. list_any f (names_used (statement_of l).body)) lines) (sym same) ∙ sym c.is_used.ensures ∙ c.if-is_used.false)

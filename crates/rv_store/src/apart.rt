@@ -1,0 +1,149 @@
+//! Lines at the end of a text with which no other line has to do.
+
+ghost use Rattle.std.specs.Prelude.{◌≡◌, ◌≤◌, ◌+◌, ℕ, List, true, false, length, IfSome, IfOk};
+ghost use Rattle.std.specs.List.{list_any};
+ghost use Rattle.rv_stmt.specs.LentLabels.{name_lent};
+ghost use Rattle.rv_stmt.specs.Statement.{statement_of};
+ghost use Rattle.rv_store.specs.declared.limits.TheConstants.{MAX_LINES};
+ghost use Rattle.rv_store.specs.Appended.{adds, adds_by_rows, IsApart};
+ghost use Rattle.rv_store.specs.Apart.{added_by, AreMarked};
+ghost use Rattle.rv_store.specs.Definitions.{defines_symbol, place_in_body, is_defined};
+ghost use Rattle.rv_store.specs.NameSets.{Has};
+ghost use Rattle.rv_store.specs.Program.{program_of};
+ghost use Rattle.rv_store.specs.Rows.{AreDefinitions};
+ghost use Rattle.rv_store.specs.Uses.{names_used};
+
+use crate::definitions::{is_defined, may_define};
+use crate::first_definition::place_on;
+use crate::limits::MAX_LINES;
+use crate::line::Line;
+use crate::name_set::{Mark, NameSet, bucket_of};
+use crate::names::{NameTable, entry_of};
+use crate::uses::{NameTest, any_name};
+use rv_list::DefinitionPlace;
+use rv_stmt::{Body, LabelName, LabelSlice};
+use std::alloc::{AllocError, Global};
+
+// A line behind a text. The names that pass are those that it adds: it defines them, and the text does not.
+#[derive(Drop)]
+struct LineBehind<'a> {
+    line: &'a Line,
+    number: u32,
+    names: &'a NameTable,
+    definitions: &'a [DefinitionPlace],
+}
+
+impl NameTest for LineBehind<'_> {
+    ghost can_test = { λ t. true ≡ true };
+
+    ghost test = { added_by };
+
+    fn passes(&self, name: &[u8]) -> bool {
+        let place = entry_of(self.names, self.definitions, DefinitionPlace::Nowhere, name);
+        !is_defined(place) && is_defined(place_on(self.line, self.number, name))
+    }
+}
+
+impl LineBehind<'_> {
+    // Adds a symbol to a set, if the line adds it.
+    fn mark(&self, symbol: &[u8], added: &mut NameSet)
+        ensures { AreMarked (added_by self.now) (λ name. name ≡ symbol.now) added.old added.new }
+    {
+        if self.passes(symbol) {
+            added.add(bucket_of(symbol), Mark::Changed);
+        }
+    }
+
+    // Adds the symbols of some labels.
+    fn mark_labels(&self, mut labels: LabelSlice<'_>, added: &mut NameSet)
+        ensures { AreMarked (added_by self.now) (λ name. list_any (λ l. defines_symbol l.name name) labels.entry ≡ true) added.old added.new }
+    {
+        'labels: while let Some((label, rest)) = labels.split_first() {
+            if let LabelName::Symbol(symbol) = label.name {
+                self.mark(symbol, added);
+            }
+            labels = rest;
+        }
+    }
+
+    // Adds the symbol of an `.equ`.
+    fn mark_equ(&self, body: &Body, added: &mut NameSet)
+        ensures { AreMarked (added_by self.now) (λ name. is_defined (place_in_body self.now.number body.now name) ≡ true) added.old added.new }
+    {
+        if let Body::Equ(definition) = body {
+            self.mark(definition.symbol.bytes(), added);
+        }
+    }
+
+    // The names that it adds, and maybe others.
+    fn added(&self, alloc: Global) -> Result<NameSet, AllocError>
+        ensures { IfOk result (λ set. (name : List ℕ) → added_by self.now name ≡ true → Has set name) }
+    {
+        let mut added = NameSet::empty(alloc, 0)?;
+        let stmt = self.line.stmt();
+        self.mark_labels(stmt.labels.as_slice(), &mut added);
+        self.mark_equ(&stmt.body, &mut added);
+        Ok(added)
+    }
+
+    // Whether a line uses a name that it adds. Lines that use none of the set are gone past without a look at their statements.
+    fn is_used_on(&self, line: &Line, added: &NameSet) -> bool
+        requires { (name : List ℕ) → added_by self.now name ≡ true → Has added.now name }
+        ensures { result ≡ list_any (added_by self.now) (names_used (statement_of line.now).body) }
+    {
+        line.brief().names.meets(added) && any_name(&line.stmt().body, self)
+    }
+
+    // Whether one of the lines does. The last lines are looked at first, since a symbol is mostly used near its definition.
+    fn is_used(&self, lines: &[Line], added: &NameSet) -> bool
+        requires few { length lines.now ≤ MAX_LINES }
+        requires added { (name : List ℕ) → added_by self.now name ≡ true → Has added.now name }
+        ensures { result ≡ list_any (λ l. list_any (added_by self.now) (names_used (statement_of l).body)) lines.now }
+    {
+        for k in (0..lines.len()).rev() {
+            if self.is_used_on(&lines[k], added) {
+                return true;
+            }
+        }
+        false
+    }
+}
+
+/// Whether a line at the end of a text defines a name that the text does not. `None` if another line may have to do with it: the text
+/// uses such a name, or the line has a local label, or is a high half, or there is no memory to find out.
+pub fn adds_apart(
+    alloc: Global,
+    lines: &[Line],
+    names: &NameTable,
+    definitions: &[DefinitionPlace],
+    line: &Line,
+) -> Option<bool>
+    requires definitions { AreDefinitions (program_of lines.now) names.now definitions.now }
+    requires few { length lines.now ≤ MAX_LINES }
+    ensures apart { IfSome result (λ _. IsApart (program_of lines.now) (statement_of line.now)) }
+    ensures nothing { IfSome result (λ any. any ≡ false → (name : List ℕ) → adds (program_of lines.now) (statement_of line.now) name ≡ false) }
+{
+    let brief = line.brief();
+    if brief.local_labels || brief.pcrel_high {
+        return None;
+    }
+    if !may_define(line) {
+        return Some(false);
+    }
+    let behind = LineBehind {
+        line,
+        number: lines.len() as u32 + 1,
+        names,
+        definitions,
+    };
+    let Ok(added) = behind.added(alloc) else {
+        return None;
+    };
+    if added.is_empty() {
+        return Some(false);
+    }
+    if behind.is_used(lines, &added) {
+        return None;
+    }
+    Some(true)
+}

@@ -1,0 +1,191 @@
+//! What a line at the end of a text defines, with which no other line has to do: the rows by names get it in place.
+
+ghost use Rattle.std.specs.Prelude.{◌≡◌, ℕ, ◌≤◌, ◌<◌, ◌+◌, ◌-◌, ◌*◌, ◌^◌, List, [], ◌∷◌, ◌++◌, false, length, set, OnOk, OnErr};
+ghost use Rattle.rv_stmt.specs.Statement.{statement_of};
+ghost use Rattle.rv_store.specs.declared.limits.TheConstants.{MAX_LINES};
+ghost use Rattle.rv_store.specs.Appended.{adds, AreSameLines, AreSymbols, HavePlaces, IsUnsettled, AreInPart, AreDefinitionsInPart};
+ghost use Rattle.rv_store.specs.Program.{Program, program_of, body_at};
+ghost use Rattle.rv_store.specs.Rows.{Grows, ArePlaces, AreLocals};
+ghost use Rattle.rv_store.specs.Work.{equ_operands};
+
+use crate::constants::settle_constant;
+use crate::definitions::{define_line, defining_equ_on};
+use crate::edit::LineEdit;
+use crate::equ_values::settle_equ;
+use crate::limits::MAX_LINES;
+use crate::line::Line;
+use crate::lines::Lines;
+use crate::moved_definitions::keep_places;
+use crate::names::NameTable;
+use crate::survey::Survey;
+use crate::text_rows::TextRows;
+use rv_expr::ValueFault;
+use rv_list::DefinitionPlace;
+use rv_text::Count;
+use std::alloc::{AllocError, Global};
+
+// Puts another value at a place of a row, if it is that long.
+fn put_at<T: Copy>(row: &mut Vec<T>, number: usize, value: T)
+    ensures { row.new.items ≡ set row.old.items number value }
+{
+    if number < row.len() {
+        row[number] = value;
+    }
+}
+
+impl Survey {
+    // Makes the rows by names as long as there are names.
+    fn lengthen_rows(&mut self, names: &NameTable) -> Result<(), AllocError>
+        ensures places { OnOk result (HavePlaces names.now self.new) }
+        ensures symbols { (base : ℕ) → (program : Program) → (k : ℕ) → AreSymbols base program k names.now self.old → AreSymbols base program k names.now self.new }
+        ensures lines { AreSameLines self.old self.new }
+    {
+        self.definitions
+            .resize(names.len(), DefinitionPlace::Nowhere)?;
+        self.constants.resize(names.len(), None)?;
+        self.equ_values
+            .resize(names.len(), Err(ValueFault::LaterEqu))?;
+        Ok(())
+    }
+
+    // Goes from the constants and the values of the `.equ`s before the last line to those of all lines.
+    fn settle_last<C: Count>(&mut self, base: u32, names: &NameTable, counter: &mut C)
+        requires some { 1 ≤ length self.old.lines.items }
+        requires few { length self.old.lines.items ≤ MAX_LINES }
+        requires have_places { HavePlaces names.now self.old }
+        requires symbols { AreSymbols base (program_of self.old.lines.items) (length self.old.lines.items - 1) names.now self.old }
+        requires placed { ArePlaces base (program_of self.old.lines.items) self.old.places.items }
+        requires located { AreLocals (program_of self.old.lines.items) (length (program_of self.old.lines.items)) self.old.locals }
+        requires count { C.valued_count counter.old < 2 ^ 64 - 2 }
+        ensures symbols { AreSymbols base (program_of self.new.lines.items) (length self.new.lines.items) names.now self.new }
+        ensures lines { AreSameLines self.old self.new }
+        ensures least { C.valued_count counter.old ≤ C.valued_count counter.new }
+        ensures most { C.valued_count counter.new ≤ C.valued_count counter.old + 2 }
+        ensures operands { C.valued_count counter.new ≤ C.valued_count counter.old + 2 * equ_operands (body_at (program_of self.old.lines.items) (length self.old.lines.items)) }
+        ensures parsed { C.parsed_count counter.new ≡ C.parsed_count counter.old }
+        ensures encoded { C.encoded_count counter.new ≡ C.encoded_count counter.old }
+    {
+        let last = self.lines.len() - 1;
+        settle_constant(
+            &self.lines,
+            last,
+            names,
+            &self.definitions,
+            &mut self.constants,
+            counter,
+        );
+        let lines = Lines::in_column(&self.lines);
+        let text = TextRows {
+            base,
+            lines: &lines,
+            names,
+            definitions: &self.definitions,
+            places: &self.places,
+            locals: &self.locals,
+        };
+        settle_equ(&text, last, &mut self.equ_values, counter);
+    }
+
+    // Adds what the last line defines to the rows by names. Where there was no memory, they may hold a part of it.
+    fn write_last<C: Count>(
+        &mut self,
+        alloc: Global,
+        base: u32,
+        names: &mut NameTable,
+        line: &Line,
+        counter: &mut C,
+    ) -> Result<(), AllocError>
+        requires unsettled { (lines : List (List ℕ)) × IsUnsettled base lines names.old line.now self.old }
+        requires count { C.valued_count counter.old < 2 ^ 64 - 2 }
+        ensures symbols { OnOk result (AreSymbols base (program_of self.new.lines.items) (length self.new.lines.items) names.new self.new) }
+        ensures part { (lines : List (List ℕ)) → IsUnsettled base lines names.old line.now self.old → AreInPart base lines names.new (statement_of line.now) self.new }
+        ensures lines { AreSameLines self.old self.new }
+        ensures names { Grows names.old names.new }
+        ensures least { C.valued_count counter.old ≤ C.valued_count counter.new }
+        ensures most { C.valued_count counter.new ≤ C.valued_count counter.old + 2 }
+        ensures operands { C.valued_count counter.new ≤ C.valued_count counter.old + 2 * equ_operands (statement_of line.now).body }
+        ensures parsed { C.parsed_count counter.new ≡ C.parsed_count counter.old }
+        ensures encoded { C.encoded_count counter.new ≡ C.encoded_count counter.old }
+    {
+        let number = self.lines.len() as u32;
+        define_line(alloc, line, number, names, &mut self.definitions)?;
+        if line.brief().equ {
+            self.lengthen_rows(names)?;
+            self.settle_last(base, names, counter);
+        }
+        Ok(())
+    }
+
+    // Takes the constant and the value of the `.equ` of the last line, which has this number, from the rows by names.
+    fn forget_equ(&mut self, names: &NameTable, line: &Line, number: u32)
+        ensures symbols { (base : ℕ) → (lines : List (List ℕ)) → number ≡ length lines + 1 → AreInPart base lines names.now (statement_of line.now) self.old
+            → AreDefinitionsInPart base lines names.now self.new }
+        ensures definitions { self.new.definitions ≡ self.old.definitions }
+        ensures lines { AreSameLines self.old self.new }
+    {
+        let Some((_, place)) = defining_equ_on(line, number, names, &self.definitions) else {
+            return;
+        };
+        put_at(&mut self.constants, place, None);
+        put_at(&mut self.equ_values, place, Err(ValueFault::LaterEqu));
+    }
+
+    /// Takes what the last line defines from the rows by names, which may hold a part of it.
+    pub fn forget_last(&mut self, names: &NameTable, line: &Line)
+        requires some { 1 ≤ length self.old.lines.items }
+        requires few { length self.old.lines.items ≤ MAX_LINES }
+        requires named { length self.old.definitions.items ≤ length names.now }
+        ensures symbols { (base : ℕ) → (lines : List (List ℕ)) → self.old.lines.items ≡ lines ++ line.now ∷ []
+            → AreInPart base lines names.now (statement_of line.now) self.old → AreSymbols base (program_of lines) (length lines) names.now self.new }
+        ensures lines { AreSameLines self.old self.new }
+    {
+        let number = self.lines.len() as u32;
+        self.forget_equ(names, line, number);
+        let (earlier, _) = self.lines.split_at(number as usize - 1);
+        let back = LineEdit::Delete(number);
+        keep_places(&back, earlier, names, self.definitions.as_mut_slice());
+    }
+
+    /// Adds what the last line defines to the rows by names, where the text before it has nothing to do with it, and the line adds a
+    /// name to it or none.
+    ///
+    /// The counter's number of expressions computed rises by at most two, and only for an `.equ`.
+    ///
+    /// # Errors
+    ///
+    /// Where there was no memory, the rows by names hold what they held.
+    pub fn define_last<C: Count>(
+        &mut self,
+        alloc: Global,
+        base: u32,
+        names: &mut NameTable,
+        line: &Line,
+        any: bool,
+        counter: &mut C,
+    ) -> Result<(), AllocError>
+        requires unsettled { (lines : List (List ℕ)) × IsUnsettled base lines names.old line.now self.old
+            × (any ≡ false → (name : List ℕ) → adds (program_of lines) (statement_of line.now) name ≡ false) }
+        requires count { C.valued_count counter.old < 2 ^ 64 - 2 }
+        ensures symbols { OnOk result (AreSymbols base (program_of self.new.lines.items) (length self.new.lines.items) names.new self.new) }
+        ensures part { OnOk result ((lines : List (List ℕ)) → IsUnsettled base lines names.old line.now self.old → AreInPart base lines names.new (statement_of line.now) self.new) }
+        ensures err { OnErr result ((lines : List (List ℕ)) → IsUnsettled base lines names.old line.now self.old → AreSymbols base (program_of lines) (length lines) names.new self.new) }
+        ensures lines { AreSameLines self.old self.new }
+        ensures names { Grows names.old names.new }
+        ensures least { C.valued_count counter.old ≤ C.valued_count counter.new }
+        ensures most { C.valued_count counter.new ≤ C.valued_count counter.old + 2 }
+        ensures operands { C.valued_count counter.new ≤ C.valued_count counter.old + 2 * equ_operands (statement_of line.now).body }
+        ensures parsed { C.parsed_count counter.new ≡ C.parsed_count counter.old }
+        ensures encoded { C.encoded_count counter.new ≡ C.encoded_count counter.old }
+    {
+        if !any {
+            return Ok(());
+        }
+        match self.write_last(alloc, base, names, line, counter) {
+            Ok(()) => Ok(()),
+            Err(e) => {
+                self.forget_last(names, line);
+                Err(e)
+            }
+        }
+    }
+}
