@@ -1,7 +1,7 @@
 -- What an insertion is spelled as.
 use Rattle.std.proofs.Common.{◌≡◌, ℕ, true, false, List, refl}
 use Rattle.std.specs.Prelude.{codes, bytes_eq, Some}
-use Rattle.rv_store.specs.Text.{Insert}
+use Rattle.rv_program.specs.Text.{Insert}
 use Rattle.rv_commands.specs.Commands.{Change, first_word, after_word, place_of, change_of}
 
 -- the first word behind `i` is the number of a line, and the line is what stands behind that

@@ -10,7 +10,7 @@ use Rattle.rv_stmt.specs.declared.section.Sect.TheVariants as section
 use Rattle.rv_dis.specs.declared.row.DisRow.{DisRow}
 use Rattle.rv_dis.specs.Rows.{Shows, ended, shown, half, byte, instruction_row, word_size}
 use Rattle.rv_store.specs.Shown.{shown_of}
-use Rattle.rv_store.specs.Text.{Text}
+use Rattle.rv_program.specs.Text.{Text}
 use Rattle.rv_commands.specs.Disassembly.{ShowsSection, next_section, no_sections, IsDisassembly, disassembly_text}
 
 abbrev IsShort : DisRow → Type 0

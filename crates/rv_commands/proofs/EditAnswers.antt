@@ -1,9 +1,9 @@
 -- What is answered to an edit.
 use Rattle.std.proofs.Common.{◌≡◌, length, ap, sym, inl, inr, subst}
 use Rattle.std.specs.Prelude.{Option, Some, None, Result, Ok, Err, unwrap_or}
-use Rattle.rv_store.specs.declared.edit_error.EditError.{EditError}
-use Rattle.rv_store.specs.declared.edit_error.EditError.TheVariants.{Memory}
-use Rattle.rv_store.specs.Text.{Text, Edit, Edits, refusal_of}
+use Rattle.rv_program.specs.declared.edit_error.EditError.{EditError}
+use Rattle.rv_program.specs.declared.edit_error.EditError.TheVariants.{Memory}
+use Rattle.rv_program.specs.Text.{Text, Edit, Edits, refusal_of}
 use Rattle.rv_commands.specs.Steps.{edit_answer}
 use Rattle.rv_commands.specs.Transcript.{accepted, refused, IsEditAnswer, IsEditAnswerBy}
 

@@ -3,10 +3,10 @@ use Rattle.std.proofs.Common.{◌+◌, ◌<◌, length, map, take, get_or, set, 
 use Rattle.std.proofs.lemmas.List.{take_more, take_more_set, map-append}
 use Rattle.rv_text.specs.Streams.{after, Writes, WritesPrefix}
 use Rattle.rv_text.specs.StreamLaws.{after_after, prefix_first, prefix_last}
-use Rattle.rv_store.specs.declared.edit_error.EditError.{EditError}
-use Rattle.rv_store.specs.Text.{Text, Edit, Edits}
-use Rattle.rv_store.specs.declared.edit.LineEdit.{LineEdit}
-use Rattle.rv_store.specs.Edits.{edit_of}
+use Rattle.rv_program.specs.declared.edit_error.EditError.{EditError}
+use Rattle.rv_program.specs.Text.{Text, Edit, Edits}
+use Rattle.rv_program.specs.declared.edit.LineEdit.{LineEdit}
+use Rattle.rv_program.specs.Edits.{edit_of}
 use Rattle.rv_commands.specs.Edited.{AreEdits}
 
 -- one more edit

@@ -1,7 +1,7 @@
 -- Commands and inputs, as they have to be read.
 use Rattle.std.proofs.Common.{◌≡◌, [], ◌∷◌, refl}
 use Rattle.std.specs.Prelude.{codes, Some, None}
-use Rattle.rv_store.specs.Text.{Insert, Delete, Replace}
+use Rattle.rv_program.specs.Text.{Insert, Delete, Replace}
 use Rattle.rv_commands.specs.declared.pages.Page.TheVariants.{Image, Listing, Symbols, Faults, Lines}
 use Rattle.rv_commands.specs.Commands.{Append, Change, Show, Disassemble, request_of}
 use Rattle.rv_commands.specs.Transcript.{complete_commands, commands_of, last_piece}

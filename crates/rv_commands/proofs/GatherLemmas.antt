@@ -2,7 +2,7 @@
 use Rattle.std.proofs.Common.{◌≡◌, ℕ, List, [], ◌∷◌, ◌++◌, Option, refl, ◌∙◌, append_assoc}
 use Rattle.std.proofs.lemmas.Grind.{flat_map-append}
 use Rattle.rv_text.specs.Streams.{after, WritesPrefix}
-use Rattle.rv_store.specs.Text.{Text}
+use Rattle.rv_program.specs.Text.{Text}
 use Rattle.rv_text.specs.Blocks.{Waits}
 use Rattle.rv_commands.specs.declared.answer_error.AnswerError.{AnswerError}
 use Rattle.rv_commands.specs.declared.answer_error.AnswerError.TheVariants.{Write, Memory}

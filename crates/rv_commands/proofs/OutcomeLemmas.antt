@@ -3,7 +3,7 @@ use Rattle.std.proofs.Common.{◌≡◌, ℕ, ◌+◌, ◌-◌, ◌<◌, ◌≤�
 use Rattle.std.proofs.lemmas.List.{append-nil, length-take-le}
 use Rattle.rv_text.specs.Streams.{before, after, WritesPrefix}
 use Rattle.rv_text.specs.StreamLaws.{after_after, after_none, before_before, before_none}
-use Rattle.rv_store.specs.Text.{Text}
+use Rattle.rv_program.specs.Text.{Text}
 use Rattle.rv_commands.specs.declared.answer_error.AnswerError.{AnswerError}
 use Rattle.rv_commands.specs.declared.answer_error.AnswerError.TheVariants.{Write, Memory}
 use Rattle.rv_commands.specs.Faults.{run_error}

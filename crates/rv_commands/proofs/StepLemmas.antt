@@ -3,7 +3,7 @@ use Rattle.std.proofs.Common.{ℕ, List, [], ◌++◌, Option, refl, sym, append
 use Rattle.std.proofs.lemmas.Grind.{flat_map-append}
 use Rattle.std.specs.List.{flat_map}
 use Rattle.rv_text.specs.StreamLaws.{after_after, after_none}
-use Rattle.rv_store.specs.Text.{Text}
+use Rattle.rv_program.specs.Text.{Text}
 use Rattle.rv_commands.specs.Steps.{Answered, StopsAtWrite}
 use Rattle.rv_commands.specs.Pages.{ended}
 use Rattle.rv_commands.proofs.CutLemmas.{unbroken_append}

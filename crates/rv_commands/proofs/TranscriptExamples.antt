@@ -2,8 +2,8 @@
 use Rattle.std.proofs.Common.{◌≡◌, ℕ, List, [], ◌∷◌, refl, inl, inr}
 use Rattle.std.specs.Fmt.{digits}
 use Rattle.std.specs.Prelude.{codes, Ok, Err}
-use Rattle.rv_store.specs.declared.edit_error.EditError.TheVariants.{Place, Memory}
-use Rattle.rv_store.specs.Text.{Text, Insert, Delete, Replace}
+use Rattle.rv_program.specs.declared.edit_error.EditError.TheVariants.{Place, Memory}
+use Rattle.rv_program.specs.Text.{Text, Insert, Delete, Replace}
 use Rattle.rv_commands.specs.declared.pages.Page.TheVariants.{Lines}
 use Rattle.rv_commands.specs.Edited.{AreEdits}
 use Rattle.rv_commands.specs.Pages.{numbered, text_of, page_text}

@@ -1,7 +1,7 @@
 -- Answers to some commands and then to others.
 use Rattle.std.proofs.Common.{ℕ, List, [], ◌∷◌, ◌++◌, refl, sym, append_assoc}
 use Rattle.std.proofs.lemmas.List.{append-nil}
-use Rattle.rv_store.specs.Text.{Text}
+use Rattle.rv_program.specs.Text.{Text}
 use Rattle.rv_commands.specs.Transcript.{IsAnswer, AreAnswers}
 
 -- the answers to these commands and then to those

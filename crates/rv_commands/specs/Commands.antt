@@ -3,8 +3,8 @@ use Rattle.std.specs.Prelude.{ℕ, nat_le, Bool, ◌==◌, List, length, codes, 
 use Rattle.std.specs.List.{before_first, after_first}
 use Rattle.std.specs.Option.{option_map, option_or}
 use Rattle.rv_text.specs.Numbers.{digits_number}
-use Rattle.rv_store.specs.Edits.{edit_of}
-use Rattle.rv_store.specs.Text.{Edit, Insert, Delete, Replace}
+use Rattle.rv_program.specs.Edits.{edit_of}
+use Rattle.rv_program.specs.Text.{Edit, Insert, Delete, Replace}
 use Rattle.rv_commands.specs.declared.command.Command.{Command}
 use Rattle.rv_commands.specs.declared.command.Command.TheVariants as command
 use Rattle.rv_commands.specs.declared.pages.Page.{Page}

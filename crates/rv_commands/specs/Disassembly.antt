@@ -9,7 +9,7 @@ use Rattle.rv_dis.specs.Rows.{Shows}
 use Rattle.rv_list.specs.Image.{section_bytes}
 use Rattle.rv_list.specs.Shown.{Shown}
 use Rattle.rv_store.specs.Shown.{shown_of}
-use Rattle.rv_store.specs.Text.{Text}
+use Rattle.rv_program.specs.Text.{Text}
 use Rattle.rv_commands.specs.Pages.{numbered}
 
 -- a row: its address, its number with two digits for each byte, and its text

@@ -1,8 +1,8 @@
 -- What a list of edits makes of a text, and what is shown of it.
 use Rattle.std.specs.Prelude.{◌≡◌, ℕ, List, [], ◌∷◌, ◌++◌, Option, Result}
 use Rattle.rv_text.specs.Streams.{Writes}
-use Rattle.rv_store.specs.declared.edit_error.EditError.{EditError}
-use Rattle.rv_store.specs.Text.{Text, Edit, Edits}
+use Rattle.rv_program.specs.declared.edit_error.EditError.{EditError}
+use Rattle.rv_program.specs.Text.{Text, Edit, Edits}
 use Rattle.rv_commands.specs.declared.pages.Page.TheVariants.{Image, Listing, Symbols, Faults}
 use Rattle.rv_commands.specs.Pages.{page_text}
 use Rattle.rv_commands.specs.Transcript.{empty_text}

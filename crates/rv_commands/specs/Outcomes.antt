@@ -1,7 +1,7 @@
 -- What a run has done when it ends.
 use Rattle.std.specs.Prelude.{◌≡◌, ℕ, ◌+◌, ◌≤◌, List, [], ◌++◌, length, Option, Result, Ok, Err, ◌⊎◌}
 use Rattle.rv_text.specs.Streams.{before, after, IsAtEnd}
-use Rattle.rv_store.specs.Text.{Text}
+use Rattle.rv_program.specs.Text.{Text}
 use Rattle.rv_commands.specs.declared.run_error.RunError.{RunError}
 use Rattle.rv_commands.specs.declared.run_error.RunError.TheVariants.{Read, Write, Memory}
 use Rattle.rv_commands.specs.Transcript.{AreAnswers, complete_commands, commands_of, empty_text, IsTranscript}

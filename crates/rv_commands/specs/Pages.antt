@@ -6,7 +6,7 @@ use Rattle.rv_list.specs.Image.{image_text}
 use Rattle.rv_list.specs.Listing.{listing_text}
 use Rattle.rv_list.specs.Symbols.{symbol_text}
 use Rattle.rv_store.specs.Shown.{shown_of}
-use Rattle.rv_store.specs.Text.{Text}
+use Rattle.rv_program.specs.Text.{Text}
 use Rattle.rv_commands.specs.declared.pages.Page.{Page}
 use Rattle.rv_commands.specs.declared.pages.Page.TheVariants.{Image, Listing, Symbols, Faults, Lines}
 

@@ -2,8 +2,8 @@
 use Rattle.std.specs.Prelude.{◌≡◌, ℕ, ◌+◌, ◌≤◌, List, [], ◌∷◌, ◌++◌, length, take, false, Option, Result, Ok, Err}
 use Rattle.std.specs.List.{flat_map, list_any}
 use Rattle.rv_text.specs.Streams.{before, after, IsAtEnd, WritesPrefix}
-use Rattle.rv_store.specs.declared.edit_error.EditError.{EditError}
-use Rattle.rv_store.specs.Text.{Text, Edit}
+use Rattle.rv_program.specs.declared.edit_error.EditError.{EditError}
+use Rattle.rv_program.specs.Text.{Text, Edit}
 use Rattle.rv_commands.specs.declared.answer_error.AnswerError.{AnswerError}
 use Rattle.rv_commands.specs.declared.answer_error.AnswerError.TheVariants.{Write, Memory}
 use Rattle.rv_text.specs.Blocks.{Waits, Gathers}

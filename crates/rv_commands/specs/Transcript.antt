@@ -1,9 +1,9 @@
 -- What the editor may answer to an input.
 use Rattle.std.specs.Prelude.{◌≡◌, ℕ, ◌-◌, Bool, ◌==◌, List, [], ◌∷◌, ◌++◌, length, take, slice_index_or, codes, Option, Some, None, ◌⊎◌, ◌+◌}
 use Rattle.std.specs.List.{slice_split}
-use Rattle.rv_store.specs.declared.edit_error.EditError.{EditError}
-use Rattle.rv_store.specs.declared.edit_error.EditError.TheVariants.{Memory}
-use Rattle.rv_store.specs.Text.{Text, Edit, Insert, refusal_of, text_after, refusal_number}
+use Rattle.rv_program.specs.declared.edit_error.EditError.{EditError}
+use Rattle.rv_program.specs.declared.edit_error.EditError.TheVariants.{Memory}
+use Rattle.rv_program.specs.Text.{Text, Edit, Insert, refusal_of, text_after, refusal_number}
 use Rattle.rv_commands.specs.Commands.{Request, Append, Change, Show, Disassemble, request_of}
 use Rattle.rv_commands.specs.Disassembly.{IsDisassembly}
 use Rattle.rv_commands.specs.Pages.{numbered, page_text}

@@ -3,7 +3,7 @@
 ghost use Rattle.std.specs.Prelude.{◌≡◌, ◌-◌, ◌^◌, ◌<◌, ◌≤◌};
 ghost use Rattle.rv_text.specs.Streams.{failures_after};
 ghost use Rattle.rv_text.specs.Blocks.{Gathers};
-ghost use Rattle.rv_store.specs.Edits.{edit_of};
+ghost use Rattle.rv_program.specs.Edits.{edit_of};
 ghost use Rattle.rv_commands.specs.Disassembly.{IsDisassembly};
 ghost use Rattle.rv_commands.specs.Pages.{page_text};
 ghost use Rattle.rv_commands.specs.Steps.{edit_answer, AnswersCommand, GathersAnswer, GathersEditAnswer, GathersOne, failures_by_answer};

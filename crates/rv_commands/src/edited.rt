@@ -5,7 +5,7 @@ ghost use Rattle.rv_text.specs.Streams.{failures_after, Writes};
 ghost use Rattle.rv_dis.specs.Assembling.{GiveBytes};
 ghost use Rattle.rv_dis.specs.Rows.{Shows};
 ghost use Rattle.rv_layout.specs.Places.{is_base};
-ghost use Rattle.rv_store.specs.Edits.{edit_of};
+ghost use Rattle.rv_program.specs.Edits.{edit_of};
 ghost use Rattle.rv_commands.specs.Edited.{AreEdits, shown_texts, ShowsEdited};
 
 use crate::edits::make_edit;

@@ -1,7 +1,7 @@
 //! Edits of a text.
 
-ghost use Rattle.rv_store.specs.Edits.{edit_of};
-ghost use Rattle.rv_store.specs.Text.{Edits};
+ghost use Rattle.rv_program.specs.Edits.{edit_of};
+ghost use Rattle.rv_program.specs.Text.{Edits};
 
 use rv_store::{EditError, LineEdit, Store};
 use rv_text::Tally;

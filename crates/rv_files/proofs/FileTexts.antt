@@ -5,7 +5,7 @@ use Rattle.std.proofs.Math.Seq.{take-append_seam, drop-append_seam}
 use Rattle.std.proofs.lemmas.Bool.{ltb-false}
 use Rattle.std.proofs.lemmas.List.Elements.{All-nil, All-cons}
 use Rattle.rv_text.specs.declared.lexeme.TheConstants.{MAX_LINE_LENGTH}
-use Rattle.rv_store.specs.declared.limits.TheConstants.{MAX_LINES}
+use Rattle.rv_program.specs.declared.limits.TheConstants.{MAX_LINES}
 use Rattle.rv_files.specs.declared.limits.LoadError.TheVariants.{LineTooLong, TooManyLines}
 use Rattle.rv_files.specs.Lines.{lines_of, AreLinesOf}
 use Rattle.rv_files.specs.Loading.{refusal_from}

@@ -14,7 +14,7 @@ use Rattle.rv_show.specs.Totals.{last_rows}
 use Rattle.rv_report.specs.Reports.{warning_report_of}
 use Rattle.rv_report.specs.Warnings.{Warning, warning_of}
 use Rattle.rv_store.specs.Shown.{shown_of}
-use Rattle.rv_store.specs.Text.{Text}
+use Rattle.rv_program.specs.Text.{Text}
 use Rattle.rv_files.specs.declared.odd_addresses.Reported.{Reported}
 use Rattle.rv_files.specs.OddAddresses.{reported_faults}
 use Rattle.rv_files.specs.TextReports.{all_reports, all_warnings, asked_warnings, fault_count, line_reports, optional, own_report_of, report_count, searched_symbols, text_reports, warning_count, warning_reports, warnings_about}

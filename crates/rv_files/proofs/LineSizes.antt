@@ -10,11 +10,11 @@ use Rattle.rv_stmt.specs.declared.statement.Body.{Body}
 use Rattle.rv_layout.specs.declared.measured.Measured.{Measured}
 use Rattle.rv_layout.specs.declared.measured.Measured.TheVariants.{Nothing}
 use Rattle.rv_layout.specs.Places.{size_at as size_of_shape, offset_of}
-use Rattle.rv_store.specs.declared.line_values.LineValues.{LineValues}
-use Rattle.rv_store.specs.declared.line_values.LineValues.TheVariants as values
-use Rattle.rv_store.specs.Codes.{values_at, code_by_values, code_at}
-use Rattle.rv_store.specs.Layout.{shape_at, shapes_of, size_at}
-use Rattle.rv_store.specs.Program.{Program, program_of, no_statement, body_at, for_lines}
+use Rattle.rv_program.specs.declared.line_values.LineValues.{LineValues}
+use Rattle.rv_program.specs.declared.line_values.LineValues.TheVariants as values
+use Rattle.rv_program.specs.Codes.{values_at, code_by_values, code_at}
+use Rattle.rv_program.specs.Layout.{shape_at, shapes_of, size_at}
+use Rattle.rv_program.specs.Program.{Program, program_of, no_statement, body_at, for_lines}
 use Rattle.rv_files.specs.Segments.{AreBytes}
 use Rattle.rv_files.proofs.PayloadBytes.{code_bytes, padding_bytes}
 use Rattle.rv_files.proofs.PayloadSizes.{SizeLaws, body_sized}

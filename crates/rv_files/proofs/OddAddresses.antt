@@ -10,7 +10,7 @@ use Rattle.rv_list.specs.Faults.{fault_row, faults_of}
 use Rattle.rv_list.specs.Joined.{joined}
 use Rattle.rv_list.specs.Shown.{Shown, ShownLine}
 use Rattle.rv_store.specs.Shown.{shown_of}
-use Rattle.rv_store.specs.Text.{Text}
+use Rattle.rv_program.specs.Text.{Text}
 use Rattle.rv_files.specs.declared.odd_addresses.Parity.{Parity}
 use Rattle.rv_files.specs.declared.odd_addresses.Reported.{Reported}
 use Rattle.rv_files.specs.OddAddresses.{odd_before, odd_behind, odd_report, one_reported, own_report, parities_of, report_by, reported_faults}

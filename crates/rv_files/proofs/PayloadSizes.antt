@@ -29,12 +29,12 @@ use Rattle.rv_fix.specs.Data.{fill_count}
 use Rattle.rv_fix.specs.Filling.{filled}
 use Rattle.rv_fix.specs.Padding.{padding}
 use Rattle.rv_fix.specs.Values.{Entry, given_to, operand_value, counted_from, entry_of}
-use Rattle.rv_store.specs.declared.line_values.LineValues.TheVariants as values
-use Rattle.rv_store.specs.Codes.{values_of_body, values_by_shape, code_by_values}
-use Rattle.rv_store.specs.Constants.{constant_of}
-use Rattle.rv_store.specs.Layout.{address_at, size_at}
-use Rattle.rv_store.specs.Pairs.{names_at}
-use Rattle.rv_store.specs.Program.{Program}
+use Rattle.rv_program.specs.declared.line_values.LineValues.TheVariants as values
+use Rattle.rv_program.specs.Codes.{values_of_body, values_by_shape, code_by_values}
+use Rattle.rv_program.specs.Constants.{constant_of}
+use Rattle.rv_program.specs.Layout.{address_at, size_at}
+use Rattle.rv_program.specs.Pairs.{names_at}
+use Rattle.rv_program.specs.Program.{Program}
 use Rattle.rv_files.proofs.LoadOperands.{constant_operand, LoadsAlone, IsOneConstant}
 use Rattle.rv_files.proofs.RegularBodies.{BeginsWithSize, IsRegular}
 

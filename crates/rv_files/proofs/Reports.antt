@@ -11,7 +11,7 @@ use Rattle.rv_show.specs.Origins.{Source}
 use Rattle.rv_report.specs.Reports.{report_of}
 use Rattle.rv_store.specs.LinesOfTexts.{LineOfText, names_from}
 use Rattle.rv_store.specs.Shown.{shown_of}
-use Rattle.rv_store.specs.Text.{Text, at_line}
+use Rattle.rv_program.specs.Text.{Text, at_line}
 use Rattle.rv_files.specs.declared.odd_addresses.Reported.{Reported}
 use Rattle.rv_files.specs.OddAddresses.{one_reported, reported_faults}
 use Rattle.rv_files.specs.TextReports.{line_reports, own_report_of}

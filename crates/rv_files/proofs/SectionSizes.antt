@@ -12,11 +12,11 @@ use Rattle.rv_layout.specs.Places.{section_after, offset_after, section_through,
 use Rattle.rv_layout.specs.Sections.{section_number}
 use Rattle.rv_list.specs.Image.{bytes_in, section_bytes}
 use Rattle.rv_list.specs.Joined.{joined}
-use Rattle.rv_store.specs.Codes.{code_at}
-use Rattle.rv_store.specs.Layout.{shape_at, shapes_of, section_at, section_end_at}
-use Rattle.rv_store.specs.Program.{Program, program_of, for_lines}
+use Rattle.rv_program.specs.Codes.{code_at}
+use Rattle.rv_program.specs.Layout.{shape_at, shapes_of, section_at, section_end_at}
+use Rattle.rv_program.specs.Program.{Program, program_of, for_lines}
 use Rattle.rv_store.specs.Shown.{shown_line_at, shown_of}
-use Rattle.rv_store.specs.Text.{Text}
+use Rattle.rv_program.specs.Text.{Text}
 use Rattle.rv_files.specs.Segments.{AreBytes}
 use Rattle.rv_files.proofs.Bytes.{bytes_none, bytes_append}
 use Rattle.rv_files.proofs.LineSizes.{first_answers, size_by_shape, line_sized, line_bytes}

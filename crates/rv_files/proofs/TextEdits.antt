@@ -9,8 +9,8 @@ use Rattle.std.proofs.lemmas.List.{length-set}
 use Rattle.std.proofs.lemmas.List.Elements.{All-append, All-cons, All-drop, All-nil, All-set, All-take}
 use Rattle.rv_text.specs.declared.lexeme.TheConstants.{MAX_LINE_LENGTH}
 use Rattle.rv_layout.specs.Places.{is_base}
-use Rattle.rv_store.specs.declared.limits.TheConstants.{MAX_LINES}
-use Rattle.rv_store.specs.Text.{Text, Edit, Insert, Delete, Replace, is_line, refusal_of, lines_after, text_after}
+use Rattle.rv_program.specs.declared.limits.TheConstants.{MAX_LINES}
+use Rattle.rv_program.specs.Text.{Text, Edit, Insert, Delete, Replace, is_line, refusal_of, lines_after, text_after}
 use Rattle.rv_files.specs.TextLimits.{IsWithinLimits}
 
 abbrev IsShort : List ℕ → Type 0

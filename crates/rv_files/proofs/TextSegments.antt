@@ -13,11 +13,11 @@ use Rattle.rv_layout.specs.Sections.{sections}
 use Rattle.rv_layout.specs.Shapes.{shape_of}
 use Rattle.rv_list.specs.Image.{section_bytes}
 use Rattle.rv_list.specs.Shown.{shows_bytes}
-use Rattle.rv_store.specs.Constants.{constant_of}
-use Rattle.rv_store.specs.Layout.{shape_at, shapes_of, section_base_at, section_end_at}
-use Rattle.rv_store.specs.Program.{Program, program_of, no_statement, body_at, for_lines}
+use Rattle.rv_program.specs.Constants.{constant_of}
+use Rattle.rv_program.specs.Layout.{shape_at, shapes_of, section_base_at, section_end_at}
+use Rattle.rv_program.specs.Program.{Program, program_of, no_statement, body_at, for_lines}
 use Rattle.rv_store.specs.Shown.{shown_of}
-use Rattle.rv_store.specs.Text.{Text}
+use Rattle.rv_program.specs.Text.{Text}
 use Rattle.rv_files.specs.Bin.{AreAscending}
 use Rattle.rv_files.specs.ElfLoading.{AreLoadable}
 use Rattle.rv_files.specs.Segments.{Segment, AreBytes, HoldBytes, segment_at, segments_of}

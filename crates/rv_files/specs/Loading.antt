@@ -1,7 +1,7 @@
 -- The text that a file is, and why a file is none. (docs/FILES.md, Reading)
 use Rattle.std.specs.Prelude.{ℕ, ◌+◌, nat_lt, List, [], ◌∷◌, length, Option, Some, None, if◌then◌else◌}
 use Rattle.rv_text.specs.declared.lexeme.TheConstants.{MAX_LINE_LENGTH}
-use Rattle.rv_store.specs.declared.limits.TheConstants.{MAX_LINES}
+use Rattle.rv_program.specs.declared.limits.TheConstants.{MAX_LINES}
 use Rattle.rv_files.specs.declared.limits.LoadError.{LoadError}
 use Rattle.rv_files.specs.declared.limits.LoadError.TheVariants.{LineTooLong, TooManyLines}
 use Rattle.rv_files.specs.Lines.{lines_of}

@@ -13,7 +13,7 @@ use Rattle.rv_report.specs.Reports.{report_of, warning_report_of}
 use Rattle.rv_report.specs.Warnings.{Warning, warning_of}
 use Rattle.rv_store.specs.LinesOfTexts.{names_from}
 use Rattle.rv_store.specs.Shown.{shown_of}
-use Rattle.rv_store.specs.Text.{Text}
+use Rattle.rv_program.specs.Text.{Text}
 use Rattle.rv_files.specs.declared.report_error.ReportError.{ReportError}
 use Rattle.rv_files.specs.declared.report_error.ReportError.TheVariants.{Write, Memory}
 use Rattle.rv_files.specs.declared.odd_addresses.Reported.{Reported}

@@ -3,11 +3,11 @@
 ghost use Rattle.std.specs.Prelude.{◌≡◌, ℕ, ◌<◌, ◌≤◌, ◌^◌, List, [], length, All, None, true};
 ghost use Rattle.rv_layout.specs.Places.{is_base};
 ghost use Rattle.rv_list.specs.Image.{section_bytes};
-ghost use Rattle.rv_store.specs.Codes.{code_at};
-ghost use Rattle.rv_store.specs.Layout.{place_at, section_end_at};
-ghost use Rattle.rv_store.specs.Program.{program_of};
+ghost use Rattle.rv_program.specs.Codes.{code_at};
+ghost use Rattle.rv_program.specs.Layout.{place_at, section_end_at};
+ghost use Rattle.rv_program.specs.Program.{program_of};
 ghost use Rattle.rv_store.specs.Shown.{shown_of};
-ghost use Rattle.rv_store.specs.Text.{Text, Edit, refusal_of, text_after};
+ghost use Rattle.rv_program.specs.Text.{Text, Edit, refusal_of, text_after};
 ghost use Rattle.rv_files.specs.Bin.{bin_bytes, AreAscending, StandsIn};
 ghost use Rattle.rv_files.specs.Cells.{cells_of};
 ghost use Rattle.rv_files.specs.Elf.{start_of, elf_bytes};

@@ -2,7 +2,7 @@
 
 ghost use Rattle.std.specs.Prelude.{◌≡◌, ◌+◌, ◌<◌, ◌++◌, ◌∷◌, [], true, None, length, unwrap_or, IfOk, OnOk, IfErr};
 ghost use Rattle.rv_layout.specs.Places.{is_base};
-ghost use Rattle.rv_store.specs.Text.{is_line};
+ghost use Rattle.rv_program.specs.Text.{is_line};
 ghost use Rattle.rv_files.specs.Lines.{lines_of};
 ghost use Rattle.rv_files.specs.Loading.{load_refusal, refusal_from};
 ghost use Rattle.rv_files.specs.declared.limits.LoadError.TheVariants.{Memory};

@@ -21,10 +21,10 @@ use Rattle.rv_stmt.specs.ValueParts.{high_part, low_part}
 use Rattle.rv_layout.specs.Shapes.{is_size}
 use Rattle.rv_fix.specs.Displacements.{displacement}
 use Rattle.rv_fix.specs.Values.{for_constants, given_to, operand_value, counted_from, entry_of, operand_values_of}
-use Rattle.rv_store.specs.Constants.{value_without_modifier, first_value, defined_value}
-use Rattle.rv_store.specs.Pairs.{pcrel_high_value, pcrel_high_operand, pcrel_high_of, high_by}
-use Rattle.rv_store.specs.Uses.{names_in, tree_of_label, expression_of, names_used}
-use Rattle.rv_store.proofs.UsedValues.{value-follows}
+use Rattle.rv_program.specs.Constants.{value_without_modifier, first_value, defined_value}
+use Rattle.rv_program.specs.Pairs.{pcrel_high_value, pcrel_high_operand, pcrel_high_of, high_by}
+use Rattle.rv_program.specs.Uses.{names_in, tree_of_label, expression_of, names_used}
+use Rattle.rv_program.specs.lemmas.UsedValues.{value-follows}
 
 -- two environments that give the same, but for the symbols that differ and the labels of their names
 pub record Agree (differs : List ℕ → Bool) (given other : Environment) : Type 0 where

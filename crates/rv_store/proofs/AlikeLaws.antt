@@ -20,17 +20,17 @@ use Rattle.rv_layout.specs.Sections.{is_code, section_number}
 use Rattle.rv_layout.specs.Shapes.{constants, shape_of}
 use Rattle.rv_fix.specs.Values.{Entry, operand_values_of}
 use Rattle.rv_list.specs.declared.view.DefinitionPlace.TheVariants.{Nowhere, Label as ByLabel}
-use Rattle.rv_store.specs.declared.line_values.LineValues.TheVariants.{Nothing, Operands, Symbol, Padding}
-use Rattle.rv_store.specs.Alike.{label_names, room_of, IsPlain, DefinesSame, IsAlike}
-use Rattle.rv_store.specs.Codes.{values_of_body, values_by_shape, values_at, code_by_values, code_at}
-use Rattle.rv_store.specs.Constants.{defined_value, constant_of, constant_through}
-use Rattle.rv_store.specs.Definitions.{defines_symbol, place_among_labels, place_in_body, or_place, place_in_statement, first_place, definition_of, is_equ_on}
-use Rattle.rv_store.specs.Ends.{ends_of}
-use Rattle.rv_store.specs.Layout.{shape_at, shapes_of, section_at, address_at, size_at, place_at}
-use Rattle.rv_store.specs.Pairs.{pcrel_high_of, high_by, high_at, next_with_bytes, high_at_line, paired_high_of, names_at}
-use Rattle.rv_store.specs.Program.{Program, no_statement, statement_at, body_at, for_lines, last_line, first_line}
-use Rattle.rv_store.specs.References.{is_local, among_local, has_local, local_line, line_of_place, label_line, by_definition, address_of_line, names_on, no_pairs, equ_value, symbol_through, usable_equs, reference_of, references_at}
-use Rattle.rv_store.specs.Uses.{is_equ}
+use Rattle.rv_program.specs.declared.line_values.LineValues.TheVariants.{Nothing, Operands, Symbol, Padding}
+use Rattle.rv_store.specs.internal.Alike.{label_names, room_of, IsPlain, DefinesSame, IsAlike}
+use Rattle.rv_program.specs.Codes.{values_of_body, values_by_shape, values_at, code_by_values, code_at}
+use Rattle.rv_program.specs.Constants.{defined_value, constant_of, constant_through}
+use Rattle.rv_program.specs.Definitions.{defines_symbol, place_among_labels, place_in_body, or_place, place_in_statement, first_place, definition_of, is_equ_on}
+use Rattle.rv_store.specs.internal.Ends.{ends_of}
+use Rattle.rv_program.specs.Layout.{shape_at, shapes_of, section_at, address_at, size_at, place_at}
+use Rattle.rv_program.specs.Pairs.{pcrel_high_of, high_by, high_at, next_with_bytes, high_at_line, paired_high_of, names_at}
+use Rattle.rv_program.specs.Program.{Program, no_statement, statement_at, body_at, for_lines, last_line, first_line}
+use Rattle.rv_program.specs.References.{is_local, among_local, has_local, local_line, line_of_place, label_line, by_definition, address_of_line, names_on, no_pairs, equ_value, symbol_through, usable_equs, reference_of, references_at}
+use Rattle.rv_program.specs.Uses.{is_equ}
 use Rattle.rv_store.proofs.Rooms.{map-for_lines, section-rooms, address-rooms, size-rooms, ends-rooms}
 
 -- Labels that define the same

@@ -5,10 +5,10 @@ use Rattle.std.proofs.lemmas.Bool.{eqb-true, and_parts, not-true}
 use Rattle.rv_ops.specs.NameLaws.{bytes_eq-true}
 use Rattle.rv_stmt.specs.declared.statement.Stmt.{Stmt}
 use Rattle.rv_stmt.specs.LabelNames.{Label, LabelName, Symbol, Local}
-use Rattle.rv_store.specs.declared.brief.Brief.{Brief}
-use Rattle.rv_store.specs.Alike.{same_name, same_labels, label_names, IsPlain, DefinesSame}
-use Rattle.rv_store.specs.Briefs.{brief_of}
-use Rattle.rv_store.specs.Pairs.{pcrel_high_of}
+use Rattle.rv_program.specs.declared.brief.Brief.{Brief}
+use Rattle.rv_store.specs.internal.Alike.{same_name, same_labels, label_names, IsPlain, DefinesSame}
+use Rattle.rv_program.specs.internal.Briefs.{brief_of}
+use Rattle.rv_program.specs.Pairs.{pcrel_high_of}
 use Rattle.rv_store.proofs.Stores.{past_zero}
 
 -- Labels

@@ -6,27 +6,27 @@ use Rattle.rv_stmt.specs.Statement.{statement_of}
 use Rattle.rv_layout.specs.declared.measured.Measured.{Measured}
 use Rattle.rv_layout.specs.Places.{IsLimited, AreLimited}
 use Rattle.rv_layout.specs.Shapes.{size_operands, shape_of}
-use Rattle.rv_store.specs.declared.item.Item.{Item}
+use Rattle.rv_program.specs.declared.item.Item.{Item}
 use Rattle.rv_store.specs.declared.survey.Survey.{Survey}
-use Rattle.rv_store.specs.Alike.{IsAlike}
-use Rattle.rv_store.specs.Changes.{program_after, is_new_or, differs_in_code, differs_in_uses, differs_in_values, is_changed, changed_lines, is_invalidated, is_reencoded, most_values, most_codes}
-use Rattle.rv_store.specs.Codes.{values_at, code_at}
-use Rattle.rv_store.specs.Constants.{constant_of}
-use Rattle.rv_store.specs.Edits.{line_before_edit}
-use Rattle.rv_store.specs.Ends.{ends_of}
-use Rattle.rv_store.specs.Items.{IsItem, AreItems}
-use Rattle.rv_store.specs.Layout.{shape_at, shapes_of}
-use Rattle.rv_store.specs.Pairs.{high_at, paired_high_of}
-use Rattle.rv_store.specs.Program.{Program, program_of, body_at, for_lines, lines_that}
-use Rattle.rv_store.specs.Rows.{AreDefinitions, AreConstants, AreEquValues, AreShapes, ArePlaces, HoldHighs, AreHighs, ArePairedHighs, AreLocals}
-use Rattle.rv_store.specs.Surveys.{IsSurvey}
-use Rattle.rv_store.specs.Text.{Replace, lines_after}
-use Rattle.rv_store.specs.Work.{survey_operands, value_operands}
+use Rattle.rv_store.specs.internal.Alike.{IsAlike}
+use Rattle.rv_program.specs.Changes.{program_after, is_new_or, differs_in_code, differs_in_uses, differs_in_values, is_changed, changed_lines, is_invalidated, is_reencoded, most_values, most_codes}
+use Rattle.rv_program.specs.Codes.{values_at, code_at}
+use Rattle.rv_program.specs.Constants.{constant_of}
+use Rattle.rv_program.specs.Edits.{line_before_edit}
+use Rattle.rv_store.specs.internal.Ends.{ends_of}
+use Rattle.rv_program.specs.internal.Items.{IsItem, AreItems}
+use Rattle.rv_program.specs.Layout.{shape_at, shapes_of}
+use Rattle.rv_program.specs.Pairs.{high_at, paired_high_of}
+use Rattle.rv_program.specs.Program.{Program, program_of, body_at, for_lines, lines_that}
+use Rattle.rv_program.specs.internal.Rows.{AreDefinitions, AreConstants, AreEquValues, AreShapes, ArePlaces, HoldHighs, AreHighs, ArePairedHighs, AreLocals}
+use Rattle.rv_store.specs.internal.Surveys.{IsSurvey}
+use Rattle.rv_program.specs.Text.{Replace, lines_after}
+use Rattle.rv_program.specs.internal.Work.{survey_operands, value_operands}
 use Rattle.rv_store.proofs.AlikeLaws.{put, length-put, definitions-same, constants-same, shape-other, shape-put, ends-same, place-same, has_local-same, equ_values-same, highs-same, paired_highs-same, values-same, code-same}
-use Rattle.rv_store.proofs.Programs.{length-for_lines, length-program}
-use Rattle.rv_store.proofs.Sameness.{same_code-Decides}
-use Rattle.rv_store.proofs.WorkLaws.{work-invalidated, work-up}
-use Rattle.rv_store.proofs.WorkSums.{work-within}
+use Rattle.rv_program.specs.lemmas.Programs.{length-for_lines, length-program}
+use Rattle.rv_program.specs.lemmas.SamenessLaws.{same_code-Decides}
+use Rattle.rv_program.specs.lemmas.WorkLaws.{work-invalidated, work-up}
+use Rattle.rv_program.specs.lemmas.WorkSums.{work-within}
 
 -- Rows by lines
 

@@ -9,18 +9,18 @@ use Rattle.rv_stmt.specs.LabelNames.{Label}
 use Rattle.rv_stmt.specs.Statement.{statement_of}
 use Rattle.rv_list.specs.declared.view.DefinitionPlace.{DefinitionPlace}
 use Rattle.rv_list.specs.declared.view.DefinitionPlace.TheVariants.{Nowhere, Label as ByLabel, Equ}
-use Rattle.rv_store.specs.declared.name_set.Mark.{Mark}
-use Rattle.rv_store.specs.declared.name_set.Mark.TheVariants.{Unknown, Same, Moved, Changed}
-use Rattle.rv_store.specs.Appended.{adds, adds_by_rows, IsApart}
-use Rattle.rv_store.specs.Definitions.{defines_symbol, place_among_labels, place_in_body, or_place, place_in_statement, is_defined}
-use Rattle.rv_store.specs.Locals.{has_local_labels}
-use Rattle.rv_store.specs.NameSets.{IsBelow, differs}
-use Rattle.rv_store.specs.Pairs.{pcrel_high_of}
-use Rattle.rv_store.specs.Program.{program_of, no_statement, body_at}
-use Rattle.rv_store.specs.Rows.{AreDefinitions}
-use Rattle.rv_store.specs.Uses.{names_used}
-use Rattle.rv_store.proofs.LocalLines.{none-among}
-use Rattle.rv_store.proofs.Programs.{length-program}
+use Rattle.rv_program.specs.declared.name_set.Mark.{Mark}
+use Rattle.rv_program.specs.declared.name_set.Mark.TheVariants.{Unknown, Same, Moved, Changed}
+use Rattle.rv_store.specs.internal.Appended.{adds, adds_by_rows, IsApart}
+use Rattle.rv_program.specs.Definitions.{defines_symbol, place_among_labels, place_in_body, or_place, place_in_statement, is_defined}
+use Rattle.rv_program.specs.internal.Locals.{has_local_labels}
+use Rattle.rv_program.specs.internal.NameSets.{IsBelow, differs}
+use Rattle.rv_program.specs.Pairs.{pcrel_high_of}
+use Rattle.rv_program.specs.Program.{program_of, no_statement, body_at}
+use Rattle.rv_program.specs.internal.Rows.{AreDefinitions}
+use Rattle.rv_program.specs.Uses.{names_used}
+use Rattle.rv_program.specs.lemmas.LocalLines.{none-among}
+use Rattle.rv_program.specs.lemmas.Programs.{length-program}
 
 -- Marks
 

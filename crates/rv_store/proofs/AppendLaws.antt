@@ -21,21 +21,21 @@ use Rattle.rv_layout.specs.Sections.{is_code, section_number}
 use Rattle.rv_fix.specs.Values.{Entry, operand_values_of}
 use Rattle.rv_list.specs.declared.view.DefinitionPlace.{DefinitionPlace}
 use Rattle.rv_list.specs.declared.view.DefinitionPlace.TheVariants.{Nowhere, Label as ByLabel, Equ}
-use Rattle.rv_store.specs.declared.line_values.LineValues.TheVariants.{Nothing, Operands, Symbol, Padding}
-use Rattle.rv_store.specs.Appended.{adds, IsApart, shape_at_end, StaySections}
-use Rattle.rv_store.specs.Codes.{values_of_body, values_by_shape, values_at, code_by_values, code_at}
-use Rattle.rv_store.specs.Constants.{defined_value}
-use Rattle.rv_store.specs.Definitions.{or_place, place_in_statement, definition_of, is_defined, is_equ_on}
-use Rattle.rv_store.specs.Layout.{shape_at, shapes_of, section_at, address_at, size_at as size_on, place_at}
-use Rattle.rv_store.specs.Pairs.{pcrel_high_of, high_by, high_at, has_bytes_in, high_at_line, paired_high_of, names_at}
-use Rattle.rv_store.specs.Program.{Program, body_at, lines_that, last_line, first_line}
-use Rattle.rv_store.specs.References.{among_local, has_local, local_line, line_of_place, label_line, or_faulty_equ, by_definition, address_of_line, names_on, no_pairs, equ_value, symbol_through, usable_equs, reference_of, references_at}
-use Rattle.rv_store.specs.Uses.{names_in, tree_of_label, names_used}
+use Rattle.rv_program.specs.declared.line_values.LineValues.TheVariants.{Nothing, Operands, Symbol, Padding}
+use Rattle.rv_store.specs.internal.Appended.{adds, IsApart, shape_at_end, StaySections}
+use Rattle.rv_program.specs.Codes.{values_of_body, values_by_shape, values_at, code_by_values, code_at}
+use Rattle.rv_program.specs.Constants.{defined_value}
+use Rattle.rv_program.specs.Definitions.{or_place, place_in_statement, definition_of, is_defined, is_equ_on}
+use Rattle.rv_program.specs.Layout.{shape_at, shapes_of, section_at, address_at, size_at as size_on, place_at}
+use Rattle.rv_program.specs.Pairs.{pcrel_high_of, high_by, high_at, has_bytes_in, high_at_line, paired_high_of, names_at}
+use Rattle.rv_program.specs.Program.{Program, body_at, lines_that, last_line, first_line}
+use Rattle.rv_program.specs.References.{among_local, has_local, local_line, line_of_place, label_line, or_faulty_equ, by_definition, address_of_line, names_on, no_pairs, equ_value, symbol_through, usable_equs, reference_of, references_at}
+use Rattle.rv_program.specs.Uses.{names_in, tree_of_label, names_used}
 use Rattle.rv_store.proofs.AgreeingNames.{Agree, operand_values-agree, defined_value-agrees, high-agrees}
-use Rattle.rv_store.proofs.DefinitionLaws.{IsWithin, definition-within, undefined}
-use Rattle.rv_store.proofs.EquLaws.{equ_value-kept}
+use Rattle.rv_program.specs.lemmas.DefinitionLaws.{IsWithin, definition-within, undefined}
+use Rattle.rv_program.specs.lemmas.EquLaws.{equ_value-kept}
 use Rattle.rv_store.proofs.LongerPrograms.{more, count-more, statement-earlier, statement-last, body-earlier, body-last, definitions-more, equ-earlier, shape-same, shapes-more}
-use Rattle.rv_store.proofs.Programs.{length-for_lines}
+use Rattle.rv_program.specs.lemmas.Programs.{length-for_lines}
 
 -- Lines
 

@@ -11,31 +11,31 @@ use Rattle.rv_stmt.specs.Statement.{statement_of}
 use Rattle.rv_layout.specs.Places.{AreLimited}
 use Rattle.rv_fix.specs.Values.{Entry}
 use Rattle.rv_store.specs.declared.ending.Ending.{Ending}
-use Rattle.rv_store.specs.declared.item.Item.{Item}
+use Rattle.rv_program.specs.declared.item.Item.{Item}
 use Rattle.rv_store.specs.declared.survey.Survey.{Survey}
-use Rattle.rv_store.specs.Appended.{StaySections, shape_at_end, IsEnding, AreSameSymbols, AreSameLines, AreExtended, BeginAs, AreSymbols, IsLast, IsUnsettled}
-use Rattle.rv_store.specs.Changes.{program_after, is_new_or, differs_in_code, differs_in_uses, differs_in_values, is_changed, changed_lines, is_invalidated, is_reencoded, most_values, most_codes}
-use Rattle.rv_store.specs.Codes.{values_at, code_at}
-use Rattle.rv_store.specs.Edits.{line_before_edit}
-use Rattle.rv_store.specs.Ends.{ends_of}
-use Rattle.rv_store.specs.Items.{IsItem, AreFirstItems, AreItems, IsItemAdded}
-use Rattle.rv_store.specs.Layout.{shape_at, place_at}
-use Rattle.rv_store.specs.Pairs.{high_at, paired_high_of}
-use Rattle.rv_store.specs.Program.{Program, program_of, body_at, for_lines, lines_that}
-use Rattle.rv_store.specs.References.{has_local, equ_value}
-use Rattle.rv_store.specs.Rows.{AreDefinitions, AreConstants, AreEquValues, ArePlaces, HoldHighs, AreHighs, ArePairedHighs, AreLocals}
-use Rattle.rv_store.specs.Surveys.{IsSurvey}
-use Rattle.rv_store.specs.Text.{Insert, lines_after}
-use Rattle.rv_store.specs.Work.{survey_operands, value_operands}
+use Rattle.rv_store.specs.internal.Appended.{StaySections, shape_at_end, IsEnding, AreSameSymbols, AreSameLines, AreExtended, BeginAs, AreSymbols, IsLast, IsUnsettled}
+use Rattle.rv_program.specs.Changes.{program_after, is_new_or, differs_in_code, differs_in_uses, differs_in_values, is_changed, changed_lines, is_invalidated, is_reencoded, most_values, most_codes}
+use Rattle.rv_program.specs.Codes.{values_at, code_at}
+use Rattle.rv_program.specs.Edits.{line_before_edit}
+use Rattle.rv_store.specs.internal.Ends.{ends_of}
+use Rattle.rv_program.specs.internal.Items.{IsItem, AreFirstItems, AreItems, IsItemAdded}
+use Rattle.rv_program.specs.Layout.{shape_at, place_at}
+use Rattle.rv_program.specs.Pairs.{high_at, paired_high_of}
+use Rattle.rv_program.specs.Program.{Program, program_of, body_at, for_lines, lines_that}
+use Rattle.rv_program.specs.References.{has_local, equ_value}
+use Rattle.rv_program.specs.internal.Rows.{AreDefinitions, AreConstants, AreEquValues, ArePlaces, HoldHighs, AreHighs, ArePairedHighs, AreLocals}
+use Rattle.rv_store.specs.internal.Surveys.{IsSurvey}
+use Rattle.rv_program.specs.Text.{Insert, lines_after}
+use Rattle.rv_program.specs.internal.Work.{survey_operands, value_operands}
 use Rattle.rv_store.proofs.AlikeTexts.{some_line}
 use Rattle.rv_store.proofs.AppendLaws.{lines_that-same, place-same, has_local-same, has_local-last, equ_value-same, high-same, high-last, paired_high-same, paired_high-last, values-same, code-same}
-use Rattle.rv_store.proofs.Items.{one_item_more, all_items}
+use Rattle.rv_program.specs.lemmas.ItemLaws.{one_item_more, all_items}
 use Rattle.rv_store.proofs.LongerPrograms.{for_lines-same, more, count-more, shape-same, shapes-more, statement-last}
-use Rattle.rv_store.proofs.Programs.{length-for_lines, length-program}
-use Rattle.rv_store.proofs.Sameness.{same_code-Decides}
+use Rattle.rv_program.specs.lemmas.Programs.{length-for_lines, length-program}
+use Rattle.rv_program.specs.lemmas.SamenessLaws.{same_code-Decides}
 use Rattle.rv_store.proofs.ShapeRows.{limited-push}
-use Rattle.rv_store.proofs.WorkLaws.{work-invalidated, work-up}
-use Rattle.rv_store.proofs.WorkSums.{work-within}
+use Rattle.rv_program.specs.lemmas.WorkLaws.{work-invalidated, work-up}
+use Rattle.rv_program.specs.lemmas.WorkSums.{work-within}
 
 none_that : (test : ℕ → Bool) (n : ℕ) → ((i : ℕ) → 1 ≤ i → i ≤ n → test i ≡ false) → lines_that test n ≡ []
 none_that test zero none = refl

@@ -1,9 +1,9 @@
 -- Edits of a column of lines, and the edits that take them back.
 use Rattle.std.proofs.Common.{◌≡◌, ℕ, zero, suc, ◌<◌, ◌≤◌, List, [], ◌∷◌, length, get_or, None, arith, ap, refl}
 use Rattle.std.specs.Prelude.{insert, remove}
-use Rattle.rv_store.specs.Column.{HasPlace}
-use Rattle.rv_store.specs.Text.{Edit, Insert, Delete, Replace, refusal_of}
-use Rattle.rv_store.proofs.EarlierLines.{insert_within, delete_within, replace_within}
+use Rattle.rv_store.specs.internal.Column.{HasPlace}
+use Rattle.rv_program.specs.Text.{Edit, Insert, Delete, Replace, refusal_of}
+use Rattle.rv_program.specs.lemmas.EarlierLines.{insert_within, delete_within, replace_within}
 
 -- what was put in is taken out
 pub removed-inserted : {A : Type 0} (xs : List A) (i : ℕ) (x : A) → i ≤ length xs → remove (insert xs i x) i ≡ xs

@@ -1,12 +1,12 @@
 -- What is counted while an edit is made, by its parts.
 use Rattle.std.proofs.Common.{◌≡◌, ℕ, ◌+◌, ◌*◌, ◌≤◌, List, length, arith, ap, refl}
 use Rattle.rv_text.specs.Counting.{Counts}
-use Rattle.rv_store.specs.Assembled.{AreCountedAfter}
-use Rattle.rv_store.specs.Changes.{most_codes}
-use Rattle.rv_store.specs.NewShapes.{shape_operands}
-use Rattle.rv_store.specs.Text.{Edit, lines_after}
-use Rattle.rv_store.specs.Work.{survey_operands, compared_operands, value_operands, work}
-use Rattle.rv_store.proofs.WorkSums.{work-within}
+use Rattle.rv_store.specs.internal.Assembled.{AreCountedAfter}
+use Rattle.rv_program.specs.Changes.{most_codes}
+use Rattle.rv_program.specs.internal.NewShapes.{shape_operands}
+use Rattle.rv_program.specs.Text.{Edit, lines_after}
+use Rattle.rv_program.specs.internal.Work.{survey_operands, compared_operands, value_operands, work}
+use Rattle.rv_program.specs.lemmas.WorkSums.{work-within}
 
 -- first what is kept of the text is made, then the codes of its lines
 pub counted-after : (base : ℕ) (lines after : List (List ℕ)) (edit : Edit) (old new : Counts) (surveyed : ℕ) → after ≡ lines_after lines edit → new.parsed ≡ old.parsed → old.valued ≤ surveyed → surveyed ≤ old.valued + 4 * length after → surveyed + shape_operands edit ≤ old.valued + work survey_operands base lines edit (length after) → surveyed ≤ new.valued → new.valued ≤ surveyed + 1000 * length after → new.valued ≤ surveyed + work compared_operands base lines edit (length after) + work value_operands base lines edit (length after) → old.encoded ≤ new.encoded → new.encoded ≤ old.encoded + length after → new.encoded ≤ old.encoded + most_codes base lines edit → AreCountedAfter base lines edit old new

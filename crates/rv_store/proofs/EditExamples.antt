@@ -17,11 +17,11 @@ use Rattle.rv_fix.specs.declared.coded.Coded.{Coded}
 use Rattle.rv_fix.specs.Code.{code}
 use Rattle.rv_list.specs.declared.view.DefinitionPlace.TheVariants as definition
 use Rattle.rv_store.specs.declared.symbols.SymValue.TheVariants.{Label, Equ}
-use Rattle.rv_store.specs.Changes.{changed_lines, invalidated_lines, reencoded_lines, most_values, most_codes}
-use Rattle.rv_store.specs.Definitions.{definition_of}
-use Rattle.rv_store.specs.Edits.{line_before_edit}
-use Rattle.rv_store.specs.Program.{program_of}
-use Rattle.rv_store.specs.Text.{Edit, Insert, Delete, Replace, lines_after}
+use Rattle.rv_program.specs.Changes.{changed_lines, invalidated_lines, reencoded_lines, most_values, most_codes}
+use Rattle.rv_program.specs.Definitions.{definition_of}
+use Rattle.rv_program.specs.Edits.{line_before_edit}
+use Rattle.rv_program.specs.Program.{program_of}
+use Rattle.rv_program.specs.Text.{Edit, Insert, Delete, Replace, lines_after}
 use Rattle.rv_store.proofs.ImageExamples.{started_lines}
 use Rattle.rv_store.proofs.TextExamples.{Named, wrong, wrong_word, instruction, nop, no_bytes, codes_of, named_in, sections_of, chain_lines, pair_lines, bss_lines}
 

@@ -7,9 +7,9 @@ use Rattle.std.proofs.lemmas.List.Edits.{length-insert, length-remove}
 use Rattle.std.proofs.lemmas.List.Elements.{All-set}
 use Rattle.std.specs.List.{AllPass}
 use Rattle.std.specs.Prelude.{true}
-use Rattle.rv_store.specs.Text.{Edit, Insert, Delete, Replace, is_line, refusal_of, lines_after}
-use Rattle.rv_store.proofs.EarlierLines.{insert_within, delete_within}
-use Rattle.rv_store.proofs.Lists.{all_insert, all_remove}
+use Rattle.rv_program.specs.Text.{Edit, Insert, Delete, Replace, is_line, refusal_of, lines_after}
+use Rattle.rv_program.specs.lemmas.EarlierLines.{insert_within, delete_within}
+use Rattle.rv_program.specs.lemmas.Lists.{all_insert, all_remove}
 
 -- what is put in is a line
 pub puts_in_line : (lines : List (List ℕ)) (place : ℕ) (line : List ℕ) → refusal_of lines (Insert place line) ≡ None → is_line line ≡ true

@@ -6,7 +6,7 @@ use Rattle.rv_layout.specs.PlaceLaws.{ends_together}
 use Rattle.rv_layout.specs.Places.{base_from, section_end_of, section_base_of, sum_below, AreLimited}
 use Rattle.rv_layout.specs.Rounding.{round_up}
 use Rattle.rv_layout.specs.Sections.{sections}
-use Rattle.rv_store.specs.Ends.{by_section, ends_of, end_in, base_by_ends}
+use Rattle.rv_store.specs.internal.Ends.{by_section, ends_of, end_in, base_by_ends}
 
 pub at-number : (f : ℕ → ℕ) (t : ℕ) → t < sections → get_or (by_section f) t 0 ≡ f t
 at-number f t l = get_or-map-range_with_len f 0 sections t t 0 l (omega arith)

@@ -19,10 +19,10 @@ use Rattle.rv_layout.specs.PlaceLaws.{part_within, ends_together, number_below}
 use Rattle.rv_store.specs.declared.ends.Ends.{Ends}
 use Rattle.rv_store.specs.declared.places.Reached.{Reached}
 use Rattle.rv_list.specs.declared.view.LinePlace.{LinePlace}
-use Rattle.rv_store.specs.Ends.{by_section, ends_of, ends_at, base_by_ends, next_offset, ends_after, next_place, place_by_shapes}
-use Rattle.rv_store.specs.Program.{for_lines}
+use Rattle.rv_store.specs.internal.Ends.{by_section, ends_of, ends_at, base_by_ends, next_offset, ends_after, next_place, place_by_shapes}
+use Rattle.rv_program.specs.Program.{for_lines}
 use Rattle.rv_store.proofs.EndBases.{at-number, base-ends}
-use Rattle.rv_store.proofs.Programs.{at-for_lines, length-for_lines}
+use Rattle.rv_program.specs.lemmas.Programs.{at-for_lines, length-for_lines}
 
 -- Limits
 

@@ -9,14 +9,14 @@ use Rattle.rv_layout.specs.Places.{sum_below, section_base_of, is_base, IsLimite
 use Rattle.rv_layout.specs.Sections.{sections, section_number}
 use Rattle.rv_store.specs.declared.ending.Ending.{Ending}
 use Rattle.rv_store.specs.declared.ends.Ends.{Ends}
-use Rattle.rv_store.specs.Appended.{adds, IsApart, shape_at_end, IsEnding}
-use Rattle.rv_store.specs.Ends.{ends_of, ends_after, end_in, base_by_ends, next_offset, next_place, place_by_shapes}
-use Rattle.rv_store.specs.Layout.{shape_at, shapes_of}
-use Rattle.rv_store.specs.Program.{program_of}
-use Rattle.rv_store.specs.Rows.{AreShapes}
+use Rattle.rv_store.specs.internal.Appended.{adds, IsApart, shape_at_end, IsEnding}
+use Rattle.rv_store.specs.internal.Ends.{ends_of, ends_after, end_in, base_by_ends, next_offset, next_place, place_by_shapes}
+use Rattle.rv_program.specs.Layout.{shape_at, shapes_of}
+use Rattle.rv_program.specs.Program.{program_of}
+use Rattle.rv_program.specs.internal.Rows.{AreShapes}
 use Rattle.rv_store.proofs.EndBases.{ends-together, base-ends}
 use Rattle.rv_store.proofs.LongerPrograms.{shapes-more}
-use Rattle.rv_store.proofs.Programs.{length-for_lines, length-program}
+use Rattle.rv_program.specs.lemmas.Programs.{length-for_lines, length-program}
 use Rattle.rv_store.proofs.ShapeRows.{limited-push}
 use Rattle.rv_store.proofs.EndLaws.{PlaceFits, take-AreLimited, ends_of-push, bases-AreBases, next-short, next_place-is, next_place-fits}
 

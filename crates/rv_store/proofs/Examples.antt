@@ -1,7 +1,7 @@
 -- Worked examples of the definitions, computed. The words are those of the assembler of LLVM 14.0.6.
 use Rattle.std.specs.Prelude.{◌≡◌, [], ◌∷◌, None, Some, codes, refl, replicate}
-use Rattle.rv_store.specs.declared.edit_error.EditError.TheVariants.{Place, Line, TooMany}
-use Rattle.rv_store.specs.Text.{Insert, Delete, refusal_of, lines_after}
+use Rattle.rv_program.specs.declared.edit_error.EditError.TheVariants.{Place, Line, TooMany}
+use Rattle.rv_program.specs.Text.{Insert, Delete, refusal_of, lines_after}
 
 -- why edits are refused
 insert_nowhere : refusal_of [] (Insert 0 []) ≡ Some Place

@@ -3,14 +3,14 @@ use Rattle.std.proofs.Common.{◌≡◌, ℕ, ◌+◌, ◌-◌, ◌<◌, ◌≤�
 use Rattle.std.proofs.lemmas.List.{get_or-map, get_or-set_other, length-map, map-set}
 use Rattle.std.proofs.lemmas.List.Edits.{get_or-insert_below, get_or-insert_above, get_or-remove_below, get_or-remove_above}
 use Rattle.std.proofs.lemmas.Option.{get_or_from_slice_get, slice_get_within}
-use Rattle.rv_store.specs.declared.item.Item.{Item}
-use Rattle.rv_store.specs.Edits.{line_before_edit}
-use Rattle.rv_store.specs.Former.{AreFormer}
-use Rattle.rv_store.specs.Items.{IsItem, AreItems}
-use Rattle.rv_store.specs.Text.{Edit, Insert, Delete, Replace, refusal_of, lines_after}
-use Rattle.rv_store.proofs.EarlierLines.{stood, insert_within, delete_within, replace_within, insert_before, delete_before, replace_before}
-use Rattle.rv_store.proofs.Items.{item_of_line}
-use Rattle.rv_store.proofs.Lists.{map_insert, map_remove}
+use Rattle.rv_program.specs.declared.item.Item.{Item}
+use Rattle.rv_program.specs.Edits.{line_before_edit}
+use Rattle.rv_program.specs.internal.Former.{AreFormer}
+use Rattle.rv_program.specs.internal.Items.{IsItem, AreItems}
+use Rattle.rv_program.specs.Text.{Edit, Insert, Delete, Replace, refusal_of, lines_after}
+use Rattle.rv_program.specs.lemmas.EarlierLines.{stood, insert_within, delete_within, replace_within, insert_before, delete_before, replace_before}
+use Rattle.rv_program.specs.lemmas.ItemLaws.{item_of_line}
+use Rattle.rv_program.specs.lemmas.Lists.{map_insert, map_remove}
 
 -- Where an element stood before an edit of its list
 

@@ -12,24 +12,24 @@ use Rattle.rv_stmt.specs.declared.statement.Body.TheVariants.{Equ as EquBody}
 use Rattle.rv_stmt.specs.Statement.{statement_of}
 use Rattle.rv_layout.specs.declared.measured.Measured.{Measured}
 use Rattle.rv_layout.specs.declared.measured.Measured.TheVariants.{Nothing}
-use Rattle.rv_store.specs.declared.before.Before.{Before}
-use Rattle.rv_store.specs.Before.{IsBefore, lines_before, edit_on}
-use Rattle.rv_store.specs.Column.{HasPlace}
-use Rattle.rv_store.specs.Constants.{constant_through, constant_of}
-use Rattle.rv_store.specs.Edits.{line_before_edit, place_of_edit}
-use Rattle.rv_store.specs.FormerShapes.{former_shapes, shape_or, former_shape, shapes_through}
-use Rattle.rv_store.specs.Layout.{shape_at}
-use Rattle.rv_store.specs.NewShapes.{IsNewShape}
-use Rattle.rv_store.specs.Program.{Program, program_of, body_at, for_lines}
-use Rattle.rv_store.specs.Rows.{AreConstants}
-use Rattle.rv_store.specs.Text.{Edit, Insert, Delete, Replace, lines_after}
-use Rattle.rv_store.specs.Uses.{names_used, is_sized, is_equ, uses_symbols}
+use Rattle.rv_program.specs.declared.before.Before.{Before}
+use Rattle.rv_program.specs.internal.Before.{IsBefore, lines_before, edit_on}
+use Rattle.rv_store.specs.internal.Column.{HasPlace}
+use Rattle.rv_program.specs.Constants.{constant_through, constant_of}
+use Rattle.rv_program.specs.Edits.{line_before_edit, place_of_edit}
+use Rattle.rv_store.specs.internal.FormerShapes.{former_shapes, shape_or, former_shape, shapes_through}
+use Rattle.rv_program.specs.Layout.{shape_at}
+use Rattle.rv_program.specs.internal.NewShapes.{IsNewShape}
+use Rattle.rv_program.specs.Program.{Program, program_of, body_at, for_lines}
+use Rattle.rv_program.specs.internal.Rows.{AreConstants}
+use Rattle.rv_program.specs.Text.{Edit, Insert, Delete, Replace, lines_after}
+use Rattle.rv_program.specs.Uses.{names_used, is_sized, is_equ, uses_symbols}
 use Rattle.rv_store.proofs.Columns.{has_place}
-use Rattle.rv_store.proofs.ConstantRows.{constants-kept}
-use Rattle.rv_store.proofs.EarlierLines.{insert_before, delete_before, replace_before}
-use Rattle.rv_store.proofs.KeptShapes.{body-on, differs_from, shape-before, shape-stays}
-use Rattle.rv_store.proofs.NewShapes.{deleted-stood, new-place, shape-at_place}
-use Rattle.rv_store.proofs.Programs.{length-for_lines, length-program}
+use Rattle.rv_program.specs.lemmas.ConstantRows.{constants-kept}
+use Rattle.rv_program.specs.lemmas.EarlierLines.{insert_before, delete_before, replace_before}
+use Rattle.rv_program.specs.lemmas.KeptShapes.{body-on, differs_from, shape-before, shape-stays}
+use Rattle.rv_program.specs.lemmas.NewShapeLaws.{deleted-stood, new-place, shape-at_place}
+use Rattle.rv_program.specs.lemmas.Programs.{length-for_lines, length-program}
 
 -- How many there are
 

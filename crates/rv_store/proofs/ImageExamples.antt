@@ -14,7 +14,7 @@ use Rattle.rv_stmt.specs.Sections.{section_named, section_names}
 use Rattle.rv_stmt.specs.Values.{modifier_named, modifier_names}
 use Rattle.rv_list.specs.Image.{byte_row, byte_rows, section_bytes, section_row, section_names as image_names, section_name, section_text, image_text}
 use Rattle.rv_store.specs.Shown.{shown_of}
-use Rattle.rv_store.specs.Text.{Delete, lines_after}
+use Rattle.rv_program.specs.Text.{Delete, lines_after}
 
 -- the image of these lines from base 0
 abbrev image_from_0 : List (List ℕ) → List ℕ

@@ -14,29 +14,29 @@ use Rattle.rv_stmt.specs.Statement.{statement_of}
 use Rattle.rv_layout.specs.Shapes.{constants}
 use Rattle.rv_list.specs.declared.view.DefinitionPlace.{DefinitionPlace}
 use Rattle.rv_list.specs.declared.view.DefinitionPlace.TheVariants.{Nowhere, Label as ByLabel, Equ}
-use Rattle.rv_store.specs.declared.before.Before.{Before}
-use Rattle.rv_store.specs.declared.edit.LineEdit.{LineEdit}
-use Rattle.rv_store.specs.Before.{IsBefore, lines_before, edit_on}
-use Rattle.rv_store.specs.Changes.{program_after}
-use Rattle.rv_store.specs.Column.{HasPlace}
-use Rattle.rv_store.specs.Constants.{defined_value, constant_through, constant_of}
-use Rattle.rv_store.specs.Defining.{Definitions}
-use Rattle.rv_store.specs.Definitions.{defines_symbol, place_among_labels, place_in_body, or_place, place_in_statement, first_place, definition_of, is_equ_on}
-use Rattle.rv_store.specs.Edits.{edit_of, line_before_edit, place_of_edit}
-use Rattle.rv_store.specs.KeptConstants.{is_by_equ, names_equ, touches_constants, edits_constants}
-use Rattle.rv_store.specs.MovedDefinitions.{moved_place}
-use Rattle.rv_store.specs.Program.{Program, program_of, no_statement, statement_at, body_at}
-use Rattle.rv_store.specs.Rows.{in_row, AreDefinitions}
-use Rattle.rv_store.specs.Text.{Edit, Insert, Delete, Replace, refusal_of, lines_after}
-use Rattle.rv_store.specs.Uses.{is_equ}
+use Rattle.rv_program.specs.declared.before.Before.{Before}
+use Rattle.rv_program.specs.declared.edit.LineEdit.{LineEdit}
+use Rattle.rv_program.specs.internal.Before.{IsBefore, lines_before, edit_on}
+use Rattle.rv_program.specs.Changes.{program_after}
+use Rattle.rv_store.specs.internal.Column.{HasPlace}
+use Rattle.rv_program.specs.Constants.{defined_value, constant_through, constant_of}
+use Rattle.rv_program.specs.internal.Defining.{Definitions}
+use Rattle.rv_program.specs.Definitions.{defines_symbol, place_among_labels, place_in_body, or_place, place_in_statement, first_place, definition_of, is_equ_on}
+use Rattle.rv_program.specs.Edits.{edit_of, line_before_edit, place_of_edit}
+use Rattle.rv_store.specs.internal.KeptConstants.{is_by_equ, names_equ, touches_constants, edits_constants}
+use Rattle.rv_program.specs.internal.MovedDefinitions.{moved_place}
+use Rattle.rv_program.specs.Program.{Program, program_of, no_statement, statement_at, body_at}
+use Rattle.rv_program.specs.internal.Rows.{in_row, AreDefinitions}
+use Rattle.rv_program.specs.Text.{Edit, Insert, Delete, Replace, refusal_of, lines_after}
+use Rattle.rv_program.specs.Uses.{is_equ}
 use Rattle.rv_store.proofs.AlikeLaws.{same_number}
 use Rattle.rv_store.proofs.Columns.{has_place}
-use Rattle.rv_store.proofs.ConstantRows.{constants-kept}
-use Rattle.rv_store.proofs.DefinitionLaws.{IsWithin, definition-within}
-use Rattle.rv_store.proofs.DefinitionRows.{nowhere}
-use Rattle.rv_store.proofs.EarlierLines.{insert_within, delete_within, replace_within, insert_before, delete_before, replace_before}
-use Rattle.rv_store.proofs.MovedDefinitions.{first-moved, first-append}
-use Rattle.rv_store.proofs.Programs.{length-program}
+use Rattle.rv_program.specs.lemmas.ConstantRows.{constants-kept}
+use Rattle.rv_program.specs.lemmas.DefinitionLaws.{IsWithin, definition-within}
+use Rattle.rv_program.specs.lemmas.DefinitionRows.{nowhere}
+use Rattle.rv_program.specs.lemmas.EarlierLines.{insert_within, delete_within, replace_within, insert_before, delete_before, replace_before}
+use Rattle.rv_program.specs.lemmas.MovedDefinitionLaws.{first-moved, first-append}
+use Rattle.rv_program.specs.lemmas.Programs.{length-program}
 
 -- Names that a line does not define, and names of no `.equ`
 

@@ -4,23 +4,23 @@ use Rattle.std.proofs.lemmas.List.{same_lists}
 use Rattle.rv_layout.specs.declared.measured.Measured.{Measured}
 use Rattle.rv_layout.specs.Places.{IsLimited, AreLimited}
 use Rattle.rv_layout.specs.Shapes.{shape_of}
-use Rattle.rv_store.specs.declared.before.Before.{Before}
-use Rattle.rv_store.specs.Before.{IsBefore, lines_before, edit_on}
-use Rattle.rv_store.specs.Constants.{constant_through, constant_of}
-use Rattle.rv_store.specs.Edits.{line_before_edit}
-use Rattle.rv_store.specs.FormerShapes.{former_shapes}
-use Rattle.rv_store.specs.KeptConstants.{edits_constants}
-use Rattle.rv_store.specs.Layout.{shape_at}
-use Rattle.rv_store.specs.NewShapes.{IsNewShape}
-use Rattle.rv_store.specs.Program.{Program, program_of, body_at, for_lines}
-use Rattle.rv_store.specs.Rows.{AreConstants}
-use Rattle.rv_store.specs.Text.{Edit, Insert, Delete, Replace, lines_after}
+use Rattle.rv_program.specs.declared.before.Before.{Before}
+use Rattle.rv_program.specs.internal.Before.{IsBefore, lines_before, edit_on}
+use Rattle.rv_program.specs.Constants.{constant_through, constant_of}
+use Rattle.rv_program.specs.Edits.{line_before_edit}
+use Rattle.rv_store.specs.internal.FormerShapes.{former_shapes}
+use Rattle.rv_store.specs.internal.KeptConstants.{edits_constants}
+use Rattle.rv_program.specs.Layout.{shape_at}
+use Rattle.rv_program.specs.internal.NewShapes.{IsNewShape}
+use Rattle.rv_program.specs.Program.{Program, program_of, body_at, for_lines}
+use Rattle.rv_program.specs.internal.Rows.{AreConstants}
+use Rattle.rv_program.specs.Text.{Edit, Insert, Delete, Replace, lines_after}
 use Rattle.rv_store.proofs.AlikeTexts.{limited-set}
-use Rattle.rv_store.proofs.EarlierLines.{Stood, stood, statement-stood}
+use Rattle.rv_program.specs.lemmas.EarlierLines.{Stood, stood, statement-stood}
 use Rattle.rv_store.proofs.EndLaws.{take-AreLimited}
 use Rattle.rv_store.proofs.FormerShapes.{former, former-length, former-stood, former-here}
 use Rattle.rv_store.proofs.KeptConstants.{constants-at_end, constants-stood}
-use Rattle.rv_store.proofs.Programs.{length-for_lines, at-for_lines, length-program}
+use Rattle.rv_program.specs.lemmas.Programs.{length-for_lines, at-for_lines, length-program}
 
 -- Limits
 

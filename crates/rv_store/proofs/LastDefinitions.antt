@@ -17,27 +17,27 @@ use Rattle.rv_fix.specs.Values.{Entry}
 use Rattle.rv_list.specs.declared.view.DefinitionPlace.{DefinitionPlace}
 use Rattle.rv_list.specs.declared.view.DefinitionPlace.TheVariants.{Nowhere, Label as ByLabel, Equ}
 use Rattle.rv_store.specs.declared.survey.Survey.{Survey}
-use Rattle.rv_store.specs.Appended.{adds, IsLast, AreSymbols, is_equ_behind, AreInPart, AreDefinitionsInPart}
-use Rattle.rv_store.specs.Constants.{constant_through}
-use Rattle.rv_store.specs.Defining.{Definitions, or_here, also_on, IsOn, Holds, HoldsPart}
-use Rattle.rv_store.specs.Definitions.{defines_symbol, place_among_labels, place_in_body, or_place, place_in_statement, first_place, definition_of, is_defined, is_equ_on}
-use Rattle.rv_store.specs.MovedDefinitions.{line_after_edit, place_after, found_after, kept_after}
-use Rattle.rv_store.specs.Program.{Program, program_of}
-use Rattle.rv_store.specs.References.{equ_value}
-use Rattle.rv_store.specs.Rows.{number_of, in_row, Grows, AreDefinitions, AreConstants, AreEquValues}
-use Rattle.rv_store.specs.Text.{Delete}
-use Rattle.rv_store.specs.Uses.{is_equ}
+use Rattle.rv_store.specs.internal.Appended.{adds, IsLast, AreSymbols, is_equ_behind, AreInPart, AreDefinitionsInPart}
+use Rattle.rv_program.specs.Constants.{constant_through}
+use Rattle.rv_program.specs.internal.Defining.{Definitions, or_here, also_on, IsOn, Holds, HoldsPart}
+use Rattle.rv_program.specs.Definitions.{defines_symbol, place_among_labels, place_in_body, or_place, place_in_statement, first_place, definition_of, is_defined, is_equ_on}
+use Rattle.rv_program.specs.internal.MovedDefinitions.{line_after_edit, place_after, found_after, kept_after}
+use Rattle.rv_program.specs.Program.{Program, program_of}
+use Rattle.rv_program.specs.References.{equ_value}
+use Rattle.rv_program.specs.internal.Rows.{number_of, in_row, Grows, AreDefinitions, AreConstants, AreEquValues}
+use Rattle.rv_program.specs.Text.{Delete}
+use Rattle.rv_program.specs.Uses.{is_equ}
 use Rattle.rv_store.proofs.AppendLaws.{no_equ_after, definition-same}
-use Rattle.rv_store.proofs.ConstantLaws.{constant-none}
-use Rattle.rv_store.proofs.ConstantRows.{constant-kept}
-use Rattle.rv_store.proofs.DefinitionLaws.{IsWithin, statement-within, definition-within}
-use Rattle.rv_store.proofs.DefinitionParts.{within-on}
-use Rattle.rv_store.proofs.DefinitionRows.{or_place-nowhere, here-kept, within-up, nowhere}
-use Rattle.rv_store.proofs.EquLaws.{equ_value-kept}
+use Rattle.rv_program.specs.lemmas.ConstantLaws.{constant-none}
+use Rattle.rv_program.specs.lemmas.ConstantRows.{constant-kept}
+use Rattle.rv_program.specs.lemmas.DefinitionLaws.{IsWithin, statement-within, definition-within}
+use Rattle.rv_program.specs.lemmas.DefinitionParts.{within-on}
+use Rattle.rv_program.specs.lemmas.DefinitionRows.{or_place-nowhere, here-kept, within-up, nowhere}
+use Rattle.rv_program.specs.lemmas.EquLaws.{equ_value-kept}
 use Rattle.rv_store.proofs.LongerPrograms.{constants-same}
 use Rattle.rv_store.proofs.LongerTexts.{count-longer, program-longer, definitions-longer}
-use Rattle.rv_store.proofs.NameRows.{grows-length, row-grown, row-set, row-at}
-use Rattle.rv_store.proofs.Programs.{length-program}
+use Rattle.rv_program.specs.lemmas.NameRows.{grows-length, row-grown, row-set, row-at}
+use Rattle.rv_program.specs.lemmas.Programs.{length-program}
 
 -- A symbol that a text does not define
 

@@ -5,14 +5,14 @@ use Rattle.std.proofs.Math.Seq.{get_or-append_seam}
 use Rattle.std.proofs.Math.Path.{fun_ext}
 use Rattle.rv_stmt.specs.declared.statement.Stmt.{Stmt}
 use Rattle.rv_layout.specs.Shapes.{shape_of}
-use Rattle.rv_store.specs.Appended.{shape_at_end}
-use Rattle.rv_store.specs.Constants.{constant_through}
-use Rattle.rv_store.specs.Defining.{then_also}
-use Rattle.rv_store.specs.Definitions.{or_place, place_in_statement, first_place, definition_of, is_equ_on}
-use Rattle.rv_store.specs.Layout.{shape_at, shapes_of}
-use Rattle.rv_store.specs.Program.{Program, no_statement, statement_at, body_at, for_lines}
-use Rattle.rv_store.proofs.DefinitionRows.{or_place-nowhere, or_place-assoc}
-use Rattle.rv_store.proofs.EarlierConstants as earlier
+use Rattle.rv_store.specs.internal.Appended.{shape_at_end}
+use Rattle.rv_program.specs.Constants.{constant_through}
+use Rattle.rv_program.specs.internal.Defining.{then_also}
+use Rattle.rv_program.specs.Definitions.{or_place, place_in_statement, first_place, definition_of, is_equ_on}
+use Rattle.rv_program.specs.Layout.{shape_at, shapes_of}
+use Rattle.rv_program.specs.Program.{Program, no_statement, statement_at, body_at, for_lines}
+use Rattle.rv_program.specs.lemmas.DefinitionRows.{or_place-nowhere, or_place-assoc}
+use Rattle.rv_program.specs.lemmas.EarlierConstants as earlier
 
 pub for_lines-same : {A : Type 0} (f g : ℕ → A) (n : ℕ) → ((i : ℕ) → 1 ≤ i → i ≤ n → f i ≡ g i) → for_lines f n ≡ for_lines g n
 for_lines-same f g zero same = refl

@@ -2,11 +2,11 @@
 use Rattle.std.proofs.Common.{◌≡◌, ℕ, suc, ◌+◌, List, [], ◌∷◌, ◌++◌, length, arith, ap, sym, ◌∙◌}
 use Rattle.std.proofs.lemmas.List.{map-append, length-append}
 use Rattle.rv_stmt.specs.Statement.{statement_of}
-use Rattle.rv_store.specs.Defining.{then_also}
-use Rattle.rv_store.specs.Definitions.{place_in_statement, definition_of}
-use Rattle.rv_store.specs.Program.{program_of}
+use Rattle.rv_program.specs.internal.Defining.{then_also}
+use Rattle.rv_program.specs.Definitions.{place_in_statement, definition_of}
+use Rattle.rv_program.specs.Program.{program_of}
 use Rattle.rv_store.proofs.LongerPrograms.{more, definitions-more}
-use Rattle.rv_store.proofs.Programs.{length-program}
+use Rattle.rv_program.specs.lemmas.Programs.{length-program}
 
 pub count-longer : (lines : List (List ℕ)) (line : List ℕ) → length (lines ++ line ∷ []) ≡ suc (length lines)
 count-longer lines line = length-append lines (line ∷ []) ∙ (let e : length lines + 1 ≡ suc (length lines) = omega arith in e)

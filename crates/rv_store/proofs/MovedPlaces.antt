@@ -13,7 +13,7 @@ use Rattle.rv_layout.specs.PlaceLaws.{number_below, part_within}
 use Rattle.rv_layout.specs.Places.{size_at, section_after, offset_after, section_through, offset_through, IsLimited, AreLimited}
 use Rattle.rv_layout.specs.Sections.{sections, section_number}
 use Rattle.rv_list.specs.declared.view.LinePlace.{LinePlace}
-use Rattle.rv_store.specs.MovedPlaces.{is_switch, have_switch, offsets_after, offsets_through, place_in, places_from, offset_in, ArePlaced, no_displacement, regrown, moved_address, moved_size, displaced_place, by_behind, by_through, moved, by_moved}
+use Rattle.rv_store.specs.internal.MovedPlaces.{is_switch, have_switch, offsets_after, offsets_through, place_in, places_from, offset_in, ArePlaced, no_displacement, regrown, moved_address, moved_size, displaced_place, by_behind, by_through, moved, by_moved}
 use Rattle.rv_store.proofs.EndLaws.{size_at-small, offset_after-size}
 
 -- Numbers

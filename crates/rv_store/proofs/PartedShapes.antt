@@ -4,9 +4,9 @@ use Rattle.std.specs.Prelude.{remove}
 use Rattle.std.proofs.lemmas.List.{drop-drop, drop-set-lt, length-take-le}
 use Rattle.std.proofs.Math.Seq.{drop-append_seam}
 use Rattle.rv_layout.specs.declared.measured.Measured.{Measured}
-use Rattle.rv_store.specs.Sameness.{same_shape}
+use Rattle.rv_program.specs.Sameness.{same_shape}
 use Rattle.rv_store.proofs.MovedPlaces.{drop-next}
-use Rattle.rv_store.proofs.Sameness.{same_shape-Decides}
+use Rattle.rv_program.specs.lemmas.SamenessLaws.{same_shape-Decides}
 
 is_true : (b : Bool) → not b ≡ false → b ≡ true
 is_true true e = refl

@@ -4,10 +4,10 @@ use Rattle.std.specs.Iterator.{YieldsFirstRef}
 use Rattle.std.specs.Option.{option_map}
 use Rattle.std.proofs.lemmas.List.{drop_more, length-drop, length-map}
 use Rattle.std.proofs.lemmas.Option.{slice_get_cases, slice_get-get_or, get_or_from_slice_get, none-some}
-use Rattle.rv_store.specs.declared.item.Item.{Item}
-use Rattle.rv_store.specs.Items.{IsItem}
-use Rattle.rv_store.specs.Passed.{ArePassed}
-use Rattle.rv_store.proofs.Items.{item_of_line}
+use Rattle.rv_program.specs.declared.item.Item.{Item}
+use Rattle.rv_program.specs.internal.Items.{IsItem}
+use Rattle.rv_store.specs.internal.Passed.{ArePassed}
+use Rattle.rv_program.specs.lemmas.ItemLaws.{item_of_line}
 
 module _ (base : ℕ) (lines : List (List ℕ)) (count : ℕ) (last : Option Item) (left : List Item) (are : ArePassed base lines count last left) where
   as_many : length are.items ≡ length lines

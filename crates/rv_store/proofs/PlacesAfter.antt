@@ -16,9 +16,9 @@ use Rattle.rv_layout.specs.Sections.{sections, section_number}
 use Rattle.rv_list.specs.declared.view.LinePlace.{LinePlace}
 use Rattle.rv_store.specs.declared.ends.Ends.{Ends}
 use Rattle.rv_store.specs.declared.places_after.Spot.{Spot}
-use Rattle.rv_store.specs.Ends.{by_section, ends_of, end_in, base_by_ends, place_by_shapes}
-use Rattle.rv_store.specs.MovedPlaces.{have_switch, offsets_after, offsets_through, place_in, places_from, first_spot, ArePlaced, no_displacement, moved, by_moved, ends_moved}
-use Rattle.rv_store.specs.Program.{for_lines}
+use Rattle.rv_store.specs.internal.Ends.{by_section, ends_of, end_in, base_by_ends, place_by_shapes}
+use Rattle.rv_store.specs.internal.MovedPlaces.{have_switch, offsets_after, offsets_through, place_in, places_from, first_spot, ArePlaced, no_displacement, moved, by_moved, ends_moved}
+use Rattle.rv_program.specs.Program.{for_lines}
 use Rattle.rv_store.proofs.EndBases.{end-is, base-ends}
 use Rattle.rv_store.proofs.EndLaws.{AreBases, at-section, same-by_section}
 use Rattle.rv_store.proofs.LongerPrograms.{for_lines-same}

@@ -15,8 +15,8 @@ use Rattle.rv_stmt.specs.Statement.{name_of}
 use Rattle.rv_layout.specs.Sections.{section_number}
 use Rattle.rv_list.specs.Faults.{fault_at_name, label_faults, equ_faults, body_faults, is_instruction, is_at_odd_address, is_lost_in_bss, faults_of}
 use Rattle.rv_list.specs.Shown.{Shown, ShownLine, shows_bytes}
-use Rattle.rv_store.specs.Passed.{is_bss, may_be_misplaced}
-use Rattle.rv_store.specs.Uses.{is_equ}
+use Rattle.rv_store.specs.internal.Passed.{is_bss, may_be_misplaced}
+use Rattle.rv_program.specs.Uses.{is_equ}
 
 none-at_name : (number : FaultNumber) (name : Option Span) → fault_at_name false number name ≡ []
 none-at_name number None = refl

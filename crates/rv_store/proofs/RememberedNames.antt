@@ -10,13 +10,13 @@ use Rattle.rv_list.specs.declared.view.DefinitionPlace.{DefinitionPlace}
 use Rattle.rv_list.specs.declared.view.DefinitionPlace.TheVariants.{Nowhere}
 use Rattle.rv_store.specs.declared.forgetting.Remembered.{Remembered}
 use Rattle.rv_store.specs.declared.survey.Survey.{Survey}
-use Rattle.rv_store.specs.Definitions.{definition_of, is_defined}
-use Rattle.rv_store.specs.Forgetting.{AreRemembered}
-use Rattle.rv_store.specs.Program.{Program}
-use Rattle.rv_store.specs.Rows.{number_of, entry_at, in_row, AreDefinitions, AreConstants, AreEquValues}
-use Rattle.rv_store.proofs.DefinitionLaws.{undefined}
+use Rattle.rv_program.specs.Definitions.{definition_of, is_defined}
+use Rattle.rv_store.specs.internal.Forgetting.{AreRemembered}
+use Rattle.rv_program.specs.Program.{Program}
+use Rattle.rv_program.specs.internal.Rows.{number_of, entry_at, in_row, AreDefinitions, AreConstants, AreEquValues}
+use Rattle.rv_program.specs.lemmas.DefinitionLaws.{undefined}
 use Rattle.rv_store.proofs.LastDefinitions.{no-constant, no-equ_value}
-use Rattle.rv_store.proofs.NameRows.{position-cons, number-below, name-at}
+use Rattle.rv_program.specs.lemmas.NameRows.{position-cons, number-below, name-at}
 
 -- One name more
 

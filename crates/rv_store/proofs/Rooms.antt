@@ -7,9 +7,9 @@ use Rattle.rv_layout.specs.declared.measured.Measured.{Measured}
 use Rattle.rv_layout.specs.declared.measured.Measured.TheVariants.{Bytes, Align, Switch, Nothing, Faulty}
 use Rattle.rv_layout.specs.Places.{section_after, offset_after, section_through, offset_through, section_of, offset_of, section_end_of, base_from, size_at, line_size_of, address_of}
 use Rattle.rv_layout.specs.Sections.{section_number}
-use Rattle.rv_store.specs.Alike.{room_of}
-use Rattle.rv_store.specs.Ends.{by_section, ends_of}
-use Rattle.rv_store.specs.Program.{for_lines}
+use Rattle.rv_store.specs.internal.Alike.{room_of}
+use Rattle.rv_store.specs.internal.Ends.{by_section, ends_of}
+use Rattle.rv_program.specs.Program.{for_lines}
 
 pub map-for_lines : {A B : Type 0} (f : A → B) (g : ℕ → A) (n : ℕ) → map f (for_lines g n) ≡ for_lines (λ i. f (g i)) n
 map-for_lines f g zero = refl

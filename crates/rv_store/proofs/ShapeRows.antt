@@ -5,10 +5,10 @@ use Rattle.rv_stmt.specs.Statement.{statement_of, data_size_of}
 use Rattle.rv_layout.specs.declared.measured.Measured.{Measured}
 use Rattle.rv_layout.specs.Places.{IsLimited, AreLimited}
 use Rattle.rv_layout.specs.Shapes.{shape_of}
-use Rattle.rv_store.specs.Layout.{shape_at}
-use Rattle.rv_store.specs.Program.{Program, program_of, for_lines}
-use Rattle.rv_store.specs.Rows.{in_row, AreConstants}
-use Rattle.rv_store.proofs.KeptShapes.{shape-on}
+use Rattle.rv_program.specs.Layout.{shape_at}
+use Rattle.rv_program.specs.Program.{Program, program_of, for_lines}
+use Rattle.rv_program.specs.internal.Rows.{in_row, AreConstants}
+use Rattle.rv_program.specs.lemmas.KeptShapes.{shape-on}
 
 -- one shape more
 pub shapes-push : (program : Program) (i : ℕ) (done : List Measured) (m : Measured) → done ≡ for_lines (shape_at program) i → m ≡ shape_at program (i + 1) → done ++ m ∷ [] ≡ for_lines (shape_at program) (i + 1)

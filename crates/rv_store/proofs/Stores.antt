@@ -7,12 +7,12 @@ use Rattle.std.proofs.lemmas.Bool.Decides.{nat_tests}
 use Rattle.std.proofs.lemmas.Grind.{common_steps}
 use Rattle.std.proofs.lemmas.Option.{slice_get-get_or, slice_get_past, slice_get-map}
 use Rattle.rv_store.specs.declared.survey.Survey.{Survey}
-use Rattle.rv_store.specs.Program.{Program, for_lines}
-use Rattle.rv_store.specs.Rows.{Grows}
-use Rattle.rv_store.specs.Surveys.{IsSurvey}
-use Rattle.rv_store.specs.Text.{at_line}
-use Rattle.rv_store.proofs.NameRows.{row-grown, grows-length}
-use Rattle.rv_store.proofs.Programs.{length-for_lines, at-for_lines}
+use Rattle.rv_program.specs.Program.{Program, for_lines}
+use Rattle.rv_program.specs.internal.Rows.{Grows}
+use Rattle.rv_store.specs.internal.Surveys.{IsSurvey}
+use Rattle.rv_program.specs.Text.{at_line}
+use Rattle.rv_program.specs.lemmas.NameRows.{row-grown, grows-length}
+use Rattle.rv_program.specs.lemmas.Programs.{length-for_lines, at-for_lines}
 
 pub past_zero : (j : ℕ) → (suc j == 0) ≡ false
 past_zero j = ne_eqb (suc j) 0 (λ same. omega (arith, same))

@@ -3,10 +3,10 @@ use Rattle.std.proofs.Common.{◌≡◌, ℕ, List, length, ap, sym, ◌∙◌}
 use Rattle.rv_layout.specs.declared.measured.Measured.{Measured}
 use Rattle.rv_layout.specs.Places.{section_of, address_of, line_size_of}
 use Rattle.rv_list.specs.declared.view.LinePlace.{LinePlace}
-use Rattle.rv_store.specs.Layout.{shape_at, place_at}
-use Rattle.rv_store.specs.Program.{Program, program_of, for_lines}
-use Rattle.rv_store.specs.Rows.{AreShapes, ArePlaces}
-use Rattle.rv_store.proofs.Programs.{length-for_lines, length-program}
+use Rattle.rv_program.specs.Layout.{shape_at, place_at}
+use Rattle.rv_program.specs.Program.{Program, program_of, for_lines}
+use Rattle.rv_program.specs.internal.Rows.{AreShapes, ArePlaces}
+use Rattle.rv_program.specs.lemmas.Programs.{length-for_lines, length-program}
 
 -- where line i lies in a text whose lines have these shapes
 abbrev place_by : ℕ → List Measured → ℕ → LinePlace

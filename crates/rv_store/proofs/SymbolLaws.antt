@@ -9,17 +9,17 @@ use Rattle.rv_fix.specs.Values.{Entry}
 use Rattle.rv_list.specs.declared.view.DefinitionPlace.TheVariants.{Nowhere, Label as ByLabel, Equ as ByEqu}
 use Rattle.rv_list.specs.declared.view.LinePlace.{LinePlace}
 use Rattle.rv_store.specs.declared.symbols.SymValue.TheVariants.{Label, Equ}
-use Rattle.rv_store.specs.Constants.{defined_value}
-use Rattle.rv_store.specs.Definitions.{definition_of, is_equ_on}
-use Rattle.rv_store.specs.Program.{Program, body_at}
-use Rattle.rv_store.specs.References.{references_at}
-use Rattle.rv_store.specs.Rows.{in_row, AreEquValues, ArePlaces}
+use Rattle.rv_program.specs.Constants.{defined_value}
+use Rattle.rv_program.specs.Definitions.{definition_of, is_equ_on}
+use Rattle.rv_program.specs.Program.{Program, body_at}
+use Rattle.rv_program.specs.References.{references_at}
+use Rattle.rv_program.specs.internal.Rows.{in_row, AreEquValues, ArePlaces}
 use Rattle.rv_store.specs.Symbols.{symbol_by, symbol_of, equ_value_by, equ_value_of}
-use Rattle.rv_store.specs.TextRows.{address_in}
-use Rattle.rv_store.proofs.ConstantRows.{IsEquOf, is_equ_of, equ-defines}
-use Rattle.rv_store.proofs.DefinitionLaws.{IsWithin, definition-within}
-use Rattle.rv_store.proofs.EquLaws.{equ_value-in_row}
-use Rattle.rv_store.proofs.LineNameLaws.{address_in-is}
+use Rattle.rv_program.specs.internal.TextRows.{address_in}
+use Rattle.rv_program.specs.lemmas.ConstantRows.{IsEquOf, is_equ_of, equ-defines}
+use Rattle.rv_program.specs.lemmas.DefinitionLaws.{IsWithin, definition-within}
+use Rattle.rv_program.specs.lemmas.EquLaws.{equ_value-in_row}
+use Rattle.rv_program.specs.lemmas.LineNameLaws.{address_in-is}
 
 pub symbol-nowhere : (base : ℕ) (program : Program) (name : List ℕ) → definition_of program name ≡ Nowhere → None ≡ symbol_of base program name
 symbol-nowhere base program name h = sym (ap (symbol_by base program) h)

@@ -20,9 +20,9 @@ use Rattle.rv_fix.specs.declared.coded.Coded.{Coded}
 use Rattle.rv_fix.specs.Code.{code}
 use Rattle.rv_store.specs.declared.symbols.SymValue.{SymValue}
 use Rattle.rv_store.specs.declared.symbols.SymValue.TheVariants.{Label, Equ}
-use Rattle.rv_store.specs.Codes.{code_at}
-use Rattle.rv_store.specs.Layout.{section_at}
-use Rattle.rv_store.specs.Program.{program_of, for_lines}
+use Rattle.rv_program.specs.Codes.{code_at}
+use Rattle.rv_program.specs.Layout.{section_at}
+use Rattle.rv_program.specs.Program.{program_of, for_lines}
 use Rattle.rv_store.specs.Symbols.{symbol_of}
 
 abbrev pub wrong : List ℕ → FaultNumber → ℕ → ℕ → Coded

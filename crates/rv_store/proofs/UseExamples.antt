@@ -10,7 +10,7 @@ use Rattle.rv_stmt.specs.Registers.{set_named, set_names}
 use Rattle.rv_stmt.specs.Sections.{section_named, section_names}
 use Rattle.rv_stmt.specs.Statement.{statement_of}
 use Rattle.rv_stmt.specs.Values.{modifier_named, modifier_names}
-use Rattle.rv_store.specs.Uses.{names_used, uses_address, uses_local_label, uses_paired_high, is_equ}
+use Rattle.rv_program.specs.Uses.{names_used, uses_address, uses_local_label, uses_paired_high, is_equ}
 
 -- what a line uses
 record Uses : Type 0 where

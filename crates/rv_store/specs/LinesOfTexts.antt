@@ -1,9 +1,9 @@
 -- A line of a text, and what names give in its expressions.
 use Rattle.std.specs.Prelude.{ℕ, pos, Ok}
 use Rattle.rv_expr.specs.Value.{Environment}
-use Rattle.rv_store.specs.Pairs.{names_at}
-use Rattle.rv_store.specs.Program.{program_of}
-use Rattle.rv_store.specs.Text.{Text}
+use Rattle.rv_program.specs.Pairs.{names_at}
+use Rattle.rv_program.specs.Program.{program_of}
+use Rattle.rv_program.specs.Text.{Text}
 
 pub record LineOfText : Type 0 where
   pub text : Text

@@ -2,12 +2,12 @@
 use Rattle.std.specs.Prelude.{ℕ, ◌-◌, [], length, get_or}
 use Rattle.rv_list.specs.declared.view.SectionPlace.{SectionPlace}
 use Rattle.rv_list.specs.Shown.{Shown, ShownLine}
-use Rattle.rv_store.specs.Codes.{code_at}
-use Rattle.rv_store.specs.Definitions.{definition_of}
-use Rattle.rv_store.specs.Layout.{place_at, section_base_at, section_end_at}
-use Rattle.rv_store.specs.Program.{Program, program_of, statement_at}
+use Rattle.rv_program.specs.Codes.{code_at}
+use Rattle.rv_program.specs.Definitions.{definition_of}
+use Rattle.rv_program.specs.Layout.{place_at, section_base_at, section_end_at}
+use Rattle.rv_program.specs.Program.{Program, program_of, statement_at}
 use Rattle.rv_store.specs.Symbols.{equ_value_of}
-use Rattle.rv_store.specs.Text.{Text}
+use Rattle.rv_program.specs.Text.{Text}
 
 abbrev pub shown_line_at : Text → (i : ℕ) → ShownLine
 shown_line_at text i = record {

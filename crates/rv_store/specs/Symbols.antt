@@ -5,11 +5,11 @@ use Rattle.rv_list.specs.declared.view.DefinitionPlace.{DefinitionPlace}
 use Rattle.rv_list.specs.declared.view.DefinitionPlace.TheVariants.{Nowhere, Label as ByLabel, Equ as ByEqu}
 use Rattle.rv_store.specs.declared.symbols.SymValue.{SymValue}
 use Rattle.rv_store.specs.declared.symbols.SymValue.TheVariants.{Label, Equ}
-use Rattle.rv_store.specs.Constants.{defined_value}
-use Rattle.rv_store.specs.Definitions.{definition_of}
-use Rattle.rv_store.specs.Layout.{address_at}
-use Rattle.rv_store.specs.Program.{Program, body_at}
-use Rattle.rv_store.specs.References.{references_at}
+use Rattle.rv_program.specs.Constants.{defined_value}
+use Rattle.rv_program.specs.Definitions.{definition_of}
+use Rattle.rv_program.specs.Layout.{address_at}
+use Rattle.rv_program.specs.Program.{Program, body_at}
+use Rattle.rv_program.specs.References.{references_at}
 
 -- the value of an `.equ` by its line, if it is not faulty
 abbrev pub equ_value_at : (base : ℕ) → Program → (line : ℕ) → Option ℤ

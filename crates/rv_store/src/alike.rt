@@ -4,13 +4,13 @@ ghost use Rattle.std.specs.Prelude.{◌≡◌, ℕ, IsTrue};
 ghost use Rattle.rv_stmt.specs.LentLabels.{name_lent};
 ghost use Rattle.rv_stmt.specs.Statement.{statement_of};
 ghost use Rattle.rv_layout.specs.Shapes.{shape_of};
-ghost use Rattle.rv_store.specs.Alike.{same_name, same_labels, room_of, DefinesSame, IsAlike};
-ghost use Rattle.rv_store.specs.Constants.{constant_of};
-ghost use Rattle.rv_store.specs.Layout.{shape_at};
-ghost use Rattle.rv_store.specs.Program.{Program, statement_at};
+ghost use Rattle.rv_store.specs.internal.Alike.{same_name, same_labels, room_of, DefinesSame, IsAlike};
+ghost use Rattle.rv_program.specs.Constants.{constant_of};
+ghost use Rattle.rv_program.specs.Layout.{shape_at};
+ghost use Rattle.rv_program.specs.Program.{Program, statement_at};
 
-use crate::line::Line;
 use rv_layout::Measured;
+use rv_program::Line;
 use rv_stmt::{LabelName, LabelSlice};
 
 // Whether two labels define the same.

@@ -4,23 +4,20 @@ ghost use Rattle.std.specs.Prelude.{◌≡◌, ◌≤◌, ◌+◌, ℕ, List, tr
 ghost use Rattle.std.specs.List.{list_any};
 ghost use Rattle.rv_stmt.specs.LentLabels.{name_lent};
 ghost use Rattle.rv_stmt.specs.Statement.{statement_of};
-ghost use Rattle.rv_store.specs.declared.limits.TheConstants.{MAX_LINES};
-ghost use Rattle.rv_store.specs.Appended.{adds, adds_by_rows, IsApart};
-ghost use Rattle.rv_store.specs.Apart.{added_by, AreMarked};
-ghost use Rattle.rv_store.specs.Definitions.{defines_symbol, place_in_body, is_defined};
-ghost use Rattle.rv_store.specs.NameSets.{Has};
-ghost use Rattle.rv_store.specs.Program.{program_of};
-ghost use Rattle.rv_store.specs.Rows.{AreDefinitions};
-ghost use Rattle.rv_store.specs.Uses.{names_used};
+ghost use Rattle.rv_program.specs.declared.limits.TheConstants.{MAX_LINES};
+ghost use Rattle.rv_store.specs.internal.Appended.{adds, adds_by_rows, IsApart};
+ghost use Rattle.rv_store.specs.internal.Apart.{added_by, AreMarked};
+ghost use Rattle.rv_program.specs.Definitions.{defines_symbol, place_in_body, is_defined};
+ghost use Rattle.rv_program.specs.internal.NameSets.{Has};
+ghost use Rattle.rv_program.specs.Program.{program_of};
+ghost use Rattle.rv_program.specs.internal.Rows.{AreDefinitions};
+ghost use Rattle.rv_program.specs.Uses.{names_used};
 
-use crate::definitions::{is_defined, may_define};
-use crate::first_definition::place_on;
-use crate::limits::MAX_LINES;
-use crate::line::Line;
-use crate::name_set::{Mark, NameSet, bucket_of};
-use crate::names::{NameTable, entry_of};
-use crate::uses::{NameTest, any_name};
 use rv_list::DefinitionPlace;
+use rv_program::{
+    Line, MAX_LINES, Mark, NameSet, NameTable, NameTest, any_name, bucket_of, entry_of, is_defined,
+    may_define, place_on,
+};
 use rv_stmt::{Body, LabelName, LabelSlice};
 use std::alloc::{AllocError, Global};
 

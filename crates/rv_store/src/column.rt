@@ -1,12 +1,11 @@
 //! Edits of a column of lines, in place.
 
 ghost use Rattle.std.specs.Prelude.{◌≡◌, IfOk, OnOk, OnErr, IsOk, vec_len, vec_capacity};
-ghost use Rattle.rv_store.specs.Column.{HasPlace, HasRoom};
-ghost use Rattle.rv_store.specs.Edits.{edit_of_read};
-ghost use Rattle.rv_store.specs.Text.{lines_after};
+ghost use Rattle.rv_store.specs.internal.Column.{HasPlace, HasRoom};
+ghost use Rattle.rv_program.specs.Edits.{edit_of_read};
+ghost use Rattle.rv_program.specs.Text.{lines_after};
 
-use crate::edit::ReadEdit;
-use crate::line::Line;
+use rv_program::{Line, ReadEdit};
 use std::alloc::AllocError;
 use std::mem;
 

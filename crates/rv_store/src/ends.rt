@@ -2,8 +2,8 @@
 
 ghost use Rattle.std.specs.Prelude.{◌≡◌, ◌≤◌, ◌^◌, []};
 ghost use Rattle.rv_layout.specs.Places.{size_at, IsLimited};
-ghost use Rattle.rv_store.specs.Ends.{ends_of, next_offset, ends_after};
-ghost use Rattle.rv_store.specs.MovedPlaces.{ends_moved};
+ghost use Rattle.rv_store.specs.internal.Ends.{ends_of, next_offset, ends_after};
+ghost use Rattle.rv_store.specs.internal.MovedPlaces.{ends_moved};
 
 use rv_layout::{Measured, SECTIONS, section_number};
 use rv_stmt::Sect;

@@ -2,15 +2,14 @@
 
 ghost use Rattle.std.specs.Prelude.{◌≡◌, ◌+◌, ◌<◌, ◌≤◌, length, IfOk, OnOk};
 ghost use Rattle.std.specs.List.{filter};
-ghost use Rattle.rv_store.specs.Definitions.{is_defined};
-ghost use Rattle.rv_store.specs.Forgetting.{has_many_others, AreRemembered};
+ghost use Rattle.rv_program.specs.Definitions.{is_defined};
+ghost use Rattle.rv_store.specs.internal.Forgetting.{has_many_others, AreRemembered};
 
-use crate::definitions::is_defined;
-use crate::names::{NameTable, entry_at};
 use crate::survey::Survey;
 use rv_expr::ValueFault;
 use rv_fix::Entry;
 use rv_list::DefinitionPlace;
+use rv_program::{NameTable, entry_at, is_defined};
 use std::alloc::{AllocError, Global};
 
 // How many names are defined, by the row that says where.

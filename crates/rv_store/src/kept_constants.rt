@@ -5,18 +5,15 @@ ghost use Rattle.std.specs.List.{list_any};
 ghost use Rattle.rv_stmt.specs.LentLabels.{name_lent};
 ghost use Rattle.rv_stmt.specs.Statement.{statement_of};
 ghost use Rattle.rv_list.specs.declared.view.DefinitionPlace.TheVariants.{Nowhere};
-ghost use Rattle.rv_store.specs.declared.limits.TheConstants.{MAX_LINES};
-ghost use Rattle.rv_store.specs.Before.{IsBefore, lines_before, edit_on};
-ghost use Rattle.rv_store.specs.KeptConstants.{is_by_equ, names_equ, touches_constants, edits_constants};
-ghost use Rattle.rv_store.specs.Program.{program_of};
-ghost use Rattle.rv_store.specs.Rows.{in_row, AreDefinitions};
-ghost use Rattle.rv_store.specs.Text.{lines_after};
+ghost use Rattle.rv_program.specs.declared.limits.TheConstants.{MAX_LINES};
+ghost use Rattle.rv_program.specs.internal.Before.{IsBefore, lines_before, edit_on};
+ghost use Rattle.rv_store.specs.internal.KeptConstants.{is_by_equ, names_equ, touches_constants, edits_constants};
+ghost use Rattle.rv_program.specs.Program.{program_of};
+ghost use Rattle.rv_program.specs.internal.Rows.{in_row, AreDefinitions};
+ghost use Rattle.rv_program.specs.Text.{lines_after};
 
-use crate::before::Before;
-use crate::edit::LineEdit;
-use crate::line::Line;
-use crate::names::{NameTable, entry_at};
 use rv_list::DefinitionPlace;
+use rv_program::{Before, Line, LineEdit, NameTable, entry_at};
 use rv_stmt::{LabelName, LabelSlice};
 
 // Whether an `.equ` defines the name that is defined there.

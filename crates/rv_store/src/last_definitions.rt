@@ -2,25 +2,20 @@
 
 ghost use Rattle.std.specs.Prelude.{◌≡◌, ℕ, ◌≤◌, ◌<◌, ◌+◌, ◌-◌, ◌*◌, ◌^◌, List, [], ◌∷◌, ◌++◌, false, length, set, OnOk, OnErr};
 ghost use Rattle.rv_stmt.specs.Statement.{statement_of};
-ghost use Rattle.rv_store.specs.declared.limits.TheConstants.{MAX_LINES};
-ghost use Rattle.rv_store.specs.Appended.{adds, AreSameLines, AreSymbols, HavePlaces, IsUnsettled, AreInPart, AreDefinitionsInPart};
-ghost use Rattle.rv_store.specs.Program.{Program, program_of, body_at};
-ghost use Rattle.rv_store.specs.Rows.{Grows, ArePlaces, AreLocals};
-ghost use Rattle.rv_store.specs.Work.{equ_operands};
+ghost use Rattle.rv_program.specs.declared.limits.TheConstants.{MAX_LINES};
+ghost use Rattle.rv_store.specs.internal.Appended.{adds, AreSameLines, AreSymbols, HavePlaces, IsUnsettled, AreInPart, AreDefinitionsInPart};
+ghost use Rattle.rv_program.specs.Program.{Program, program_of, body_at};
+ghost use Rattle.rv_program.specs.internal.Rows.{Grows, ArePlaces, AreLocals};
+ghost use Rattle.rv_program.specs.internal.Work.{equ_operands};
 
-use crate::constants::settle_constant;
-use crate::definitions::{define_line, defining_equ_on};
-use crate::edit::LineEdit;
-use crate::equ_values::settle_equ;
-use crate::limits::MAX_LINES;
-use crate::line::Line;
-use crate::lines::Lines;
-use crate::moved_definitions::keep_places;
-use crate::names::NameTable;
 use crate::survey::Survey;
-use crate::text_rows::TextRows;
 use rv_expr::ValueFault;
 use rv_list::DefinitionPlace;
+use rv_program::equ_values::settle_equ;
+use rv_program::{
+    Line, LineEdit, Lines, MAX_LINES, NameTable, TextRows, define_line, defining_equ_on,
+    keep_places, settle_constant,
+};
 use rv_text::Count;
 use std::alloc::{AllocError, Global};
 

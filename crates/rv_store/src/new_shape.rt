@@ -4,17 +4,16 @@ ghost use Rattle.std.specs.Prelude.{◌≡◌, ◌≤◌, ◌<◌, ◌+◌, ◌-
 ghost use Rattle.rv_stmt.specs.Statement.{statement_of};
 ghost use Rattle.rv_layout.specs.Places.{IsLimited};
 ghost use Rattle.rv_layout.specs.Shapes.{shape_of, size_operands};
-ghost use Rattle.rv_store.specs.Constants.{constant_of};
-ghost use Rattle.rv_store.specs.LineConstants.{constant_on};
-ghost use Rattle.rv_store.specs.Program.{program_of};
-ghost use Rattle.rv_store.specs.Rows.{AreDefinitions, AreConstants};
+ghost use Rattle.rv_program.specs.Constants.{constant_of};
+ghost use Rattle.rv_program.specs.internal.LineConstants.{constant_on};
+ghost use Rattle.rv_program.specs.Program.{program_of};
+ghost use Rattle.rv_program.specs.internal.Rows.{AreDefinitions, AreConstants};
 
-use crate::line::Line;
-use crate::names::{NameTable, entry_at};
 use crate::shapes::shape_of_line;
 use crate::survey::Survey;
 use rv_layout::{Consts, Measured};
 use rv_list::DefinitionPlace;
+use rv_program::{Line, NameTable, entry_at};
 use rv_text::Count;
 
 // The constants on a line, by the rows of a text.

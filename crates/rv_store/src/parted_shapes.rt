@@ -2,13 +2,13 @@
 
 ghost use Rattle.std.specs.Prelude.{◌≡◌, ◌≤◌, ◌+◌, ◌-◌, ◌++◌, ℕ, List, length, take, drop};
 ghost use Rattle.rv_layout.specs.declared.measured.Measured.{Measured};
-ghost use Rattle.rv_store.specs.Column.{HasPlace};
-ghost use Rattle.rv_store.specs.Edits.{edit_of};
-ghost use Rattle.rv_store.specs.FormerShapes.{former_shapes};
-ghost use Rattle.rv_store.specs.MovedPlaces.{have_switch};
+ghost use Rattle.rv_store.specs.internal.Column.{HasPlace};
+ghost use Rattle.rv_program.specs.Edits.{edit_of};
+ghost use Rattle.rv_store.specs.internal.FormerShapes.{former_shapes};
+ghost use Rattle.rv_store.specs.internal.MovedPlaces.{have_switch};
 
-use crate::edit::LineEdit;
 use rv_layout::Measured;
+use rv_program::LineEdit;
 
 // Of how many lines, from the first one on, the shapes are the same.
 fn same_first(before: &[Measured], after: &[Measured]) -> usize

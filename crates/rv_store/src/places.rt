@@ -4,14 +4,14 @@ ghost use Rattle.std.specs.Prelude.{◌≡◌, ◌≤◌, ◌<◌, ◌+◌, ◌^
 ghost use Rattle.rv_layout.specs.declared.measured.Measured.{Measured};
 ghost use Rattle.rv_layout.specs.Places.{section_of, address_of, line_size_of, size_at, sum_below, is_base, IsLimited, AreLimited};
 ghost use Rattle.rv_layout.specs.Sections.{sections, section_number};
-ghost use Rattle.rv_store.specs.Ends.{ends_of, ends_after, ends_at, end_in, base_by_ends, next_offset, next_place, place_by_shapes, IsBehind};
-ghost use Rattle.rv_store.specs.Program.{for_lines};
+ghost use Rattle.rv_store.specs.internal.Ends.{ends_of, ends_after, ends_at, end_in, base_by_ends, next_offset, next_place, place_by_shapes, IsBehind};
+ghost use Rattle.rv_program.specs.Program.{for_lines};
 
 use crate::ends::Ends;
-use crate::room::row_for;
 use crate::section_bases::bases;
 use rv_layout::{Measured, SECTIONS, section_number};
 use rv_list::LinePlace;
+use rv_program::row_for;
 use std::alloc::{AllocError, Global};
 
 // The place of the next line.

@@ -3,17 +3,17 @@
 ghost use Rattle.std.specs.Prelude.{◌≡◌, ◌≤◌, ◌<◌, ◌+◌, ◌^◌, ◌++◌, ℕ, length, vec_len, vec_capacity, slice_index, true, false, IfOk, IfSome, OnOk, IsTrue};
 ghost use Rattle.rv_layout.specs.Places.{size_at, offset_through, is_base, AreLimited};
 ghost use Rattle.rv_layout.specs.Sections.{section_number};
-ghost use Rattle.rv_store.specs.Ends.{ends_of, place_by_shapes};
-ghost use Rattle.rv_store.specs.MovedPlaces.{have_switch, places_from, offset_in, first_spot, ArePlaced, no_displacement, regrown, displaced_place, by_behind, moved, by_moved};
-ghost use Rattle.rv_store.specs.Program.{for_lines};
+ghost use Rattle.rv_store.specs.internal.Ends.{ends_of, place_by_shapes};
+ghost use Rattle.rv_store.specs.internal.MovedPlaces.{have_switch, places_from, offset_in, first_spot, ArePlaced, no_displacement, regrown, displaced_place, by_behind, moved, by_moved};
+ghost use Rattle.rv_program.specs.Program.{for_lines};
 
 use crate::ends::{Ends, size_at};
 use crate::parted_shapes::{PartedShapes, have_switch};
 use crate::places::{Placed, stay_sections};
-use crate::room::row_for;
 use crate::section_bases::bases;
 use rv_layout::{Measured, SECTIONS, section_number};
 use rv_list::LinePlace;
+use rv_program::row_for;
 use rv_stmt::Sect;
 use std::alloc::{AllocError, Global};
 

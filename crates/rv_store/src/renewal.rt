@@ -1,30 +1,24 @@
 //! What is kept of the lines that are due after an edit is made anew.
 
 ghost use Rattle.std.specs.Prelude.{◌≡◌, ◌≤◌, ◌<◌, ◌+◌, ◌*◌, ◌^◌, [], length, IfOk, IfErr};
-ghost use Rattle.rv_store.specs.declared.limits.TheConstants.{MAX_LINES};
-ghost use Rattle.rv_store.specs.Before.{IsBefore, IsAfter, base_before, lines_before, edit_on};
-ghost use Rattle.rv_store.specs.Changes.{changed_lines, most_codes};
-ghost use Rattle.rv_store.specs.Counted.{counts_of};
-ghost use Rattle.rv_store.specs.Edits.{edit_of};
-ghost use Rattle.rv_store.specs.Former.{AreFormer};
-ghost use Rattle.rv_store.specs.Items.{AreItems};
-ghost use Rattle.rv_store.specs.Program.{program_of};
-ghost use Rattle.rv_store.specs.Renewals.{changed_through, AreCountedRenewed};
-ghost use Rattle.rv_store.specs.Surveys.{IsSurvey};
-ghost use Rattle.rv_store.specs.Text.{refusal_of, lines_after};
-ghost use Rattle.rv_store.specs.ValueRows.{AreValueRows, base_of};
-ghost use Rattle.rv_store.specs.Work.{compared_operands, value_operands, work};
+ghost use Rattle.rv_program.specs.declared.limits.TheConstants.{MAX_LINES};
+ghost use Rattle.rv_program.specs.internal.Before.{IsBefore, IsAfter, base_before, lines_before, edit_on};
+ghost use Rattle.rv_program.specs.Changes.{changed_lines, most_codes};
+ghost use Rattle.rv_program.specs.Counted.{counts_of};
+ghost use Rattle.rv_program.specs.Edits.{edit_of};
+ghost use Rattle.rv_program.specs.internal.Former.{AreFormer};
+ghost use Rattle.rv_program.specs.internal.Items.{AreItems};
+ghost use Rattle.rv_program.specs.Program.{program_of};
+ghost use Rattle.rv_program.specs.internal.Renewals.{changed_through, AreCountedRenewed};
+ghost use Rattle.rv_store.specs.internal.Surveys.{IsSurvey};
+ghost use Rattle.rv_program.specs.Text.{refusal_of, lines_after};
+ghost use Rattle.rv_program.specs.internal.ValueRows.{AreValueRows, base_of};
+ghost use Rattle.rv_program.specs.internal.Work.{compared_operands, value_operands, work};
 
-use crate::before::Before;
-use crate::due::due_lines;
-use crate::edit::LineEdit;
-use crate::item::Item;
-use crate::line::Line;
-use crate::lines::Lines;
-use crate::names::NameTable;
-use crate::renewal_pass::renewed_in_one_pass;
 use crate::survey::Survey;
-use crate::value_rows::ValueRows;
+use rv_program::{
+    Before, Item, Line, LineEdit, Lines, NameTable, ValueRows, due_lines, renewed_in_one_pass,
+};
 use rv_text::Count;
 use rv_tree::{SumTree, TreeError};
 use std::alloc::Global;

@@ -1,21 +1,16 @@
 //! Replacing a line by one that it is alike: only that line is made anew.
 
 ghost use Rattle.std.specs.Prelude.{◌≡◌, ◌≤◌, ◌+◌, ◌^◌, [], ◌∷◌, length, IfOk, IfErr};
-ghost use Rattle.rv_store.specs.declared.limits.TheConstants.{MAX_LINES};
-ghost use Rattle.rv_store.specs.Items.{IsItem, IsItemPut};
-ghost use Rattle.rv_store.specs.Program.{program_of, body_at};
-ghost use Rattle.rv_store.specs.Surveys.{IsSurvey};
-ghost use Rattle.rv_store.specs.ValueRows.{AreValueRows, base_of, body_in};
-ghost use Rattle.rv_store.specs.Work.{value_operands};
+ghost use Rattle.rv_program.specs.declared.limits.TheConstants.{MAX_LINES};
+ghost use Rattle.rv_program.specs.internal.Items.{IsItem, IsItemPut};
+ghost use Rattle.rv_program.specs.Program.{program_of, body_at};
+ghost use Rattle.rv_store.specs.internal.Surveys.{IsSurvey};
+ghost use Rattle.rv_program.specs.internal.ValueRows.{AreValueRows, base_of, body_in};
+ghost use Rattle.rv_program.specs.internal.Work.{value_operands};
 
 use crate::changed::Changed;
-use crate::edit_error::EditError;
-use crate::item::Item;
-use crate::lines::Lines;
-use crate::names::NameTable;
 use crate::survey::Survey;
-use crate::text_lines::operands_are_few_on;
-use crate::value_rows::{ValueRows, shape_on};
+use rv_program::{EditError, Item, Lines, NameTable, ValueRows, operands_are_few_on, shape_on};
 use rv_text::Count;
 use rv_tree::SumTree;
 use std::alloc::Global;

@@ -4,7 +4,7 @@ ghost use Rattle.std.specs.Prelude.{◌≡◌, ◌≤◌, ◌<◌, ◌+◌, ◌-
 ghost use Rattle.rv_layout.specs.Places.{sum_below, is_base};
 ghost use Rattle.rv_layout.specs.Rounding.{round_up};
 ghost use Rattle.rv_layout.specs.Sections.{sections};
-ghost use Rattle.rv_store.specs.Ends.{end_in, base_by_ends};
+ghost use Rattle.rv_store.specs.internal.Ends.{end_in, base_by_ends};
 
 use crate::ends::Ends;
 use rv_layout::SECTIONS;

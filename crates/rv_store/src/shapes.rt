@@ -5,31 +5,27 @@ ghost use Rattle.std.specs.List.{list_any};
 ghost use Rattle.rv_stmt.specs.Statement.{statement_of};
 ghost use Rattle.rv_layout.specs.Places.{IsLimited, AreLimited};
 ghost use Rattle.rv_layout.specs.Shapes.{shape_of, size_operands};
-ghost use Rattle.rv_store.specs.declared.limits.TheConstants.{MAX_LINES};
-ghost use Rattle.rv_store.specs.Before.{IsBefore, base_before, lines_before, edit_on};
-ghost use Rattle.rv_store.specs.ConstantPairs.{IsConstantPair, differs_in_constant};
-ghost use Rattle.rv_store.specs.FormerShapes.{former_shape, former_shapes};
-ghost use Rattle.rv_store.specs.KeptConstants.{edits_constants};
-ghost use Rattle.rv_store.specs.Layout.{shape_at};
-ghost use Rattle.rv_store.specs.NewShapes.{IsNewShape, shape_operands, shape_operands_through};
-ghost use Rattle.rv_store.specs.Program.{program_of, body_at};
-ghost use Rattle.rv_store.specs.Rows.{AreDefinitions, AreConstants, AreShapes};
-ghost use Rattle.rv_store.specs.Text.{lines_after};
-ghost use Rattle.rv_store.specs.TextRows.{program_in};
-ghost use Rattle.rv_store.specs.Uses.{is_sized, is_equ, names_used, uses_symbols};
-ghost use Rattle.rv_store.specs.Work.{constant_operands, equ_operands, work};
+ghost use Rattle.rv_program.specs.declared.limits.TheConstants.{MAX_LINES};
+ghost use Rattle.rv_program.specs.internal.Before.{IsBefore, base_before, lines_before, edit_on};
+ghost use Rattle.rv_store.specs.internal.ConstantPairs.{IsConstantPair, differs_in_constant};
+ghost use Rattle.rv_store.specs.internal.FormerShapes.{former_shape, former_shapes};
+ghost use Rattle.rv_store.specs.internal.KeptConstants.{edits_constants};
+ghost use Rattle.rv_program.specs.Layout.{shape_at};
+ghost use Rattle.rv_program.specs.internal.NewShapes.{IsNewShape, shape_operands, shape_operands_through};
+ghost use Rattle.rv_program.specs.Program.{program_of, body_at};
+ghost use Rattle.rv_program.specs.internal.Rows.{AreDefinitions, AreConstants, AreShapes};
+ghost use Rattle.rv_program.specs.Text.{lines_after};
+ghost use Rattle.rv_program.specs.internal.TextRows.{program_in};
+ghost use Rattle.rv_program.specs.Uses.{is_sized, is_equ, names_used, uses_symbols};
+ghost use Rattle.rv_program.specs.internal.Work.{constant_operands, equ_operands, work};
 
-use crate::before::Before;
-use crate::constants::{LineConstants, settle_constant};
-use crate::edit::LineEdit;
 use crate::kept_constants::edits_constants;
-use crate::line::Line;
-use crate::names::NameTable;
-use crate::room::room_for;
-use crate::symbol_rows::SymbolRows;
-use crate::uses::{NameTest, any_name};
 use rv_layout::{Consts, Measured, measure, shapes_are_limited, size_operands_are_few};
 use rv_list::DefinitionPlace;
+use rv_program::{
+    Before, Line, LineConstants, LineEdit, NameTable, NameTest, SymbolRows, any_name, room_for,
+    settle_constant,
+};
 use rv_text::Count;
 use std::alloc::{AllocError, Global};
 

@@ -3,22 +3,22 @@
 ghost use Rattle.std.specs.Prelude.{◌≡◌, ◌+◌, ◌*◌, ◌-◌, ◌^◌, ◌<◌, ◌≤◌, ◌==◌, [], length, map, None, if◌then◌else◌, IfOk, IfErr, IfSome, OnOk, OnErr, slice_get, true, false, IsTrue};
 ghost use Rattle.std.specs.Option.{option_map};
 ghost use Rattle.rv_stmt.specs.Statement.{statement_of};
-ghost use Rattle.rv_store.specs.Alike.{IsAlike};
+ghost use Rattle.rv_store.specs.internal.Alike.{IsAlike};
 ghost use Rattle.rv_layout.specs.Places.{is_base, IsLimited};
 ghost use Rattle.rv_layout.specs.Shapes.{shape_of, size_operands};
-ghost use Rattle.rv_store.specs.Appended.{IsEnding};
-ghost use Rattle.rv_store.specs.Assembled.{AreCountedAfter};
-ghost use Rattle.rv_store.specs.Changes.{changed_lines, most_values, most_codes};
-ghost use Rattle.rv_store.specs.Codes.{code_at};
-ghost use Rattle.rv_store.specs.Constants.{constant_of};
-ghost use Rattle.rv_store.specs.Counted.{counts_of, lines_read, Counted};
-ghost use Rattle.rv_store.specs.Edits.{edit_of, edit_of_read};
-ghost use Rattle.rv_store.specs.Former.{AreFormer};
-ghost use Rattle.rv_store.specs.Layout.{address_at};
-ghost use Rattle.rv_store.specs.NewShapes.{IsNewShape, shape_operands};
-ghost use Rattle.rv_store.specs.Program.{program_of};
+ghost use Rattle.rv_store.specs.internal.Appended.{IsEnding};
+ghost use Rattle.rv_store.specs.internal.Assembled.{AreCountedAfter};
+ghost use Rattle.rv_program.specs.Changes.{changed_lines, most_values, most_codes};
+ghost use Rattle.rv_program.specs.Codes.{code_at};
+ghost use Rattle.rv_program.specs.Constants.{constant_of};
+ghost use Rattle.rv_program.specs.Counted.{counts_of, lines_read, Counted};
+ghost use Rattle.rv_program.specs.Edits.{edit_of, edit_of_read};
+ghost use Rattle.rv_program.specs.internal.Former.{AreFormer};
+ghost use Rattle.rv_program.specs.Layout.{address_at};
+ghost use Rattle.rv_program.specs.internal.NewShapes.{IsNewShape, shape_operands};
+ghost use Rattle.rv_program.specs.Program.{program_of};
 ghost use Rattle.rv_store.specs.Symbols.{symbol_of};
-ghost use Rattle.rv_store.specs.Text.{is_line, at_line, Insert, Delete, Replace, refusal_of, lines_after, text_after, Edits};
+ghost use Rattle.rv_program.specs.Text.{is_line, at_line, Insert, Delete, Replace, refusal_of, lines_after, text_after, Edits};
 
 mod names;
 mod shown;
@@ -27,23 +27,17 @@ use crate::alike::are_alike;
 use crate::assembly::assembled;
 use crate::changed::Changed;
 use crate::column::{edit_lines, take_back};
-use crate::edit::{LineEdit, ReadEdit};
-use crate::edit_error::EditError;
 use crate::ending::{Ending, apart_ending, appended};
 use crate::forgetting::{Remembered, has_many_others};
-use crate::item::Item;
-use crate::limits::MAX_LINES;
-use crate::line::Line;
-use crate::names::NameTable;
 use crate::new_shape::new_shape;
 use crate::replacement::item_replaced;
 use crate::survey::Survey;
 use crate::symbols::SymValue;
-use crate::text_rows::address_in;
 pub use names::NamesOnLine;
 use rv_fix::Coded;
 use rv_layout::{Measured, base_ok};
 use rv_list::{DefinitionPlace, View};
+use rv_program::{EditError, Item, Line, LineEdit, MAX_LINES, NameTable, ReadEdit, address_in};
 use rv_text::Count;
 use rv_tree::SumTree;
 use std::alloc::Global;
@@ -62,8 +56,8 @@ pub struct Store {
 
 impl Model for Store {
     ghost use Rattle.std.specs.Prelude.{map};
-    ghost use Rattle.rv_store.specs.Stored.{IsStored};
-    ghost use Rattle.rv_store.specs.Text.{Text};
+    ghost use Rattle.rv_store.specs.internal.Stored.{IsStored};
+    ghost use Rattle.rv_program.specs.Text.{Text};
 
     ghost Value = { Text };
 

@@ -4,44 +4,37 @@ ghost use Rattle.std.specs.Prelude.{◌≡◌, ℕ, ◌≤◌, ◌<◌, ◌+◌,
 ghost use Rattle.rv_layout.specs.declared.measured.Measured.{Measured};
 ghost use Rattle.rv_layout.specs.Places.{section_base_of, section_end_of, IsLimited, AreLimited, is_base};
 ghost use Rattle.rv_layout.specs.Sections.{sections};
-ghost use Rattle.rv_store.specs.Before.{IsBefore, base_before, lines_before, edit_on};
-ghost use Rattle.rv_store.specs.Column.{HasPlace};
-ghost use Rattle.rv_store.specs.Edits.{edit_of};
-ghost use Rattle.rv_store.specs.Ends.{ends_of, place_by_shapes};
-ghost use Rattle.rv_store.specs.FormerShapes.{former_shapes};
-ghost use Rattle.rv_store.specs.NewShapes.{IsNewShape, shape_operands};
-ghost use Rattle.rv_store.specs.Program.{program_of, for_lines};
-ghost use Rattle.rv_store.specs.Rows.{Grows, AreDefinitions, AreConstants, AreShapes, AreLocals};
-ghost use Rattle.rv_store.specs.Surveys.{IsSurvey};
-ghost use Rattle.rv_store.specs.SymbolRows.{AreSymbolRows};
-ghost use Rattle.rv_store.specs.Text.{refusal_of, lines_after};
-ghost use Rattle.rv_store.specs.ValueRows.{AreValueRows, base_of};
-ghost use Rattle.rv_store.specs.Work.{equ_operands, high_operands, survey_operands, operands_through, work};
+ghost use Rattle.rv_program.specs.internal.Before.{IsBefore, base_before, lines_before, edit_on};
+ghost use Rattle.rv_store.specs.internal.Column.{HasPlace};
+ghost use Rattle.rv_program.specs.Edits.{edit_of};
+ghost use Rattle.rv_store.specs.internal.Ends.{ends_of, place_by_shapes};
+ghost use Rattle.rv_store.specs.internal.FormerShapes.{former_shapes};
+ghost use Rattle.rv_program.specs.internal.NewShapes.{IsNewShape, shape_operands};
+ghost use Rattle.rv_program.specs.Program.{program_of, for_lines};
+ghost use Rattle.rv_program.specs.internal.Rows.{Grows, AreDefinitions, AreConstants, AreShapes, AreLocals};
+ghost use Rattle.rv_store.specs.internal.Surveys.{IsSurvey};
+ghost use Rattle.rv_program.specs.internal.SymbolRows.{AreSymbolRows};
+ghost use Rattle.rv_program.specs.Text.{refusal_of, lines_after};
+ghost use Rattle.rv_program.specs.internal.ValueRows.{AreValueRows, base_of};
+ghost use Rattle.rv_program.specs.internal.Work.{equ_operands, high_operands, survey_operands, operands_through, work};
 
-use crate::before::Before;
-use crate::edit::LineEdit;
 use crate::ends::Ends;
-use crate::equ_values::equ_values;
-use crate::highs::highs;
-use crate::limits::MAX_LINES;
-use crate::line::Line;
-use crate::lines::Lines;
-use crate::locals::Locals;
-use crate::locals_after::locals_after;
-use crate::moved_definitions::definitions_after;
-use crate::names::NameTable;
-use crate::paired_highs::paired_highs;
 use crate::parted_shapes::PartedShapes;
 use crate::places::Placed;
 use crate::places_after::PlacedBefore;
 use crate::section_bases::bases;
 use crate::shapes::{ShapeRows, shapes};
-use crate::symbol_rows::SymbolRows;
-use crate::text_rows::TextRows;
-use crate::value_rows::ValueRows;
 use rv_fix::Entry;
 use rv_layout::Measured;
 use rv_list::{DefinitionPlace, LinePlace, SectionPlace};
+use rv_program::equ_values::equ_values;
+use rv_program::highs::highs;
+use rv_program::locals_after::locals_after;
+use rv_program::paired_highs::paired_highs;
+use rv_program::{
+    Before, Line, LineEdit, Lines, Locals, MAX_LINES, NameTable, SymbolRows, TextRows, ValueRows,
+    definitions_after,
+};
 use rv_text::Count;
 use std::alloc::{AllocError, Global};
 

@@ -2,16 +2,15 @@
 
 ghost use Rattle.std.specs.Prelude.{◌≡◌};
 ghost use Rattle.std.specs.Option.{option_map};
-ghost use Rattle.rv_store.specs.Layout.{address_at};
-ghost use Rattle.rv_store.specs.LineNames.{given_by};
+ghost use Rattle.rv_program.specs.Layout.{address_at};
+ghost use Rattle.rv_program.specs.internal.LineNames.{given_by};
 ghost use Rattle.rv_store.specs.LinesOfTexts.{names_of, names_from};
-ghost use Rattle.rv_store.specs.Program.{program_of};
-ghost use Rattle.rv_store.specs.Text.{at_line};
+ghost use Rattle.rv_program.specs.Program.{program_of};
+ghost use Rattle.rv_program.specs.Text.{at_line};
 
-use crate::line_names::{LineNames, names_at};
-use crate::lines::Lines;
 use crate::store::Store;
 use rv_expr::{Direction, LabelReference, Names, ValueFault};
+use rv_program::{LineNames, Lines, names_at};
 use std::marker::Model;
 
 /// What names give in the expressions of a line of a store. Contracts see the text and the number of the line.

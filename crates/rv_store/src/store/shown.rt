@@ -1,17 +1,16 @@
 //! What a store shows of its text.
 
 ghost use Rattle.std.specs.Prelude.{◌≡◌, ◌≤◌, length};
-ghost use Rattle.rv_store.specs.Items.{IsItem};
-ghost use Rattle.rv_store.specs.Layout.{place_at};
-ghost use Rattle.rv_store.specs.Passed.{is_loud, may_be_misplaced};
-ghost use Rattle.rv_store.specs.Program.{program_of};
+ghost use Rattle.rv_program.specs.internal.Items.{IsItem};
+ghost use Rattle.rv_program.specs.Layout.{place_at};
+ghost use Rattle.rv_store.specs.internal.Passed.{is_loud, may_be_misplaced};
+ghost use Rattle.rv_program.specs.Program.{program_of};
 ghost use Rattle.rv_store.specs.Shown.{shown_of};
 
-use crate::item::Item;
-use crate::names::entry_of;
 use crate::store::Store;
 use rv_expr::ValueFault;
 use rv_list::{DefinitionPlace, LinePlace, LineSource, LineView, SectionPlace, TestedLines, View};
+use rv_program::{Item, entry_of};
 use rv_stmt::Sect;
 use rv_tree::Items;
 use std::marker::Model;
@@ -27,7 +26,7 @@ pub struct StoreLines<'a> {
 
 impl<'a> Model for StoreLines<'a> {
     ghost use Rattle.std.specs.Option.{option_map};
-    ghost use Rattle.rv_store.specs.Passed.{PassedLines, ArePassed};
+    ghost use Rattle.rv_store.specs.internal.Passed.{PassedLines, ArePassed};
 
     ghost Value = { PassedLines };
 

@@ -1,4 +1,4 @@
-use Rattle.rv_store.specs.Edits.{edit_of}
+use Rattle.rv_program.specs.Edits.{edit_of}
 use Rattle.rv_commands.proofs.EditAnswers.{edit_answered}
 use Rattle.rv_commands.proofs.answer.answer_change.Goals as goal
 

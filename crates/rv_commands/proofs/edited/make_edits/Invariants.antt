@@ -1,5 +1,5 @@
 use Rattle.std.proofs.Common.{◌≡◌, take, length, map}
-use Rattle.rv_store.specs.Edits.{edit_of}
+use Rattle.rv_program.specs.Edits.{edit_of}
 use Rattle.rv_commands.specs.Edited.{AreEdits}
 use Rattle.rv_commands.proofs.edited.make_edits.Given as goal
 

@@ -1,6 +1,6 @@
 use Rattle.std.proofs.Common.{ap, sym, subst, ◌∙◌}
 use Rattle.rv_stmt.specs.Statement.{statement_of}
-use Rattle.rv_store.specs.Alike.{room_of, DefinesSame}
+use Rattle.rv_store.specs.internal.Alike.{room_of, DefinesSame}
 use Rattle.rv_store.proofs.alike.are_alike.Goals as goal
 
 pub returns-then-take_same_room : goal.returns-then-take_same_room

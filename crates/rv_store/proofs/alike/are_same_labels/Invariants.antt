@@ -1,5 +1,5 @@
 use Rattle.std.proofs.Common.{◌≡◌, length}
-use Rattle.rv_store.specs.Alike.{same_labels}
+use Rattle.rv_store.specs.internal.Alike.{same_labels}
 use Rattle.rv_store.proofs.alike.are_same_labels.Given as goal
 
 abbrev pub invariant-loop-label : goal.invariant-loop-label

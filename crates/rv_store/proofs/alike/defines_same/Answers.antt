@@ -1,6 +1,6 @@
 use Rattle.std.proofs.Common.{◌∙◌}
 use Rattle.rv_stmt.specs.Statement.{statement_of}
-use Rattle.rv_store.specs.Alike.{same_labels}
+use Rattle.rv_store.specs.internal.Alike.{same_labels}
 use Rattle.rv_store.proofs.AlikeLines.{labels-same, labels-none}
 use Rattle.rv_store.proofs.alike.defines_same.Goals as goal
 

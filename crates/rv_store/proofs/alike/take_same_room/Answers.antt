@@ -1,5 +1,5 @@
 use Rattle.std.proofs.Common.{sym, ◌∙◌}
-use Rattle.rv_store.proofs.Sameness.{same_shape-Decides}
+use Rattle.rv_program.specs.lemmas.SamenessLaws.{same_shape-Decides}
 use Rattle.rv_store.proofs.alike.take_same_room.Goals as goal
 
 pub returns : goal.returns

@@ -1,14 +1,14 @@
 use Rattle.std.proofs.Common.{◌≡◌, ◌+◌, suc, Bool, true, false, not, ◌&&◌, length, true≢false, arith, ap, sym, ◌∙◌, refl}
 use Rattle.std.specs.List.{list_any}
 use Rattle.rv_stmt.specs.Statement.{statement_of}
-use Rattle.rv_store.specs.Appended.{adds}
-use Rattle.rv_store.specs.Definitions.{definition_of, is_defined}
-use Rattle.rv_store.specs.NameSets.{bucket_of}
-use Rattle.rv_store.specs.Program.{program_of}
-use Rattle.rv_store.specs.Uses.{names_used}
+use Rattle.rv_store.specs.internal.Appended.{adds}
+use Rattle.rv_program.specs.Definitions.{definition_of, is_defined}
+use Rattle.rv_program.specs.internal.NameSets.{bucket_of}
+use Rattle.rv_program.specs.Program.{program_of}
+use Rattle.rv_program.specs.Uses.{names_used}
 use Rattle.rv_store.proofs.AlikeLines.{no_high}
 use Rattle.rv_store.proofs.ApartLines.{apart-unadded, apart-unused, adds-same}
-use Rattle.rv_store.proofs.DefinitionRows.{nothing-defined}
+use Rattle.rv_program.specs.lemmas.DefinitionRows.{nothing-defined}
 use Rattle.rv_store.proofs.apart.adds_apart.Goals as goal
 
 and-false : (b : Bool) → (b && false) ≡ false

@@ -1,7 +1,7 @@
 use Rattle.std.proofs.Common.{◌≡◌, ◌+◌, ◌≤◌, length, arith, ap, subst, ◌∙◌}
-use Rattle.rv_store.specs.Edits.{edit_of}
-use Rattle.rv_store.specs.Work.{compared_operands, value_operands, work}
-use Rattle.rv_store.specs.Counted.{counts_of}
+use Rattle.rv_program.specs.Edits.{edit_of}
+use Rattle.rv_program.specs.internal.Work.{compared_operands, value_operands, work}
+use Rattle.rv_program.specs.Counted.{counts_of}
 use Rattle.rv_store.proofs.CountedEdits.{counted-after}
 use Rattle.rv_store.proofs.Stores.{survey_grown}
 use Rattle.rv_store.proofs.assembly.assembled_by_lines.Goals as goal

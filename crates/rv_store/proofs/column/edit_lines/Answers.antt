@@ -1,7 +1,7 @@
 use Rattle.std.proofs.Common.{◌-◌, get_or, arith, ap, sym, subst, ◌∙◌}
 use Rattle.std.specs.Prelude.{remove}
-use Rattle.rv_store.specs.Column.{HasPlace}
-use Rattle.rv_store.specs.Edits.{edit_of_read}
+use Rattle.rv_store.specs.internal.Column.{HasPlace}
+use Rattle.rv_program.specs.Edits.{edit_of_read}
 use Rattle.rv_store.proofs.AlikeTexts.{set-back}
 use Rattle.rv_store.proofs.Columns.{removed-inserted}
 use Rattle.rv_store.proofs.column.edit_lines.Goals as goal

@@ -3,11 +3,11 @@ use Rattle.rv_stmt.specs.Statement.{statement_of}
 use Rattle.rv_layout.specs.declared.measured.Measured.{Measured}
 use Rattle.rv_layout.specs.Places.{IsLimited, AreLimited}
 use Rattle.rv_store.specs.declared.ends.Ends.{Ends}
-use Rattle.rv_store.specs.declared.limits.TheConstants.{MAX_LINES}
-use Rattle.rv_store.specs.Appended.{adds, IsApart}
-use Rattle.rv_store.specs.Ends.{ends_of, IsBehind}
-use Rattle.rv_store.specs.Program.{program_of}
-use Rattle.rv_store.specs.Rows.{AreShapes}
+use Rattle.rv_program.specs.declared.limits.TheConstants.{MAX_LINES}
+use Rattle.rv_store.specs.internal.Appended.{adds, IsApart}
+use Rattle.rv_store.specs.internal.Ends.{ends_of, IsBehind}
+use Rattle.rv_program.specs.Program.{program_of}
+use Rattle.rv_program.specs.internal.Rows.{AreShapes}
 use Rattle.rv_store.proofs.Endings.{ends-with, together-before, together-all, short-before, ending-is}
 use Rattle.rv_store.proofs.ShapeRows.{limited-push}
 use Rattle.rv_store.proofs.Surveys.{length_of_shapes}

@@ -1,11 +1,11 @@
 use Rattle.std.proofs.Common.{◌≡◌, ℕ, ◌<◌, ◌≤◌, false, List, [], ◌∷◌, ◌++◌, length, arith, ap, sym, subst, ◌∙◌, refl}
 use Rattle.rv_stmt.specs.Statement.{statement_of}
 use Rattle.rv_store.specs.declared.ending.Ending.{Ending}
-use Rattle.rv_store.specs.declared.limits.TheConstants.{MAX_LINES}
+use Rattle.rv_program.specs.declared.limits.TheConstants.{MAX_LINES}
 use Rattle.rv_store.specs.declared.survey.Survey.{Survey}
-use Rattle.rv_store.specs.Appended.{adds, IsEnding, AreSameSymbols, AreExtended, AreSymbols, IsUnsettled}
-use Rattle.rv_store.specs.Program.{program_of}
-use Rattle.rv_store.specs.Surveys.{IsSurvey}
+use Rattle.rv_store.specs.internal.Appended.{adds, IsEnding, AreSameSymbols, AreExtended, AreSymbols, IsUnsettled}
+use Rattle.rv_program.specs.Program.{program_of}
+use Rattle.rv_store.specs.internal.Surveys.{IsSurvey}
 use Rattle.rv_store.proofs.AppendTexts.{in_any_error, begins-alone, begins-extended, begins-still, symbols-of, symbols-same, count-shapes, count-places, unsettled, survey-extended}
 use Rattle.rv_store.proofs.LongerTexts.{count-longer}
 use Rattle.rv_store.proofs.ending.appended.Goals as goal

@@ -1,6 +1,6 @@
 use Rattle.std.proofs.Common.{◌≡◌, ◌≤◌, length, take}
 use Rattle.std.specs.List.{filter}
-use Rattle.rv_store.specs.Definitions.{is_defined}
+use Rattle.rv_program.specs.Definitions.{is_defined}
 use Rattle.rv_store.proofs.forgetting.defined_count.Given as goal
 
 abbrev pub invariant-loop-place : goal.invariant-loop-place

@@ -1,8 +1,8 @@
 use Rattle.std.proofs.Common.{◌≡◌, length}
 use Rattle.std.specs.List.{list_any}
 use Rattle.rv_list.specs.declared.view.DefinitionPlace.TheVariants.{Nowhere}
-use Rattle.rv_store.specs.KeptConstants.{names_equ}
-use Rattle.rv_store.specs.Rows.{in_row}
+use Rattle.rv_store.specs.internal.KeptConstants.{names_equ}
+use Rattle.rv_program.specs.internal.Rows.{in_row}
 use Rattle.rv_store.proofs.kept_constants.any_names_equ.Given as goal
 
 abbrev pub invariant-loop-label : goal.invariant-loop-label

@@ -1,9 +1,9 @@
 use Rattle.std.proofs.Common.{ap, ◌∙◌}
 use Rattle.rv_stmt.specs.Statement.{statement_of}
 use Rattle.rv_layout.specs.Shapes.{shape_of}
-use Rattle.rv_store.specs.LineConstants.{constant_on}
-use Rattle.rv_store.specs.Program.{program_of}
-use Rattle.rv_store.proofs.ConstantLaws.{constants-on_line}
+use Rattle.rv_program.specs.internal.LineConstants.{constant_on}
+use Rattle.rv_program.specs.Program.{program_of}
+use Rattle.rv_program.specs.lemmas.ConstantLaws.{constants-on_line}
 use Rattle.rv_store.proofs.new_shape.new_shape.Goals as goal
 
 pub returns-clause-shape : goal.returns-clause-shape

@@ -1,5 +1,5 @@
 use Rattle.std.proofs.Common.{◌≡◌, drop}
-use Rattle.rv_store.specs.MovedPlaces.{have_switch}
+use Rattle.rv_store.specs.internal.MovedPlaces.{have_switch}
 use Rattle.rv_store.proofs.parted_shapes.have_switch.Given as goal
 
 -- what is looked at still has a switch where all have one

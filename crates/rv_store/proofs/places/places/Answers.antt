@@ -2,8 +2,8 @@ use Rattle.std.proofs.Common.{◌≡◌, suc, ◌+◌, ◌^◌, ◌≤◌, ◌�
 use Rattle.rv_layout.specs.Places.{sum_below}
 use Rattle.rv_layout.specs.Sections.{sections}
 use Rattle.rv_list.specs.declared.view.LinePlace.{LinePlace}
-use Rattle.rv_store.specs.Ends.{ends_of, ends_after, end_in, next_place, place_by_shapes}
-use Rattle.rv_store.specs.Program.{for_lines}
+use Rattle.rv_store.specs.internal.Ends.{ends_of, ends_after, end_in, next_place, place_by_shapes}
+use Rattle.rv_program.specs.Program.{for_lines}
 use Rattle.rv_store.proofs.EndBases.{ends-together}
 use Rattle.rv_store.proofs.EndLaws.{PlaceFits, next-is, next-IsLimited, take-next, ends_of-push, bases-AreBases, next_place-is, next_place-fits, places-small, at-offset, place-apart}
 use Rattle.rv_store.proofs.places.places.Goals as goal

@@ -1,8 +1,8 @@
 use Rattle.std.proofs.Common.{◌≡◌, ◌≤◌, length, take}
 use Rattle.std.specs.Prelude.{slice_index, vec_len, vec_capacity}
 use Rattle.rv_layout.specs.Sections.{section_number}
-use Rattle.rv_store.specs.Ends.{ends_at, ends_of, place_by_shapes}
-use Rattle.rv_store.specs.Program.{for_lines}
+use Rattle.rv_store.specs.internal.Ends.{ends_at, ends_of, place_by_shapes}
+use Rattle.rv_program.specs.Program.{for_lines}
 use Rattle.rv_store.proofs.places.places.Given as goal
 
 abbrev pub invariant-loop-shape : goal.invariant-loop-shape

@@ -1,5 +1,5 @@
 use Rattle.std.proofs.Common.{◌^◌, ◌≤◌, take, ap, sym, ◌∙◌, subst}
-use Rattle.rv_store.specs.Ends.{ends_of, ends_after, next_offset}
+use Rattle.rv_store.specs.internal.Ends.{ends_of, ends_after, next_offset}
 use Rattle.rv_store.proofs.EndLaws.{next-IsLimited, next-short, take-next, ends_of-push}
 use Rattle.rv_store.proofs.places.total_ends.Goals as goal
 

@@ -1,5 +1,5 @@
 use Rattle.std.proofs.Common.{set, slice_index, ap, sym, ◌∙◌}
-use Rattle.rv_store.specs.MovedPlaces.{regrown, by_behind}
+use Rattle.rv_store.specs.internal.MovedPlaces.{regrown, by_behind}
 use Rattle.rv_store.proofs.places_after.displace_behind.Goals as goal
 
 pub returns-in-Align-clause-by : goal.returns-in-Align-clause-by

@@ -2,8 +2,8 @@ use Rattle.std.proofs.Common.{◌≡◌, ◌+◌, ◌-◌, ◌^◌, ◌≤◌, �
 use Rattle.rv_layout.specs.Advances.{wrap}
 use Rattle.rv_layout.specs.Places.{sum_below}
 use Rattle.rv_layout.specs.Sections.{sections, section_number}
-use Rattle.rv_store.specs.Ends.{end_in}
-use Rattle.rv_store.specs.MovedPlaces.{first_spot, ArePlaced, no_displacement, moved, by_moved, ends_moved, places_from}
+use Rattle.rv_store.specs.internal.Ends.{end_in}
+use Rattle.rv_store.specs.internal.MovedPlaces.{first_spot, ArePlaced, no_displacement, moved, by_moved, ends_moved, places_from}
 use Rattle.rv_store.proofs.EndBases.{ends-together}
 use Rattle.rv_store.proofs.EndLaws.{bases-AreBases}
 use Rattle.rv_store.proofs.PlacesAfter.{AreParted, count-places, count-rest, rest-placed, rest-limited, middle-short, ends-moved, places-moved}

@@ -3,7 +3,7 @@ use Rattle.rv_layout.specs.Advances.{wrap}
 use Rattle.rv_layout.specs.Places.{offset_through}
 use Rattle.rv_layout.specs.Sections.{section_number}
 use Rattle.rv_list.specs.declared.view.LinePlace.{LinePlace}
-use Rattle.rv_store.specs.MovedPlaces.{places_from}
+use Rattle.rv_store.specs.internal.MovedPlaces.{places_from}
 use Rattle.rv_store.proofs.MovedPlaces.{middle-straight, middle-end, middle-fits, middle-more}
 use Rattle.rv_store.proofs.places_after.push_middle.Goals as goal
 

@@ -2,7 +2,7 @@ use Rattle.std.proofs.Common.{◌≡◌, ◌+◌, ◌++◌, false, drop}
 use Rattle.std.specs.Prelude.{vec_len, vec_capacity}
 use Rattle.rv_layout.specs.Places.{offset_through}
 use Rattle.rv_layout.specs.Sections.{section_number}
-use Rattle.rv_store.specs.MovedPlaces.{have_switch, places_from}
+use Rattle.rv_store.specs.internal.MovedPlaces.{have_switch, places_from}
 use Rattle.rv_store.proofs.places_after.push_middle.Given as goal
 
 -- what is added, and what is to be added still

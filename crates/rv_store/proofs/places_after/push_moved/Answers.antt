@@ -3,7 +3,7 @@ use Rattle.std.specs.Prelude.{Result, Ok, Err, OnOk, is_ok}
 use Rattle.std.proofs.lemmas.List.{get_or_default, length-drop}
 use Rattle.rv_stmt.specs.declared.section.Sect.TheVariants.{Init}
 use Rattle.rv_list.specs.declared.view.LinePlace.{LinePlace}
-use Rattle.rv_store.specs.MovedPlaces.{moved, by_moved}
+use Rattle.rv_store.specs.internal.MovedPlaces.{moved, by_moved}
 use Rattle.rv_store.proofs.MovedPlaces.{drop-ArePlaced, drop-AreLimited, moved-none, by_moved-none, moved-more, by_moved-more}
 use Rattle.rv_store.proofs.places_after.push_moved.Goals as goal
 

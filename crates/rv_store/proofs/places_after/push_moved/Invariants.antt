@@ -1,6 +1,6 @@
 use Rattle.std.proofs.Common.{◌≡◌, ◌+◌, ◌++◌, drop}
 use Rattle.std.specs.Prelude.{vec_len, vec_capacity}
-use Rattle.rv_store.specs.MovedPlaces.{moved, by_moved}
+use Rattle.rv_store.specs.internal.MovedPlaces.{moved, by_moved}
 use Rattle.rv_store.proofs.places_after.push_moved.Given as goal
 
 -- what is moved, and what is to be moved still

@@ -1,5 +1,5 @@
 use Rattle.std.proofs.Common.{◌≡◌, arith, ◌∙◌, refl}
-use Rattle.rv_store.specs.Compared.{compared_through}
+use Rattle.rv_program.specs.internal.Compared.{compared_through}
 use Rattle.rv_store.proofs.renewal.renewed_all.Goals as goal
 
 pub returns-in_err-due-clause-counted : goal.returns-in_err-due-clause-counted

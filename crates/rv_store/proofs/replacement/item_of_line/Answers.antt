@@ -1,6 +1,6 @@
 use Rattle.std.proofs.Common.{◌∙◌, arith}
-use Rattle.rv_store.specs.ValueRows.{body_in}
-use Rattle.rv_store.proofs.CountedLines.{value_operands-few}
+use Rattle.rv_program.specs.internal.ValueRows.{body_in}
+use Rattle.rv_program.specs.lemmas.CountedLines.{value_operands-few}
 use Rattle.rv_store.proofs.replacement.item_of_line.Goals as goal
 
 pub returns-in_err-values-clause-valued_few : goal.returns-in_err-values-clause-valued_few

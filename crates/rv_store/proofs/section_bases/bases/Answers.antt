@@ -3,7 +3,7 @@ use Rattle.std.proofs.lemmas.List.{length-set}
 use Rattle.rv_layout.specs.Rounding.{round_up}
 use Rattle.rv_layout.specs.Sections.{sections}
 use Rattle.rv_layout.specs.BaseLaws.{row-more, base-bound, base_from-fits}
-use Rattle.rv_store.specs.Ends.{end_in, base_by_ends}
+use Rattle.rv_store.specs.internal.Ends.{end_in, base_by_ends}
 use Rattle.rv_store.proofs.section_bases.bases.Goals as goal
 
 pub next_base-next-requires : goal.next_base-next-requires

@@ -1,6 +1,6 @@
 use Rattle.std.proofs.Common.{◌≡◌, ℕ, ◌<◌, length, slice_index}
 use Rattle.rv_layout.specs.Sections.{sections}
-use Rattle.rv_store.specs.Ends.{base_by_ends}
+use Rattle.rv_store.specs.internal.Ends.{base_by_ends}
 use Rattle.rv_store.proofs.section_bases.bases.Given as goal
 
 -- the bases of the sections before, and that of this one

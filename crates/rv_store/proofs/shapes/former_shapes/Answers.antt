@@ -1,7 +1,7 @@
 use Rattle.std.proofs.Common.{arith, subst}
-use Rattle.rv_store.specs.Before.{lines_before}
-use Rattle.rv_store.specs.Column.{HasPlace}
-use Rattle.rv_store.specs.Edits.{edit_of}
+use Rattle.rv_program.specs.internal.Before.{lines_before}
+use Rattle.rv_store.specs.internal.Column.{HasPlace}
+use Rattle.rv_program.specs.Edits.{edit_of}
 use Rattle.rv_store.proofs.FormerShapes.{shape_count, place}
 use Rattle.rv_store.proofs.shapes.former_shapes.Goals as goal
 

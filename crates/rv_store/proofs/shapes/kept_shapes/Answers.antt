@@ -1,8 +1,8 @@
 use Rattle.std.proofs.Common.{length, sym, subst, ◌∙◌}
 use Rattle.rv_layout.specs.Places.{AreLimited}
-use Rattle.rv_store.specs.Before.{edit_on}
-use Rattle.rv_store.specs.Program.{program_of}
-use Rattle.rv_store.specs.Rows.{AreConstants}
+use Rattle.rv_program.specs.internal.Before.{edit_on}
+use Rattle.rv_program.specs.Program.{program_of}
+use Rattle.rv_program.specs.internal.Rows.{AreConstants}
 use Rattle.rv_store.proofs.KeptRows.{kept-limited, shapes-are, constants-are}
 use Rattle.rv_store.proofs.shapes.kept_shapes.Goals as goal
 

@@ -3,20 +3,20 @@ use Rattle.std.proofs.lemmas.List.{length-replicate}
 use Rattle.rv_stmt.specs.Statement.{statement_of, data_size_of}
 use Rattle.rv_layout.specs.Places.{IsLimited, AreLimited}
 use Rattle.rv_layout.specs.Shapes.{shape_of}
-use Rattle.rv_store.specs.Before.{base_before, lines_before, edit_on}
-use Rattle.rv_store.specs.Constants.{constant_of}
-use Rattle.rv_store.specs.Layout.{shape_at}
-use Rattle.rv_store.specs.Program.{program_of, for_lines}
-use Rattle.rv_store.specs.Rows.{AreConstants}
-use Rattle.rv_store.specs.Uses.{is_sized, is_equ}
-use Rattle.rv_store.specs.Work.{equ_operands, constant_operands, operands_through, work}
-use Rattle.rv_store.proofs.ConstantRows.{constants-none}
+use Rattle.rv_program.specs.internal.Before.{base_before, lines_before, edit_on}
+use Rattle.rv_program.specs.Constants.{constant_of}
+use Rattle.rv_program.specs.Layout.{shape_at}
+use Rattle.rv_program.specs.Program.{program_of, for_lines}
+use Rattle.rv_program.specs.internal.Rows.{AreConstants}
+use Rattle.rv_program.specs.Uses.{is_sized, is_equ}
+use Rattle.rv_program.specs.internal.Work.{equ_operands, constant_operands, operands_through, work}
+use Rattle.rv_program.specs.lemmas.ConstantRows.{constants-none}
 use Rattle.rv_store.proofs.FormerShapes.{former, former-length, former-is, former-stays, constants-stay, through-length, through-here, through-kept, through-set, through-all, neither}
-use Rattle.rv_store.proofs.KeptShapes.{body-on}
-use Rattle.rv_store.proofs.NewShapes.{through-start, through-next, through-end}
-use Rattle.rv_store.proofs.Programs.{length-program}
+use Rattle.rv_program.specs.lemmas.KeptShapes.{body-on}
+use Rattle.rv_program.specs.lemmas.NewShapeLaws.{through-start, through-next, through-end}
+use Rattle.rv_program.specs.lemmas.Programs.{length-program}
 use Rattle.rv_store.proofs.ShapeRows.{limited-next}
-use Rattle.rv_store.proofs.ShapeWork.{operands-next, constant-work, nothing-shaped}
+use Rattle.rv_program.specs.lemmas.ShapeWork.{operands-next, constant-work, nothing-shaped}
 use Rattle.rv_store.proofs.shapes.settled_shapes.Goals as goal
 use Rattle.rv_store.proofs.shapes.settled_shapes.Goals.{then-has_part, else-has_part}
 

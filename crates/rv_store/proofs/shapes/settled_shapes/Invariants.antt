@@ -1,14 +1,14 @@
 use Rattle.std.proofs.Common.{◌≡◌, ◌+◌, ◌*◌, ◌≤◌, false, length}
 use Rattle.rv_layout.specs.Places.{AreLimited}
 use Rattle.rv_layout.specs.Shapes.{size_operands}
-use Rattle.rv_store.specs.Before.{base_before, lines_before, edit_on}
-use Rattle.rv_store.specs.Changes.{program_after}
-use Rattle.rv_store.specs.FormerShapes.{former_shapes, shapes_through}
-use Rattle.rv_store.specs.Layout.{shape_at}
-use Rattle.rv_store.specs.NewShapes.{shape_operands_through}
-use Rattle.rv_store.specs.Program.{program_of, for_lines}
-use Rattle.rv_store.specs.Rows.{AreConstants}
-use Rattle.rv_store.specs.Work.{equ_operands, operands_through, work}
+use Rattle.rv_program.specs.internal.Before.{base_before, lines_before, edit_on}
+use Rattle.rv_program.specs.Changes.{program_after}
+use Rattle.rv_store.specs.internal.FormerShapes.{former_shapes, shapes_through}
+use Rattle.rv_program.specs.Layout.{shape_at}
+use Rattle.rv_program.specs.internal.NewShapes.{shape_operands_through}
+use Rattle.rv_program.specs.Program.{program_of, for_lines}
+use Rattle.rv_program.specs.internal.Rows.{AreConstants}
+use Rattle.rv_program.specs.internal.Work.{equ_operands, operands_through, work}
 use Rattle.rv_store.proofs.shapes.settled_shapes.Given as goal
 
 -- the rows hold what the lines so far give

@@ -2,15 +2,15 @@ use Rattle.std.proofs.Common.{◌≡◌, ◌+◌, None, arith, ap, sym, subst, �
 use Rattle.rv_stmt.specs.Statement.{statement_of}
 use Rattle.rv_layout.specs.Places.{IsLimited}
 use Rattle.rv_layout.specs.Shapes.{size_operands}
-use Rattle.rv_store.specs.Before.{base_before, lines_before, edit_on}
-use Rattle.rv_store.specs.FormerShapes.{shape_or}
-use Rattle.rv_store.specs.Layout.{shape_at}
-use Rattle.rv_store.specs.Program.{program_of}
-use Rattle.rv_store.specs.Rows.{in_row}
-use Rattle.rv_store.proofs.KeptShapes.{constants-on, body-on, shape-on, shape-stays, constant-invalidates, work-on}
-use Rattle.rv_store.proofs.NewShapes.{through-new, through-stood}
+use Rattle.rv_program.specs.internal.Before.{base_before, lines_before, edit_on}
+use Rattle.rv_store.specs.internal.FormerShapes.{shape_or}
+use Rattle.rv_program.specs.Layout.{shape_at}
+use Rattle.rv_program.specs.Program.{program_of}
+use Rattle.rv_program.specs.internal.Rows.{in_row}
+use Rattle.rv_program.specs.lemmas.KeptShapes.{constants-on, body-on, shape-on, shape-stays, constant-invalidates, work-on}
+use Rattle.rv_program.specs.lemmas.NewShapeLaws.{through-new, through-stood}
 use Rattle.rv_store.proofs.ShapeRows.{limited-on}
-use Rattle.rv_store.proofs.WorkLaws.{work-up}
+use Rattle.rv_program.specs.lemmas.WorkLaws.{work-up}
 use Rattle.rv_store.proofs.shapes.shape_after.Goals as goal
 
 pub returns-in_default-clause-shape : goal.returns-in_default-clause-shape

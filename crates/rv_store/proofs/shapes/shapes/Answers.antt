@@ -1,6 +1,6 @@
 use Rattle.std.proofs.Common.{length, arith, ap}
-use Rattle.rv_store.specs.Before.{base_before, lines_before, edit_on}
-use Rattle.rv_store.proofs.ShapeWork.{nothing-shaped}
+use Rattle.rv_program.specs.internal.Before.{base_before, lines_before, edit_on}
+use Rattle.rv_program.specs.lemmas.ShapeWork.{nothing-shaped}
 use Rattle.rv_store.proofs.shapes.shapes.Goals as goal
 
 pub returns-clause-work : goal.returns-clause-work

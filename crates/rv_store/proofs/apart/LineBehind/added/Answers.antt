@@ -3,9 +3,9 @@ use Rattle.std.specs.List.{list_any}
 use Rattle.std.proofs.lemmas.Bool.{and_parts}
 use Rattle.rv_stmt.specs.Statement.{statement_of}
 use Rattle.rv_list.specs.declared.view.DefinitionPlace.TheVariants.{Nowhere}
-use Rattle.rv_store.specs.Definitions.{defines_symbol, place_in_body, place_in_statement, is_defined}
-use Rattle.rv_store.specs.NameSets.{Has}
-use Rattle.rv_store.specs.Rows.{in_row}
+use Rattle.rv_program.specs.Definitions.{defines_symbol, place_in_body, place_in_statement, is_defined}
+use Rattle.rv_program.specs.internal.NameSets.{Has}
+use Rattle.rv_program.specs.internal.Rows.{in_row}
 use Rattle.rv_store.proofs.ApartLines.{statement-defines}
 use Rattle.rv_store.proofs.apart.LineBehind.added.Goals as goal
 

@@ -1,8 +1,8 @@
 use Rattle.std.proofs.Common.{◌≡◌, Bool, List, ℕ, drop, arith, ap, sym, ◌∙◌}
 use Rattle.std.specs.List.{list_any}
 use Rattle.rv_stmt.specs.Statement.{statement_of}
-use Rattle.rv_store.specs.Apart.{added_by}
-use Rattle.rv_store.specs.Uses.{names_used}
+use Rattle.rv_store.specs.internal.Apart.{added_by}
+use Rattle.rv_program.specs.Uses.{names_used}
 use Rattle.rv_store.proofs.apart.LineBehind.is_used.Goals as goal
 
 -- the first line was looked at too

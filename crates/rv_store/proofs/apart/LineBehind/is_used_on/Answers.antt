@@ -1,9 +1,9 @@
 use Rattle.std.proofs.Common.{◌≡◌, ◌⊎◌, inl, inr, ℕ, List, Bool, true, false, refl, ap, sym, ◌∙◌}
 use Rattle.rv_stmt.specs.Statement.{statement_of}
-use Rattle.rv_store.specs.Apart.{added_by}
-use Rattle.rv_store.specs.NameSets.{bucket_of, brief_of_names, has_bucket, may_have}
-use Rattle.rv_store.specs.Uses.{names_used}
-use Rattle.rv_store.proofs.NameSets.{none-passes}
+use Rattle.rv_store.specs.internal.Apart.{added_by}
+use Rattle.rv_program.specs.internal.NameSets.{bucket_of, brief_of_names, has_bucket, may_have}
+use Rattle.rv_program.specs.Uses.{names_used}
+use Rattle.rv_program.specs.lemmas.NameSetLaws.{none-passes}
 use Rattle.rv_store.proofs.apart.LineBehind.is_used_on.Goals as goal
 
 pub returns-else-meets : goal.returns-else-meets

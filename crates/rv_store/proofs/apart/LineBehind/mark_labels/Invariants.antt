@@ -1,8 +1,8 @@
 use Rattle.std.proofs.Common.{◌≡◌, ℕ, List, true, length, ◌⊎◌}
 use Rattle.std.specs.List.{list_any}
-use Rattle.rv_store.specs.Apart.{added_by}
-use Rattle.rv_store.specs.Definitions.{defines_symbol}
-use Rattle.rv_store.specs.NameSets.{Has}
+use Rattle.rv_store.specs.internal.Apart.{added_by}
+use Rattle.rv_program.specs.Definitions.{defines_symbol}
+use Rattle.rv_program.specs.internal.NameSets.{Has}
 use Rattle.rv_store.proofs.apart.LineBehind.mark_labels.Given as goal
 
 -- the set has the symbols of the labels that were gone past

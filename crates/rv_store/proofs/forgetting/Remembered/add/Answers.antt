@@ -1,9 +1,9 @@
 use Rattle.std.proofs.Common.{◌≡◌, [], ◌∷◌, ◌++◌, None, Err, ap, sym, ◌∙◌}
 use Rattle.rv_expr.specs.declared.faults.ValueFault.TheVariants.{LaterEqu}
 use Rattle.rv_list.specs.declared.view.DefinitionPlace.TheVariants.{Nowhere}
-use Rattle.rv_store.specs.Definitions.{is_defined}
-use Rattle.rv_store.specs.Rows.{number_of, in_row}
-use Rattle.rv_store.proofs.NameRows.{row-at}
+use Rattle.rv_program.specs.Definitions.{is_defined}
+use Rattle.rv_program.specs.internal.Rows.{number_of, in_row}
+use Rattle.rv_program.specs.lemmas.NameRows.{row-at}
 use Rattle.rv_store.proofs.RememberedNames.{name-new, remembered-passed, remembered-added}
 use Rattle.rv_store.proofs.forgetting.Remembered.add.Goals as goal
 

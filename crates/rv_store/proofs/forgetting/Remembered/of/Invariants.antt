@@ -1,4 +1,4 @@
-use Rattle.rv_store.specs.Forgetting.{AreRemembered}
+use Rattle.rv_store.specs.internal.Forgetting.{AreRemembered}
 use Rattle.rv_store.proofs.forgetting.Remembered.of.Given as goal
 
 abbrev pub invariant-loop-number : goal.invariant-loop-number

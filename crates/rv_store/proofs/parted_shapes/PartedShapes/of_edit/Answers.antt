@@ -1,7 +1,7 @@
 use Rattle.std.proofs.Common.{◌-◌, drop, arith, ap, sym, subst, ◌∙◌}
-use Rattle.rv_store.specs.Column.{HasPlace}
-use Rattle.rv_store.specs.Edits.{edit_of}
-use Rattle.rv_store.specs.FormerShapes.{former_shapes}
+use Rattle.rv_store.specs.internal.Column.{HasPlace}
+use Rattle.rv_program.specs.Edits.{edit_of}
+use Rattle.rv_store.specs.internal.FormerShapes.{former_shapes}
 use Rattle.rv_store.proofs.PartedShapes.{rest-removed, rest-set}
 use Rattle.rv_store.proofs.parted_shapes.PartedShapes.of_edit.Goals as goal
 

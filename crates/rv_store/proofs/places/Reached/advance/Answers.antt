@@ -1,6 +1,6 @@
 use Rattle.std.proofs.Common.{◌≡◌, rules, length, ap, sym, ◌∙◌}
 use Rattle.rv_layout.specs.Sections.{sections}
-use Rattle.rv_store.specs.Ends.{ends_after, ends_at}
+use Rattle.rv_store.specs.internal.Ends.{ends_after, ends_at}
 use Rattle.rv_store.proofs.EndLaws.{bytes-on, no-bytes-on}
 use Rattle.rv_store.proofs.places.Reached.advance.Goals as goal
 

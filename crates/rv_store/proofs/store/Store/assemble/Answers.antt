@@ -1,13 +1,13 @@
 use Rattle.std.proofs.Common.{◌≡◌, ℕ, List, None, map, arith, ap, sym, subst, ◌∙◌, refl}
 use Rattle.std.specs.List.{AllPass}
-use Rattle.rv_store.specs.Edits.{edit_of, edit_of_read}
-use Rattle.rv_store.specs.Former.{AreFormer}
-use Rattle.rv_store.specs.Items.{AreItems}
-use Rattle.rv_store.specs.Program.{program_of}
-use Rattle.rv_store.specs.Surveys.{IsSurvey}
-use Rattle.rv_store.specs.Text.{is_line, refusal_of, lines_after}
+use Rattle.rv_program.specs.Edits.{edit_of, edit_of_read}
+use Rattle.rv_program.specs.internal.Former.{AreFormer}
+use Rattle.rv_program.specs.internal.Items.{AreItems}
+use Rattle.rv_program.specs.Program.{program_of}
+use Rattle.rv_store.specs.internal.Surveys.{IsSurvey}
+use Rattle.rv_program.specs.Text.{is_line, refusal_of, lines_after}
 use Rattle.rv_store.proofs.EditRefusals.{lined_after, few_after}
-use Rattle.rv_store.proofs.ShapeWork.{nothing-counted}
+use Rattle.rv_program.specs.lemmas.ShapeWork.{nothing-counted}
 use Rattle.rv_store.proofs.Stores.{survey_grown}
 use Rattle.rv_store.proofs.store.Store.assemble.Goals as goal
 

@@ -1,7 +1,7 @@
 use Rattle.std.proofs.Common.{◌≡◌, ap, ◌∙◌, length, map}
 use Rattle.std.specs.Option.{option_map}
-use Rattle.rv_store.specs.Codes.{code_at}
-use Rattle.rv_store.specs.Program.{program_of, for_lines}
+use Rattle.rv_program.specs.Codes.{code_at}
+use Rattle.rv_program.specs.Program.{program_of, for_lines}
 use Rattle.rv_store.proofs.Stores.{part_at_line}
 use Rattle.rv_store.proofs.store.Store.coded.Goals as goal
 

@@ -1,8 +1,8 @@
 use Rattle.std.proofs.Common.{◌≡◌, ap, sym, subst, ◌∙◌, map, None}
-use Rattle.rv_store.specs.Edits.{edit_of_read}
-use Rattle.rv_store.specs.Former.{AreFormer}
-use Rattle.rv_store.specs.Items.{AreItems}
-use Rattle.rv_store.specs.Text.{Insert, Delete, Replace, refusal_of, lines_after}
+use Rattle.rv_program.specs.Edits.{edit_of_read}
+use Rattle.rv_program.specs.internal.Former.{AreFormer}
+use Rattle.rv_program.specs.internal.Items.{AreItems}
+use Rattle.rv_program.specs.Text.{Insert, Delete, Replace, refusal_of, lines_after}
 use Rattle.rv_store.proofs.FormerItems.{lines-inserted, lines-deleted, lines-replaced, former-inserted, former-deleted, former-replaced}
 use Rattle.rv_store.proofs.store.Store.edited.Goals as goal
 

@@ -2,10 +2,10 @@ use Rattle.std.proofs.Common.{◌≡◌, ◌-◌, ℕ, List, length, arith, ap, 
 use Rattle.std.proofs.lemmas.List.{length-map}
 use Rattle.rv_stmt.specs.Statement.{statement_of}
 use Rattle.rv_layout.specs.Shapes.{shape_of}
-use Rattle.rv_store.specs.Constants.{constant_through}
-use Rattle.rv_store.specs.Program.{program_of}
-use Rattle.rv_store.proofs.EarlierLines.{insert_within}
-use Rattle.rv_store.proofs.Programs.{length-program}
+use Rattle.rv_program.specs.Constants.{constant_through}
+use Rattle.rv_program.specs.Program.{program_of}
+use Rattle.rv_program.specs.lemmas.EarlierLines.{insert_within}
+use Rattle.rv_program.specs.lemmas.Programs.{length-program}
 use Rattle.rv_store.proofs.store.Store.ending.Goals as goal
 
 pub apart_ending-requires-clause-shape : goal.apart_ending-requires-clause-shape

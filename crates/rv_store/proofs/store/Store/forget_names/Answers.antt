@@ -1,5 +1,5 @@
 use Rattle.std.proofs.Common.{length, map}
-use Rattle.rv_store.specs.Program.{Program, program_of}
+use Rattle.rv_program.specs.Program.{Program, program_of}
 use Rattle.rv_store.proofs.RememberedNames.{definitions-remembered, constants-remembered, equ_values-remembered}
 use Rattle.rv_store.proofs.store.Store.forget_names.Goals as goal
 

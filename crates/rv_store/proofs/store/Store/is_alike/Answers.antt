@@ -1,7 +1,7 @@
 use Rattle.std.proofs.Common.{◌≡◌, ap, ◌∙◌}
-use Rattle.rv_store.specs.Program.{program_of}
-use Rattle.rv_store.specs.Rows.{AreShapes}
-use Rattle.rv_store.proofs.TextLines.{statement_of_line, shape_of_line}
+use Rattle.rv_program.specs.Program.{program_of}
+use Rattle.rv_program.specs.internal.Rows.{AreShapes}
+use Rattle.rv_program.specs.lemmas.TextLines.{statement_of_line, shape_of_line}
 use Rattle.rv_store.proofs.store.Store.is_alike.Goals as goal
 
 pub returns : goal.returns

@@ -1,7 +1,7 @@
 use Rattle.std.proofs.Common.{arith, ap}
-use Rattle.rv_store.specs.Edits.{edit_of}
-use Rattle.rv_store.specs.NewShapes.{shape_operands}
-use Rattle.rv_store.proofs.ShapeWork.{nothing-counted}
+use Rattle.rv_program.specs.Edits.{edit_of}
+use Rattle.rv_program.specs.internal.NewShapes.{shape_operands}
+use Rattle.rv_program.specs.lemmas.ShapeWork.{nothing-counted}
 use Rattle.rv_store.proofs.store.Store.make.Goals as goal
 
 pub returns-in_err-share-in-Some-clause-values : goal.returns-in_err-share-in-Some-clause-values

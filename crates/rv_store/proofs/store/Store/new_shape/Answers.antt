@@ -1,6 +1,6 @@
 use Rattle.std.proofs.Common.{length, sym, subst}
-use Rattle.rv_store.specs.Program.{program_of}
-use Rattle.rv_store.specs.Rows.{AreConstants}
+use Rattle.rv_program.specs.Program.{program_of}
+use Rattle.rv_program.specs.internal.Rows.{AreConstants}
 use Rattle.rv_store.proofs.store.Store.new_shape.Goals as goal
 
 pub new_shape-requires-clause-constants : goal.new_shape-requires-clause-constants

@@ -1,7 +1,7 @@
 use Rattle.std.proofs.Common.{◌≡◌, ◌≤◌, length, map, arith, ◌∙◌}
-use Rattle.rv_store.specs.Program.{program_of}
-use Rattle.rv_store.specs.Rows.{ArePlaces}
-use Rattle.rv_store.proofs.TextLines.{length_of_places, place_of_line}
+use Rattle.rv_program.specs.Program.{program_of}
+use Rattle.rv_program.specs.internal.Rows.{ArePlaces}
+use Rattle.rv_program.specs.lemmas.TextLines.{length_of_places, place_of_line}
 use Rattle.rv_store.proofs.store.Store.place.Goals as goal
 
 pub index-requires : goal.index-requires

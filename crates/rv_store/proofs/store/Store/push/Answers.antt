@@ -1,11 +1,11 @@
 use Rattle.std.proofs.Common.{◌≡◌, ◌≤◌, ◌+◌, List, [], ◌∷◌, ℕ, None, length, arith, ap, sym, subst, ◌∙◌, refl}
 use Rattle.std.specs.List.{AllPass}
 use Rattle.rv_stmt.specs.Statement.{statement_of}
-use Rattle.rv_store.specs.Appended.{IsEnding, BeginAs}
-use Rattle.rv_store.specs.Items.{AreItems}
-use Rattle.rv_store.specs.Program.{program_of}
-use Rattle.rv_store.specs.Surveys.{IsSurvey}
-use Rattle.rv_store.specs.Text.{Insert, is_line, refusal_of}
+use Rattle.rv_store.specs.internal.Appended.{IsEnding, BeginAs}
+use Rattle.rv_program.specs.internal.Items.{AreItems}
+use Rattle.rv_program.specs.Program.{program_of}
+use Rattle.rv_store.specs.internal.Surveys.{IsSurvey}
+use Rattle.rv_program.specs.Text.{Insert, is_line, refusal_of}
 use Rattle.rv_store.proofs.AppendTexts.{symbols-same, survey-back, items-added, lines-end, one_changed, values-enough, codes-enough}
 use Rattle.rv_store.proofs.EditRefusals.{lined_after, few_after}
 use Rattle.rv_store.proofs.store.Store.push.Goals as goal

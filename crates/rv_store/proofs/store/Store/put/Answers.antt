@@ -5,20 +5,20 @@ use Rattle.rv_stmt.specs.Statement.{statement_of}
 use Rattle.rv_layout.specs.declared.measured.Measured.{Measured}
 use Rattle.rv_layout.specs.Places.{AreLimited}
 use Rattle.rv_layout.specs.Shapes.{shape_of, size_operands}
-use Rattle.rv_store.specs.Alike.{IsAlike}
-use Rattle.rv_store.specs.Constants.{constant_of}
-use Rattle.rv_store.specs.Ends.{ends_of}
-use Rattle.rv_store.specs.Items.{AreItems}
-use Rattle.rv_store.specs.Program.{program_of, body_at}
-use Rattle.rv_store.specs.Surveys.{IsSurvey}
-use Rattle.rv_store.specs.Text.{Replace, is_line, refusal_of}
-use Rattle.rv_store.specs.Work.{value_operands}
+use Rattle.rv_store.specs.internal.Alike.{IsAlike}
+use Rattle.rv_program.specs.Constants.{constant_of}
+use Rattle.rv_store.specs.internal.Ends.{ends_of}
+use Rattle.rv_program.specs.internal.Items.{AreItems}
+use Rattle.rv_program.specs.Program.{program_of, body_at}
+use Rattle.rv_store.specs.internal.Surveys.{IsSurvey}
+use Rattle.rv_program.specs.Text.{Replace, is_line, refusal_of}
+use Rattle.rv_program.specs.internal.Work.{value_operands}
 use Rattle.rv_store.proofs.AlikeTexts.{set-back, Stays, survey-stays, items-put, one_changed, values-enough, codes-enough}
-use Rattle.rv_store.proofs.EarlierLines.{replace_within}
+use Rattle.rv_program.specs.lemmas.EarlierLines.{replace_within}
 use Rattle.rv_store.proofs.EditRefusals.{lined_after, few_after}
 use Rattle.rv_store.proofs.FormerItems.{lines-replaced}
-use Rattle.rv_store.proofs.NewShapes.{replaced}
-use Rattle.rv_store.proofs.ShapeWork.{nothing-counted}
+use Rattle.rv_program.specs.lemmas.NewShapeLaws.{replaced}
+use Rattle.rv_program.specs.lemmas.ShapeWork.{nothing-counted}
 use Rattle.rv_store.proofs.store.Store.put.Goals as goal
 
 pub item_replaced-requires-clause-survey : goal.item_replaced-requires-clause-survey

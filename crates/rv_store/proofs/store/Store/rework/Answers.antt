@@ -1,7 +1,7 @@
 use Rattle.std.proofs.Common.{arith, subst}
-use Rattle.rv_store.specs.Edits.{edit_of}
-use Rattle.rv_store.specs.Former.{AreFormer}
-use Rattle.rv_store.proofs.ShapeWork.{nothing-counted}
+use Rattle.rv_program.specs.Edits.{edit_of}
+use Rattle.rv_program.specs.internal.Former.{AreFormer}
+use Rattle.rv_program.specs.lemmas.ShapeWork.{nothing-counted}
 use Rattle.rv_store.proofs.store.Store.rework.Goals as goal
 
 pub assemble-requires-clause-former : goal.assemble-requires-clause-former

@@ -1,6 +1,6 @@
 use Rattle.std.proofs.Common.{sym, ◌∙◌}
-use Rattle.rv_store.specs.Program.{program_of}
-use Rattle.rv_store.specs.Rows.{ArePlaces}
+use Rattle.rv_program.specs.Program.{program_of}
+use Rattle.rv_program.specs.internal.Rows.{ArePlaces}
 use Rattle.rv_store.proofs.SymbolLaws.{symbol-nowhere, symbol-label, symbol-equ}
 use Rattle.rv_store.proofs.store.Store.symbol.Goals as goal
 

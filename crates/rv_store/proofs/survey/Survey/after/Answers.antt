@@ -1,15 +1,15 @@
 use Rattle.std.proofs.Common.{◌≤◌, ◌+◌, length, ap, sym, subst, ◌∙◌, arith}
 use Rattle.rv_layout.specs.Places.{AreLimited}
-use Rattle.rv_store.specs.Before.{base_before, lines_before, edit_on}
-use Rattle.rv_store.specs.Edits.{edit_of}
-use Rattle.rv_store.specs.Ends.{ends_of, place_by_shapes}
-use Rattle.rv_store.specs.NewShapes.{IsNewShape, shape_operands}
-use Rattle.rv_store.specs.Program.{program_of, for_lines}
-use Rattle.rv_store.specs.Work.{equ_operands, constant_operands, high_operands, operands_through, work}
+use Rattle.rv_program.specs.internal.Before.{base_before, lines_before, edit_on}
+use Rattle.rv_program.specs.Edits.{edit_of}
+use Rattle.rv_store.specs.internal.Ends.{ends_of, place_by_shapes}
+use Rattle.rv_program.specs.internal.NewShapes.{IsNewShape, shape_operands}
+use Rattle.rv_program.specs.Program.{program_of, for_lines}
+use Rattle.rv_program.specs.internal.Work.{equ_operands, constant_operands, high_operands, operands_through, work}
 use Rattle.rv_store.proofs.Columns.{has_place}
 use Rattle.rv_store.proofs.Stores.{survey_grown}
-use Rattle.rv_store.proofs.SurveyWork.{survey_counted}
-use Rattle.rv_store.proofs.ShapeWork.{nothing-surveyed}
+use Rattle.rv_program.specs.lemmas.SurveyWork.{survey_counted}
+use Rattle.rv_program.specs.lemmas.ShapeWork.{nothing-surveyed}
 use Rattle.rv_store.proofs.Surveys.{length_of_shapes, unplaced}
 use Rattle.rv_store.proofs.survey.Survey.after.Goals as goal
 

@@ -1,7 +1,7 @@
 use Rattle.std.proofs.Common.{◌∙◌}
-use Rattle.rv_store.specs.Before.{base_before}
-use Rattle.rv_store.specs.Program.{program_of}
-use Rattle.rv_store.proofs.Programs.{length-program}
+use Rattle.rv_program.specs.internal.Before.{base_before}
+use Rattle.rv_program.specs.Program.{program_of}
+use Rattle.rv_program.specs.lemmas.Programs.{length-program}
 use Rattle.rv_store.proofs.Surveys.{placed}
 use Rattle.rv_store.proofs.survey.Survey.by_rows.Goals as goal
 

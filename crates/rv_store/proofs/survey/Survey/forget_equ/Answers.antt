@@ -1,8 +1,8 @@
 use Rattle.std.proofs.Common.{◌≡◌, suc, length, arith, ap, sym, ◌∙◌, refl}
 use Rattle.rv_list.specs.declared.view.DefinitionPlace.TheVariants.{Nowhere}
 use Rattle.rv_stmt.specs.Statement.{statement_of}
-use Rattle.rv_store.specs.Definitions.{is_equ_on}
-use Rattle.rv_store.specs.Rows.{in_row}
+use Rattle.rv_program.specs.Definitions.{is_equ_on}
+use Rattle.rv_program.specs.internal.Rows.{in_row}
 use Rattle.rv_store.proofs.LastDefinitions.{equ-unwritten, equ-forgotten}
 use Rattle.rv_store.proofs.survey.Survey.forget_equ.Goals as goal
 

@@ -3,9 +3,9 @@ use Rattle.std.proofs.Math.ListN.{drop_of_length-le}
 use Rattle.std.proofs.Math.Seq.{take-append_seam}
 use Rattle.std.proofs.lemmas.List.{take_all}
 use Rattle.rv_list.specs.declared.view.DefinitionPlace.TheVariants.{Nowhere}
-use Rattle.rv_store.specs.MovedDefinitions.{kept_after}
-use Rattle.rv_store.specs.Rows.{in_row}
-use Rattle.rv_store.specs.Text.{Delete}
+use Rattle.rv_program.specs.internal.MovedDefinitions.{kept_after}
+use Rattle.rv_program.specs.internal.Rows.{in_row}
+use Rattle.rv_program.specs.Text.{Delete}
 use Rattle.rv_store.proofs.LastDefinitions.{symbols-forgotten}
 use Rattle.rv_store.proofs.LongerTexts.{count-longer}
 use Rattle.rv_store.proofs.survey.Survey.forget_last.Goals as goal

@@ -1,8 +1,8 @@
 use Rattle.std.proofs.Common.{◌≡◌, length, None, Err, vec_len, arith, ap, ◌∙◌}
 use Rattle.rv_expr.specs.declared.faults.ValueFault.TheVariants.{LaterEqu}
 use Rattle.rv_list.specs.declared.view.DefinitionPlace.TheVariants.{Nowhere}
-use Rattle.rv_store.specs.Rows.{in_row}
-use Rattle.rv_store.proofs.NameRows.{row-placed}
+use Rattle.rv_program.specs.internal.Rows.{in_row}
+use Rattle.rv_program.specs.lemmas.NameRows.{row-placed}
 use Rattle.rv_store.proofs.survey.Survey.lengthen_rows.Goals as goal
 
 pub returns-in_err-resize-clause-symbols : goal.returns-in_err-resize-clause-symbols

@@ -1,7 +1,7 @@
 use Rattle.std.proofs.Common.{◌^◌, ◌≤◌, ap, sym, subst, ◌∙◌}
 use Rattle.rv_layout.specs.Places.{sum_below}
 use Rattle.rv_layout.specs.Sections.{sections}
-use Rattle.rv_store.specs.Ends.{end_in, base_by_ends}
+use Rattle.rv_store.specs.internal.Ends.{end_in, base_by_ends}
 use Rattle.rv_store.proofs.EndBases.{end-is, ends-together, base-ends}
 use Rattle.rv_store.proofs.survey.Survey.section.Goals as goal
 

@@ -1,6 +1,6 @@
 use Rattle.std.proofs.Common.{◌≡◌, ◌+◌, ◌-◌, length, arith, sym, subst, ◌∙◌}
-use Rattle.rv_store.specs.Program.{program_of}
-use Rattle.rv_store.specs.Rows.{AreConstants, AreEquValues}
+use Rattle.rv_program.specs.Program.{program_of}
+use Rattle.rv_program.specs.internal.Rows.{AreConstants, AreEquValues}
 use Rattle.rv_store.proofs.survey.Survey.settle_last.Goals as goal
 
 pub settle_constant-requires-clause-before : goal.settle_constant-requires-clause-before

@@ -1,4 +1,4 @@
-use Rattle.rv_store.proofs.Programs.{length-program}
+use Rattle.rv_program.specs.lemmas.Programs.{length-program}
 use Rattle.rv_store.proofs.survey.Survey.symbols.Goals as goal
 
 pub returns-clause-rows : goal.returns-clause-rows

@@ -2,12 +2,12 @@ use Rattle.std.proofs.Common.{◌≡◌, ℕ, suc, ◌-◌, false, List, [], ◌
 use Rattle.rv_list.specs.declared.view.DefinitionPlace.TheVariants.{Nowhere}
 use Rattle.rv_stmt.specs.Statement.{statement_of}
 use Rattle.rv_store.specs.declared.survey.Survey.{Survey}
-use Rattle.rv_store.specs.Appended.{AreSymbols, IsUnsettled}
-use Rattle.rv_store.specs.Defining.{also_on, Holds, HoldsPart}
-use Rattle.rv_store.specs.Definitions.{place_in_statement}
-use Rattle.rv_store.specs.Program.{program_of}
-use Rattle.rv_store.specs.Rows.{in_row, Grows}
-use Rattle.rv_store.specs.Uses.{is_equ}
+use Rattle.rv_store.specs.internal.Appended.{AreSymbols, IsUnsettled}
+use Rattle.rv_program.specs.internal.Defining.{also_on, Holds, HoldsPart}
+use Rattle.rv_program.specs.Definitions.{place_in_statement}
+use Rattle.rv_program.specs.Program.{program_of}
+use Rattle.rv_program.specs.internal.Rows.{in_row, Grows}
+use Rattle.rv_program.specs.Uses.{is_equ}
 use Rattle.rv_store.proofs.LastDefinitions.{in_part-waiting, in_part-all, in_part-written, symbols-no_equ, symbols-written, of-all, all-of}
 use Rattle.rv_store.proofs.LongerTexts.{count-longer}
 use Rattle.rv_store.proofs.survey.Survey.write_last.Goals as goal

@@ -1,5 +1,5 @@
 use Rattle.std.proofs.Common.{map, sym, ◌∙◌}
-use Rattle.rv_store.specs.Program.{program_of}
+use Rattle.rv_program.specs.Program.{program_of}
 use Rattle.rv_store.proofs.SymbolLaws.{equ-in_row}
 use Rattle.rv_store.proofs.store.shown.RefStoreView.value.Goals as goal
 

@@ -1,7 +1,7 @@
 use Rattle.std.proofs.Common.{◌≡◌, ◌≤◌, ◌-◌, [], get_or, arith, ap, sym, ◌∙◌}
 use Rattle.std.proofs.lemmas.List.{get_or-map}
 use Rattle.rv_stmt.specs.Statement.{statement_of}
-use Rattle.rv_store.specs.Program.{program_of, no_statement, statement_at}
+use Rattle.rv_program.specs.Program.{program_of, no_statement, statement_at}
 use Rattle.rv_store.proofs.ShownLines.{same_line}
 use Rattle.rv_store.proofs.store.shown.StoreLinesLineSource.line.Goals as goal
 

@@ -2,10 +2,10 @@ use Rattle.std.proofs.Common.{◌≡◌, ◌≤◌, ◌-◌, ◌==◌, not, is_s
 use Rattle.std.proofs.lemmas.Bool.{or_parts}
 use Rattle.std.proofs.lemmas.List.{get_or-map}
 use Rattle.rv_stmt.specs.Statement.{statement_of}
-use Rattle.rv_store.specs.Passed.{is_loud, may_be_misplaced}
-use Rattle.rv_store.specs.Program.{no_statement}
+use Rattle.rv_store.specs.internal.Passed.{is_loud, may_be_misplaced}
+use Rattle.rv_program.specs.Program.{no_statement}
 use Rattle.rv_store.specs.Shown.{shown_of, shown_line_at}
-use Rattle.rv_store.specs.Uses.{is_equ}
+use Rattle.rv_program.specs.Uses.{is_equ}
 use Rattle.rv_store.proofs.QuietLines.{quiet-line}
 use Rattle.rv_store.proofs.store.shown.StoreLinesTestedLines.may_have_faults.Goals as goal
 

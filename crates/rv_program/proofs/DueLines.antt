@@ -1,0 +1,201 @@
+-- Which lines are due after an edit, and the row of those lines.
+use Rattle.std.proofs.Common.{◌≡◌, ℕ, ℤ, suc, ◌+◌, ◌≤◌, Bool, true, false, not, ◌&&◌, ◌||◌, List, [], ◌∷◌, ◌++◌, length, map, if◌then◌else◌, Option, Some, None, is_some, Ok, arith, ap, subst, sym, ◌∙◌, refl}
+use Rattle.std.specs.List.{list_any}
+use Rattle.std.proofs.lemmas.Bool.{not_from_true, or_left, or_right, or_from}
+use Rattle.std.proofs.lemmas.List.{append-nil}
+use Rattle.rv_stmt.specs.declared.directive.Definition.{Definition}
+use Rattle.rv_expr.specs.Tree as Tree
+use Rattle.rv_expr.specs.Value.{Environment, value_of}
+use Rattle.rv_stmt.specs.declared.operand.Operand.{Operand}
+use Rattle.rv_stmt.specs.declared.operand.OperandValue.{OperandValue}
+use Rattle.rv_stmt.specs.declared.operand.OperandValue.TheVariants.{Plain}
+use Rattle.rv_stmt.specs.declared.operand.Role.{Role}
+use Rattle.rv_stmt.specs.declared.operand.Role.TheVariants.{Target, PairTarget}
+use Rattle.rv_stmt.specs.declared.statement.Body.{Body}
+use Rattle.rv_stmt.specs.declared.statement.Body.TheVariants as body
+use Rattle.rv_stmt.specs.declared.statement.Body.TheVariants.{Equ}
+use Rattle.rv_stmt.specs.Readings.{and_then}
+use Rattle.rv_layout.specs.declared.measured.Measured.TheVariants.{Bytes}
+use Rattle.rv_layout.specs.Shapes.{constants, is_size, shape_of_instructions, shape_of}
+use Rattle.rv_fix.specs.Values.{Entry, given_to, operand_value, counted_from, entry_of}
+use Rattle.rv_program.specs.declared.before.Before.{Before}
+use Rattle.rv_program.specs.declared.text_rows.TextRows.{TextRows}
+use Rattle.rv_program.specs.internal.Before.{IsAfter, base_before, lines_before, edit_on}
+use Rattle.rv_program.specs.declared.line_values.LineValues.TheVariants.{Operands}
+use Rattle.rv_program.specs.Changes.{program_after, is_new_or, differs_in_values, is_invalidated, is_reencoded, is_compared, is_due}
+use Rattle.rv_program.specs.Codes.{values_of_body, values_by_shape, values_at}
+use Rattle.rv_program.specs.Constants.{constant_of}
+use Rattle.rv_program.specs.Edits.{line_before_edit}
+use Rattle.rv_program.specs.Jumps.{label_in, target_in, target_among, target_of, distance}
+use Rattle.rv_program.specs.Layout.{shape_at, address_at}
+use Rattle.rv_program.specs.Pairs.{names_at}
+use Rattle.rv_program.specs.Program.{Program, program_of, body_at, lines_that}
+use Rattle.rv_program.specs.Sameness.{same_entry, same_values}
+use Rattle.rv_program.specs.Text.{Edit, refusal_of, lines_after}
+use Rattle.rv_program.specs.internal.TextRows.{program_in}
+use Rattle.rv_program.specs.Uses.{is_equ}
+use Rattle.rv_program.proofs.ChangeLaws.{not_reencoded}
+use Rattle.rv_program.specs.lemmas.SamenessLaws.{same_shape-Decides}
+use Rattle.rv_program.specs.lemmas.UsedConstants.{no-size_operand}
+
+-- `.equ`s
+
+-- their shape is no fault, so they have the values of their bodies
+equ-values : (base : ℕ) (program : Program) (k : ℕ) (d : Definition) → body_at program k ≡ Equ d → values_at base program k ≡ values_of_body base program k (Equ d)
+equ-values base program k d is =
+    ap (λ b. values_by_shape (shape_of (constant_of program k) b) (values_of_body base program k b)) is
+
+equ-shape : (before after : Program) (k j : ℕ) (d : Definition) → body_at after k ≡ Equ d → body_at before j ≡ Equ d → shape_at after k ≡ shape_at before j
+equ-shape before after k j d here there =
+    ap (shape_of (constant_of after k)) here ∙ sym (ap (shape_of (constant_of before j)) there)
+
+no_more : (x : Bool) → (x || false) ≡ x
+no_more true = refl
+no_more false = refl
+
+equ-differs : (base : ℕ) (before after : Program) (k j : ℕ) (d : Definition) → body_at after k ≡ Equ d → body_at before j ≡ Equ d → not (same_values (values_of_body base after k (Equ d)) (values_of_body base before j (Equ d))) ≡ differs_in_values base before after k j
+equ-differs base before after k j d here there =
+    let values = not (same_values (values_at base after k) (values_at base before j)) in
+    let shape = not_from_true _ ((same_shape-Decides _ _).1 (equ-shape before after k j d here there)) in
+    (λ i. not (same_values (sym (equ-values base after k d here) i) (sym (equ-values base before j d there) i)))
+    ∙ sym (no_more values)
+    ∙ ap (λ b. values || b) (sym shape)
+
+-- one that stood somewhere is reencoded where its symbol has another value
+pub reencoded-by_symbol : (before : Before) (after : TextRows) (line stood : ℕ) (d : Definition) → IsAfter before after → line_before_edit (edit_on before) line ≡ Some stood → body_at (program_in after) line ≡ Equ d → body_at (program_in before.symbols.text) stood ≡ Equ d → not (same_values (values_of_body after.base (program_in after) line (Equ d)) (values_of_body (base_before before) (program_in before.symbols.text) stood (Equ d))) ≡ is_reencoded (base_before before) (lines_before before) (edit_on before) line
+reencoded-by_symbol before after line stood d is_after stands here there =
+    let edited = ap program_of is_after.lines in
+    (λ i. not (same_values (values_of_body (is_after.base i) (edited i) line (Equ d)) (values_of_body (base_before before) (program_in before.symbols.text) stood (Equ d))))
+    ∙ equ-differs (base_before before) (program_of (lines_before before)) (program_after (lines_before before) (edit_on before)) line stood d (sym (ap (λ p. body_at p line) edited) ∙ here) there
+    ∙ sym (ap (is_new_or (differs_in_values (base_before before) (program_of (lines_before before)) (program_after (lines_before before) (edit_on before)) line)) stands)
+
+-- Jumps
+
+pub none≢some : {A : Type 0} {x : A} {P : Type 0} → None ≡ Some x → P
+none≢some h = absurd (let no : None ≡ Some _ = h in cc)
+
+pub label-is : (e target : Tree.Tree) → label_in e ≡ Some target → e ≡ target
+label-is (Tree.Symbol name) target h = let same : Some (Tree.Symbol name) ≡ Some target = h in cc
+label-is (Tree.Local number direction) target h = let same : Some (Tree.Local number direction) ≡ Some target = h in cc
+label-is e target h = none≢some h
+
+target-entry : (given : Environment) (here : ℕ) (value : OperandValue) (role : Role) (target : Tree.Tree) → target_in value role ≡ Some target → and_then (operand_value (given_to role given) here value) (λ v. Ok (counted_from here role v)) ≡ distance here (value_of given target)
+target-entry given here (Plain e) Target target h = ap (λ t. distance here (value_of given t)) (label-is e target h)
+target-entry given here (Plain e) PairTarget target h = ap (λ t. distance here (value_of given t)) (label-is e target h)
+target-entry given here value role target h = none≢some h
+
+target-entries : (given : Environment) (here : ℕ) (os : List Operand) (target : Tree.Tree) → target_among os ≡ Some target → map (entry_of given here) os ≡ distance here (value_of given target) ∷ []
+target-entries given here [] target h = none≢some h
+target-entries given here (o ∷ []) target h = ap (λ e. e ∷ []) (target-entry given here o.value o.role target h)
+target-entries given here (o ∷ p ∷ os) target h = none≢some h
+
+-- what its target gives on line k
+abbrev pub target_value : (base : ℕ) → Program → (k : ℕ) → (target : Tree.Tree) → Entry
+target_value base program k target = value_of (names_at base program k) target
+
+jump-values : (base : ℕ) (program : Program) (k : ℕ) (b : Body) (target : Tree.Tree) → target_of b ≡ Some target → values_of_body base program k b ≡ Operands (distance (address_at base program k) (target_value base program k target) ∷ [])
+jump-values base program k (body.Instr i) target h = ap Operands (target-entries (names_at base program k) (address_at base program k) i.operands target h)
+jump-values base program k (body.Pseudo i) target h = ap Operands (target-entries (names_at base program k) (address_at base program k) i.operands target h)
+jump-values base program k b target h = none≢some h
+
+target-unsized : (value : OperandValue) (role : Role) (target : Tree.Tree) → target_in value role ≡ Some target → is_size role ≡ false
+target-unsized (Plain e) Target target h = refl
+target-unsized (Plain e) PairTarget target h = refl
+target-unsized value role target h = none≢some h
+
+targets-unsized : (os : List Operand) (target : Tree.Tree) → target_among os ≡ Some target → list_any (λ o. is_size o.role) os ≡ false
+targets-unsized [] target h = none≢some h
+targets-unsized (o ∷ []) target h = or_from (is_size o.role) false (target-unsized o.value o.role target h) refl
+targets-unsized (o ∷ p ∷ os) target h = none≢some h
+
+-- their shape follows from no constant, and is no fault
+jump-shape : (b : Body) (target : Tree.Tree) → target_of b ≡ Some target → (n : ℕ) × ((f : List ℕ → Option ℤ) → shape_of f b ≡ Bytes n)
+jump-shape (body.Instr i) target h =
+    (_, λ f. ap (shape_of_instructions (constants f) i) (no-size_operand i.operands (targets-unsized i.operands target h)))
+jump-shape (body.Pseudo i) target h =
+    (_, λ f. ap (shape_of_instructions (constants f) i) (no-size_operand i.operands (targets-unsized i.operands target h)))
+jump-shape b target h = none≢some h
+
+-- so they have the values of their bodies
+jump-values_at : (base : ℕ) (program : Program) (k : ℕ) (b : Body) (target : Tree.Tree) → body_at program k ≡ b → target_of b ≡ Some target → values_at base program k ≡ Operands (distance (address_at base program k) (target_value base program k target) ∷ [])
+jump-values_at base program k b target is h =
+    let shape : shape_at program k ≡ Bytes (jump-shape b target h).0 = ap (shape_of (constant_of program k)) is ∙ (jump-shape b target h).1 (constant_of program k) in
+    let values = ap (values_of_body base program k) is ∙ jump-values base program k b target h in
+    λ i. values_by_shape (shape i) (values i)
+
+and_no_more : (x : Bool) → (x && true) ≡ x
+and_no_more true = refl
+and_no_more false = refl
+
+jump-differs : (base : ℕ) (before after : Program) (k j : ℕ) (b : Body) (target : Tree.Tree) → body_at after k ≡ b → body_at before j ≡ b → target_of b ≡ Some target → not (same_entry (distance (address_at base after k) (target_value base after k target)) (distance (address_at base before j) (target_value base before j target))) ≡ differs_in_values base before after k j
+jump-differs base before after k j b target here there h =
+    let x = distance (address_at base after k) (target_value base after k target) in
+    let y = distance (address_at base before j) (target_value base before j target) in
+    let values = not (same_values (values_at base after k) (values_at base before j)) in
+    let n = jump-shape b target h in
+    let shape : shape_at after k ≡ shape_at before j =
+    ap (shape_of (constant_of after k)) here ∙ n.1 (constant_of after k) ∙ sym (ap (shape_of (constant_of before j)) there ∙ n.1 (constant_of before j)) in
+    let same = not_from_true _ ((same_shape-Decides _ _).1 shape) in
+    ap not (sym (and_no_more (same_entry x y)))
+    ∙ (λ i. not (same_values (sym (jump-values_at base after k b target here h) i) (sym (jump-values_at base before j b target there h) i)))
+    ∙ sym (no_more values)
+    ∙ ap (λ b. values || b) (sym same)
+
+-- one that stood somewhere is reencoded where its target is another distance from it
+pub reencoded-by_distance : (before : Before) (after : TextRows) (line stood : ℕ) (target : Tree.Tree) → IsAfter before after → line_before_edit (edit_on before) line ≡ Some stood → target_of (body_at (program_in after) line) ≡ Some target → body_at (program_in before.symbols.text) stood ≡ body_at (program_in after) line → not (same_entry (distance (address_at after.base (program_in after) line) (target_value after.base (program_in after) line target)) (distance (address_at (base_before before) (program_in before.symbols.text) stood) (target_value (base_before before) (program_in before.symbols.text) stood target))) ≡ is_reencoded (base_before before) (lines_before before) (edit_on before) line
+reencoded-by_distance before after line stood target is_after stands is_target there =
+    let edited = ap program_of is_after.lines in
+    let b = body_at (program_in after) line in
+    (λ i. not (same_entry (distance (address_at (is_after.base i) (edited i) line) (target_value (is_after.base i) (edited i) line target)) (distance (address_at (base_before before) (program_in before.symbols.text) stood) (target_value (base_before before) (program_in before.symbols.text) stood target))))
+    ∙ jump-differs (base_before before) (program_of (lines_before before)) (program_after (lines_before before) (edit_on before)) line stood b target (sym (ap (λ p. body_at p line) edited)) there is_target
+    ∙ sym (ap (is_new_or (differs_in_values (base_before before) (program_of (lines_before before)) (program_after (lines_before before) (edit_on before)) line)) stands)
+
+-- a jump is no `.equ`
+pub jump-open : (b : Body) (target : Tree.Tree) → target_of b ≡ Some target → is_equ b ≡ false
+jump-open (Equ d) target h = none≢some h
+jump-open b target h = refl
+
+-- Whether a line is due
+
+module _ (base : ℕ) (lines : List (List ℕ)) (edit : Edit) (k : ℕ) where
+  due-by : Bool → Bool
+  due-by compared = if compared then is_reencoded base lines edit k else is_invalidated base lines edit k
+
+  -- a line that is compared
+  pub due-equ : is_equ (body_at (program_after lines edit) k) ≡ true → is_reencoded base lines edit k ≡ is_due base lines edit k
+  unfolding due-by
+  due-equ equ = sym (ap due-by (or_left (is_equ (body_at (program_after lines edit) k)) (is_some (target_of (body_at (program_after lines edit) k))) equ))
+
+  pub due-jump : (target : Tree.Tree) → target_of (body_at (program_after lines edit) k) ≡ Some target → is_reencoded base lines edit k ≡ is_due base lines edit k
+  unfolding due-by
+  due-jump target goes = sym (ap due-by (or_right (is_equ (body_at (program_after lines edit) k)) (is_some (target_of (body_at (program_after lines edit) k))) (ap is_some goes)))
+
+  -- and one that is not
+  pub due-other : is_equ (body_at (program_after lines edit) k) ≡ false → target_of (body_at (program_after lines edit) k) ≡ None → is_invalidated base lines edit k ≡ is_due base lines edit k
+  unfolding due-by
+  due-other equ target = sym (ap due-by (or_from (is_equ (body_at (program_after lines edit) k)) (is_some (target_of (body_at (program_after lines edit) k))) equ (ap is_some target)))
+
+  -- a line that is not invalidated is not due
+  pub due-valid : refusal_of lines edit ≡ None → 1 ≤ k → k ≤ length (lines_after lines edit) → is_invalidated base lines edit k ≡ false → false ≡ is_due base lines edit k
+  due-valid allowed first last valid = at (is_compared (body_at (program_after lines edit) k))
+    where
+      at : (compared : Bool) → false ≡ (if compared then is_reencoded base lines edit k else is_invalidated base lines edit k)
+      at true = sym (not_reencoded base lines edit k allowed first last valid)
+      at false = sym valid
+
+-- The row of due lines
+
+module _ (test : ℕ → Bool) (n : ℕ) (row : List ℕ) (so_far : row ≡ lines_that test n) where
+  next-line : lines_that test (n + 1) ≡ lines_that test n ++ (if test (n + 1) then (n + 1) ∷ [] else [])
+  next-line =
+      subst (λ m. lines_that test m ≡ lines_that test n ++ (if test m then m ∷ [] else [])) (let e : suc n ≡ n + 1 = omega arith in e) refl
+
+  -- the next line passes
+  pub row-added : test (n + 1) ≡ true → row ++ (n + 1) ∷ [] ≡ lines_that test (n + 1)
+  row-added passes =
+      ap (λ r. r ++ (n + 1) ∷ []) so_far ∙ sym (next-line ∙ ap (λ b. lines_that test n ++ (if b then (n + 1) ∷ [] else [])) passes)
+
+  -- it does not
+  pub row-kept : test (n + 1) ≡ false → row ≡ lines_that test (n + 1)
+  row-kept fails =
+      so_far ∙ sym (next-line ∙ ap (λ b. lines_that test n ++ (if b then (n + 1) ∷ [] else [])) fails ∙ append-nil (lines_that test n))

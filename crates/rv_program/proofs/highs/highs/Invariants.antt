@@ -1,0 +1,22 @@
+use Rattle.std.proofs.Common.{◌≡◌, ◌≤◌, ◌+◌, ◌-◌, length}
+use Rattle.rv_program.specs.internal.Before.{base_before, lines_before, edit_on}
+use Rattle.rv_program.specs.internal.TextRows.{program_in}
+use Rattle.rv_program.specs.internal.Work.{high_operands, work}
+use Rattle.rv_program.proofs.HighRows.{AreHighsThrough}
+use Rattle.rv_program.proofs.highs.highs.Given as goal
+
+-- the high halves on the lines so far
+abbrev pub invariant-loop-i : goal.invariant-loop-i
+invariant-loop-i g l = record {
+  within : l.i ≤ length l.lines;
+  row : AreHighsThrough l.after.text.base (program_in l.after.text) l.i l.row.items;
+  many : length l.row.items ≡ length l.lines;
+  least : g.C.Count.valued_count l.initial.counter ≤ g.C.Count.valued_count l.counter;
+  most : g.C.Count.valued_count l.counter ≤ g.C.Count.valued_count l.initial.counter + l.i;
+  work : g.C.Count.valued_count l.counter ≤ g.C.Count.valued_count l.initial.counter + work high_operands (base_before l.before) (lines_before l.before) (edit_on l.before) l.i;
+  parsed : g.C.Count.parsed_count l.counter ≡ g.C.Count.parsed_count l.initial.counter;
+  encoded : g.C.Count.encoded_count l.counter ≡ g.C.Count.encoded_count l.initial.counter;
+}
+
+abbrev pub decreases-loop-i : goal.decreases-loop-i
+decreases-loop-i g l = length l.lines - l.i

@@ -1,0 +1,10 @@
+use Rattle.std.proofs.Common.{◌≡◌, length}
+use Rattle.std.specs.List.{list_any}
+use Rattle.rv_program.specs.Uses.{has_local_label, expression_of}
+use Rattle.rv_program.proofs.uses.any_uses_local_label.Given as goal
+
+abbrev pub invariant-loop-operands : goal.invariant-loop-operands
+invariant-loop-operands l = list_any (λ o. has_local_label (expression_of o.value)) l.operands ≡ list_any (λ o. has_local_label (expression_of o.value)) l.initial.operands
+
+abbrev pub decreases-loop-operands : goal.decreases-loop-operands
+decreases-loop-operands l = length l.operands

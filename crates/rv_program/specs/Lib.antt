@@ -1,0 +1,17 @@
+pub mod Changes
+pub mod Codes
+pub mod Constants
+pub mod Counted
+pub mod Definitions
+pub mod Edits
+pub mod Jumps
+pub mod Kept
+pub mod Layout
+pub mod Pairs
+pub mod Program
+pub mod References
+pub mod Sameness
+pub mod Text
+pub mod Uses
+pub mod internal
+pub mod lemmas

@@ -1,0 +1,61 @@
+-- The high halves that `%pcrel_lo` belongs to. (docs/LANGUAGE.md, Pairs of halves)
+use Rattle.std.specs.Prelude.{ℕ, ◌-◌, ◌==◌, Bool, not, ◌&&◌, List, ◌∷◌, length, Option, Some, None, Ok, Err}
+use Rattle.rv_expr.specs.declared.faults.ValueFault.TheVariants.{NoPartner}
+use Rattle.rv_expr.specs.Tree.{Tree}
+use Rattle.rv_expr.specs.Value.{Environment, value_of}
+use Rattle.rv_ops.specs.declared.op.Op.{Op}
+use Rattle.rv_ops.specs.declared.op.Op.TheVariants.{Auipc}
+use Rattle.rv_stmt.specs.declared.operand.Operand.{Operand}
+use Rattle.rv_stmt.specs.declared.operand.OperandValue.{OperandValue}
+use Rattle.rv_stmt.specs.declared.operand.OperandValue.TheVariants.{PcrelHigh}
+use Rattle.rv_stmt.specs.declared.statement.Body.{Body}
+use Rattle.rv_stmt.specs.declared.statement.Body.TheVariants.{Instr}
+use Rattle.rv_stmt.specs.Readings.{and_then}
+use Rattle.rv_layout.specs.Sections.{section_number}
+use Rattle.rv_fix.specs.Displacements.{displacement}
+use Rattle.rv_fix.specs.Values.{Entry}
+use Rattle.rv_program.specs.Layout.{section_at, address_at, size_at}
+use Rattle.rv_program.specs.Program.{Program, body_at, first_line}
+use Rattle.rv_program.specs.References.{names_on, reference_of, references_at}
+
+abbrev pub pcrel_high_value : OperandValue → Option Tree
+pcrel_high_value (PcrelHigh e) = Some e
+pcrel_high_value value = None
+
+abbrev pub pcrel_high_operand : Op → List Operand → Option Tree
+pcrel_high_operand Auipc (o ∷ os) = pcrel_high_value o.value
+pcrel_high_operand op os = None
+
+-- the expression of `auipc rd, %pcrel_hi(expression)`
+abbrev pub pcrel_high_of : Body → Option Tree
+pcrel_high_of (Instr i) = pcrel_high_operand i.op i.operands
+pcrel_high_of body = None
+
+-- its value less the address of its line, of which the instruction holds the upper part
+abbrev pub high_by : Environment → (here : ℕ) → Option Tree → Entry
+high_by given here None = Err NoPartner
+high_by given here (Some e) = and_then (value_of given e) (λ v. Ok (displacement here v))
+
+abbrev pub high_at : (base : ℕ) → Program → (i : ℕ) → Entry
+high_at base program i = high_by (references_at base program i) (address_at base program i) (pcrel_high_of (body_at program i))
+
+-- a line in the section that has bytes
+abbrev pub has_bytes_in : Program → (section i : ℕ) → Bool
+has_bytes_in program section i = section_number (section_at program i) == section && not (size_at program i == 0)
+
+-- the first line with bytes in a section, after line i
+abbrev pub next_with_bytes : Program → (section i : ℕ) → Option ℕ
+next_with_bytes program section i = first_line (has_bytes_in program section) i (length program - i)
+
+abbrev pub high_at_line : (base : ℕ) → Program → Option ℕ → Entry
+high_at_line base program None = Err NoPartner
+high_at_line base program (Some p) = high_at base program p
+
+-- what `%pcrel_lo` of a label on line i takes: from the first line with bytes in the section, from this one on
+abbrev pub paired_high_of : (base : ℕ) → Program → (i : ℕ) → Entry
+paired_high_of base program i =
+    high_at_line base program (next_with_bytes program (section_number (section_at program i)) (i - 1))
+
+-- what names give on line i
+abbrev pub names_at : (base : ℕ) → Program → (i : ℕ) → Environment
+names_at base program i = names_on base program i (reference_of base program i) (paired_high_of base program)

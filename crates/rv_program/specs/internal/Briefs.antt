@@ -1,0 +1,25 @@
+-- What a line has to do with other lines, in brief.
+use Rattle.std.specs.Prelude.{◌==◌, not, ◌||◌, length}
+use Rattle.std.specs.Option.{is_some}
+use Rattle.rv_stmt.specs.declared.statement.Stmt.{Stmt}
+use Rattle.rv_program.specs.declared.brief.Brief.{Brief}
+use Rattle.rv_program.specs.internal.NameSets.{brief_of_names}
+use Rattle.rv_program.specs.Jumps.{target_of}
+use Rattle.rv_program.specs.internal.Locals.{has_local_labels}
+use Rattle.rv_program.specs.Pairs.{pcrel_high_of}
+use Rattle.rv_program.specs.Uses.{names_used, is_sized, uses_symbols, uses_address, uses_local_label, uses_paired_high, is_equ}
+
+abbrev pub brief_of : Stmt → Brief
+brief_of s = record {
+  labels = not (length s.labels == 0);
+  local_labels = has_local_labels s.labels;
+  equ = is_equ s.body;
+  pcrel_high = is_some (pcrel_high_of s.body);
+  sized = is_sized s.body;
+  symbols = uses_symbols s.body;
+  names = brief_of_names (names_used s.body);
+  address = uses_address s.body;
+  jump = is_some (target_of s.body);
+  uncompared = uses_local_label s.body || uses_paired_high s.body || is_equ s.body;
+  plain = not (uses_symbols s.body || uses_address s.body || (uses_local_label s.body || uses_paired_high s.body || is_equ s.body));
+}

@@ -1,0 +1,53 @@
+-- Which symbols an edit changes, by a set that has all of them.
+use Rattle.std.specs.Prelude.{◌≡◌, ℕ, ℤ, pos, ◌+ℤ◌, false, List, Some, Ok}
+use Rattle.rv_stmt.specs.Readings.{and_then}
+use Rattle.rv_fix.specs.Values.{Entry}
+use Rattle.rv_program.specs.declared.name_set.Mark.{Mark}
+use Rattle.rv_program.specs.declared.name_set.Mark.TheVariants.{Unknown, Same, Moved, Changed}
+use Rattle.rv_program.specs.Changes.{program_after, differs_in_name}
+use Rattle.rv_program.specs.Constants.{constant_of}
+use Rattle.rv_program.specs.Edits.{line_before_edit}
+use Rattle.rv_program.specs.internal.NameSets.{bucket_of, Marks, mark_of}
+use Rattle.rv_program.specs.Program.{program_of, body_at}
+use Rattle.rv_program.specs.References.{reference_of}
+use Rattle.rv_program.specs.Text.{Edit}
+use Rattle.rv_program.specs.Uses.{is_equ}
+
+-- a symbol is the same constant on each line after an edit as on the line that it was before it
+abbrev pub IsOneConstant : (lines : List (List ℕ)) → Edit → (name : List ℕ) → Type 0
+IsOneConstant lines edit name =
+    (k j : ℕ) → line_before_edit edit k ≡ Some j → constant_of (program_after lines edit) k name ≡ constant_of (program_of lines) j name
+
+-- a symbol gives the same value and is the same constant on each line as on the line that it was, `.equ`s apart
+abbrev pub DiffersNowhere : (base : ℕ) → (lines : List (List ℕ)) → Edit → (name : List ℕ) → Type 0
+DiffersNowhere base lines edit name =
+    (k j : ℕ) → line_before_edit edit k ≡ Some j → is_equ (body_at (program_after lines edit) k) ≡ false → is_equ (body_at (program_of lines) j) ≡ false
+    → differs_in_name base (program_of lines) (program_after lines edit) k j name ≡ false
+
+-- what gives an address gives one that is so much greater
+abbrev pub moved_by : (shift : ℤ) → Entry → Entry
+moved_by shift entry = and_then entry (λ address. Ok (address +ℤ shift))
+
+-- a mark says what is true of a label by the address that it had and the one that it has
+abbrev pub TellsAddress : (shift : ℤ) → Mark → (stood address : ℕ) → Type 0
+TellsAddress shift Unknown stood address = ⊥
+TellsAddress shift Same stood address = address ≡ stood
+TellsAddress shift Moved stood address = pos address ≡ pos stood +ℤ shift
+TellsAddress shift Changed stood address = Unit {0}
+
+-- a symbol gives an address that is so much greater on each line, `.equ`s apart, or it gives none
+abbrev pub MovesBy : (base : ℕ) → (lines : List (List ℕ)) → Edit → (shift : ℤ) → (name : List ℕ) → Type 0
+MovesBy base lines edit shift name =
+    (k j : ℕ) → line_before_edit edit k ≡ Some j → is_equ (body_at (program_after lines edit) k) ≡ false → is_equ (body_at (program_of lines) j) ≡ false
+    → reference_of base (program_after lines edit) k name ≡ moved_by shift (reference_of base (program_of lines) j name)
+
+-- a mark says what is true of a symbol, where the lines behind the edit moved so far
+abbrev pub Tells : (base : ℕ) → (lines : List (List ℕ)) → Edit → (shift : ℤ) → Mark → (name : List ℕ) → Type 0
+Tells base lines edit shift Unknown name = DiffersNowhere base lines edit name × MovesBy base lines edit shift name
+Tells base lines edit shift Same name = DiffersNowhere base lines edit name
+Tells base lines edit shift Moved name = MovesBy base lines edit shift name
+Tells base lines edit shift Changed name = Unit {0}
+
+-- the set has the true mark of each symbol
+abbrev pub HasDiffering : (base : ℕ) → (lines : List (List ℕ)) → Edit → Marks → Type 0
+HasDiffering base lines edit set = (name : List ℕ) → Tells base lines edit set.shift (mark_of set (bucket_of name)) name

@@ -1,0 +1,77 @@
+-- What the rows hold that are kept of a text: one value for each name, by the name's number, or one for each line.
+use Rattle.std.specs.Prelude.{◌≡◌, ℕ, ℤ, suc, ◌<◌, ◌≤◌, List, [], ◌++◌, length, get_or, position, bytes_eq, Option, Some, None, Err}
+use Rattle.rv_expr.specs.declared.faults.ValueFault.TheVariants.{LaterEqu, NoPartner}
+use Rattle.rv_layout.specs.declared.measured.Measured.{Measured}
+use Rattle.rv_fix.specs.Values.{Entry}
+use Rattle.rv_list.specs.declared.view.DefinitionPlace.{DefinitionPlace}
+use Rattle.rv_list.specs.declared.view.DefinitionPlace.TheVariants.{Nowhere}
+use Rattle.rv_list.specs.declared.view.LinePlace.{LinePlace}
+use Rattle.rv_program.specs.Constants.{constant_through}
+use Rattle.rv_program.specs.Definitions.{definition_of}
+use Rattle.rv_program.specs.Layout.{shapes_of, place_at}
+use Rattle.rv_program.specs.Pairs.{high_at, paired_high_of}
+use Rattle.rv_program.specs.Program.{Program, for_lines, lines_that}
+use Rattle.rv_program.specs.References.{has_local, equ_value}
+
+-- Numbers of names
+
+-- the number of a name among those that have one, from 0 on
+abbrev pub number_of : (names : List (List ℕ)) → (name : List ℕ) → Option ℕ
+number_of names name = position (bytes_eq name) names
+
+-- the number is that of a name
+abbrev pub IsNumber : (names : List (List ℕ)) → Option ℕ → Type 0
+IsNumber names number = (name : List ℕ) × (number_of names name ≡ number)
+
+abbrev pub entry_at : {A : Type 0} → List A → (other : A) → Option ℕ → A
+entry_at row other None = other
+entry_at row other (Some number) = get_or row number other
+
+-- what a row holds for a name; what has no place in the row has the other value
+abbrev pub in_row : {A : Type 0} → (names : List (List ℕ)) → List A → (other : A) → (name : List ℕ) → A
+in_row names row other name = entry_at row other (number_of names name)
+
+-- names that have numbers keep them when more names get one
+abbrev pub Grows : (old new : List (List ℕ)) → Type 0
+Grows old new = (more : List (List ℕ)) × (new ≡ old ++ more)
+
+-- Rows by names: no longer than there are names
+
+pub record AreDefinitions (program : Program) (names : List (List ℕ)) (row : List DefinitionPlace) : Type 0 where
+  pub each : in_row names row Nowhere ≡ definition_of program
+  pub within : length row ≤ length names
+
+-- the constants of the first k lines
+pub record AreConstants (program : Program) (k : ℕ) (names : List (List ℕ)) (row : List (Option ℤ)) : Type 0 where
+  pub each : in_row names row None ≡ constant_through program k
+  pub within : length row ≤ length names
+
+-- the values of the `.equ`s of the first k lines
+pub record AreEquValues (base : ℕ) (program : Program) (k : ℕ) (names : List (List ℕ)) (row : List Entry) : Type 0 where
+  pub each : in_row names row (Err LaterEqu) ≡ equ_value base program k
+  pub within : length row ≤ length names
+
+-- Rows by lines
+
+abbrev pub AreShapes : Program → List Measured → Type 0
+AreShapes program row = row ≡ shapes_of program
+
+abbrev pub ArePlaces : (base : ℕ) → Program → List LinePlace → Type 0
+ArePlaces base program row = row ≡ for_lines (place_at base program) (length program)
+
+-- a row of high halves, which may end before the lines do: the lines behind its end have none
+pub record HoldHighs (high : ℕ → Entry) (count : ℕ) (row : List Entry) : Type 0 where
+  pub each : (k : ℕ) → k < count → get_or row k (Err NoPartner) ≡ high (suc k)
+  pub within : length row ≤ count
+
+-- the high half on each line
+abbrev pub AreHighs : (base : ℕ) → Program → List Entry → Type 0
+AreHighs base program row = HoldHighs (high_at base program) (length program) row
+
+-- what `%pcrel_lo` of a label takes, by the label's line
+abbrev pub ArePairedHighs : (base : ℕ) → Program → List Entry → Type 0
+ArePairedHighs base program row = HoldHighs (paired_high_of base program) (length program) row
+
+-- the lines of local labels, by their numbers: those of the first k lines
+abbrev pub AreLocals : Program → (k : ℕ) → List (List ℕ) → Type 0
+AreLocals program k rows = (number : ℕ) → get_or rows number [] ≡ lines_that (has_local program number) k

@@ -1,0 +1,81 @@
+//! What lines have to do with other lines, in brief.
+
+ghost use Rattle.std.specs.Prelude.{◌≡◌, ◌||◌, not};
+ghost use Rattle.rv_program.specs.internal.Briefs.{brief_of};
+ghost use Rattle.rv_program.specs.Uses.{uses_local_label, uses_paired_high, is_equ};
+
+use crate::highs::pcrel_high;
+use crate::jumps::target;
+use crate::locals::has_local_labels;
+use crate::used_names::UsedNames;
+use crate::uses::{
+    brief_names, is_equ, is_sized, uses_address, uses_local_label, uses_paired_high, uses_symbols,
+};
+use rv_stmt::{Body, Stmt};
+
+/// What a line defines and what it uses, in brief: a loop over the lines goes past those that do not matter to it without a
+/// look at their statements.
+#[derive(Clone, Copy)]
+pub struct Brief {
+    /// It has labels.
+    pub labels: bool,
+    /// One of the labels is a local one.
+    pub local_labels: bool,
+    /// It is an `.equ`.
+    pub equ: bool,
+    /// It is an `auipc` with `%pcrel_hi`.
+    pub pcrel_high: bool,
+    /// Its shape follows from the value of an operand.
+    pub sized: bool,
+    /// It uses symbols.
+    pub symbols: bool,
+    /// The symbols that it uses, and maybe others.
+    pub names: UsedNames,
+    /// It uses its own address.
+    pub address: bool,
+    /// It uses the address of one label, counted from its own, and nothing else.
+    pub jump: bool,
+    /// It uses a local label or `%pcrel_lo`, or is an `.equ`: such a line counts as invalidated whatever these give.
+    pub uncompared: bool,
+    /// It uses no symbol and not its own address, nor is it uncompared: it is invalidated only where it is new.
+    pub plain: bool,
+}
+
+impl Brief {
+    /// That of a statement.
+    pub fn of(stmt: &Stmt) -> Brief
+        ensures { result ≡ brief_of stmt.now }
+    {
+        let body = &stmt.body;
+        let symbols = uses_symbols(body);
+        let address = uses_address(body);
+        let uncompared = is_uncompared(body);
+        Brief {
+            labels: !stmt.labels.is_empty(),
+            local_labels: has_local_labels(stmt.labels.as_slice()),
+            equ: is_equ(body),
+            pcrel_high: pcrel_high(body).is_some(),
+            sized: is_sized(body),
+            symbols,
+            names: brief_names(body),
+            address,
+            jump: target(body).is_some(),
+            uncompared,
+            plain: is_plain(symbols, address, uncompared),
+        }
+    }
+}
+
+// Whether a line is none of this.
+fn is_plain(symbols: bool, address: bool, uncompared: bool) -> bool
+    ensures { result ≡ not (symbols || address || uncompared) }
+{
+    !symbols && !address && !uncompared
+}
+
+// Whether a line uses a local label or `%pcrel_lo`, or is an `.equ`.
+fn is_uncompared(body: &Body) -> bool
+    ensures { result ≡ (uses_local_label body.now || uses_paired_high body.now || is_equ body.now) }
+{
+    uses_local_label(body) || uses_paired_high(body) || is_equ(body)
+}

@@ -1,0 +1,229 @@
+//! Which lines are due after an edit: what is kept of them is made anew.
+
+ghost use Rattle.std.specs.Prelude.{◌≡◌, ◌≤◌, ◌<◌, ◌+◌, ◌-◌, ◌^◌, not, true, false, Some, length, IfOk, IsTrue};
+ghost use Rattle.rv_stmt.specs.declared.statement.Body.TheVariants.{Equ as EquBody};
+ghost use Rattle.rv_program.specs.internal.Before.{IsBefore, IsAfter, base_before, lines_before, edit_on};
+ghost use Rattle.rv_program.specs.internal.Briefs.{brief_of};
+ghost use Rattle.rv_program.specs.Changes.{is_reencoded, is_due};
+ghost use Rattle.rv_program.specs.Codes.{values_of_body};
+ghost use Rattle.rv_program.specs.internal.Compared.{IsCompared, AreCompared};
+ghost use Rattle.rv_program.specs.Counted.{counts_of};
+ghost use Rattle.rv_program.specs.internal.Differing.{HasDiffering};
+ghost use Rattle.rv_program.specs.Jumps.{target_of};
+ghost use Rattle.rv_program.specs.Program.{statement_at, body_at, lines_that};
+ghost use Rattle.rv_program.specs.Sameness.{same_values};
+ghost use Rattle.rv_program.specs.internal.SymbolRows.{AreSymbolRows};
+ghost use Rattle.rv_program.specs.internal.TextRows.{program_in};
+
+use crate::before::Before;
+use crate::brief::Brief;
+use crate::differing::differing_names;
+use crate::invalidation::{is_invalidated, may_be_invalidated};
+use crate::jumps::{differs_in_distance, differs_in_local_distance, rise};
+use crate::line::Line;
+use crate::line_values::symbol_value;
+use crate::name_set::NameSet;
+use crate::symbol_rows::SymbolRows;
+use crate::text_lines::{brief_on, equ_on, target_on};
+use rv_expr::{Expr, Node};
+use rv_stmt::Definition;
+use rv_text::Count;
+use std::alloc::{AllocError, Global};
+
+// Whether the symbol of an `.equ` on `line` has another value than it had on the line `stood`, or only one of the two lines is
+// the definition of the symbol.
+fn differs_in_symbol(
+    before: &SymbolRows<'_>,
+    after: &SymbolRows<'_>,
+    definition: &Definition,
+    stood: u32,
+    line: u32,
+) -> bool
+    requires before { AreSymbolRows before.now }
+    requires after { AreSymbolRows after.now }
+    requires names { after.now.text.names.now ≡ before.now.text.names.now }
+    requires first_stood { 1 ≤ stood }
+    requires last_stood { stood ≤ length before.now.text.lines.now }
+    requires first { 1 ≤ line }
+    requires last { line ≤ length after.now.text.lines.now }
+    requires equ_before { body_at (program_in before.now.text) stood ≡ EquBody definition.now }
+    requires equ { body_at (program_in after.now.text) line ≡ EquBody definition.now }
+    ensures { result ≡ not (same_values (values_of_body after.now.text.base (program_in after.now.text) line (EquBody definition.now)) (values_of_body before.now.text.base (program_in before.now.text) stood (EquBody definition.now))) }
+{
+    let number = after.text.names.number(definition.symbol.bytes());
+    let value = symbol_value(after, definition, number, line);
+    !value.is_same(&symbol_value(before, definition, number, stood))
+}
+
+// Whether an `.equ` is due: it is new, or its symbol has another value than it had. All `.equ`s are invalidated.
+fn is_equ_due(
+    before: &Before<'_, '_>,
+    after: &SymbolRows<'_>,
+    definition: &Definition,
+    line: u32,
+) -> bool
+    requires before { IsBefore before.now }
+    requires rows { AreSymbolRows after.now }
+    requires after { IsAfter before.now after.now.text }
+    requires first { 1 ≤ line }
+    requires last { line ≤ length after.now.text.lines.now }
+    requires equ { body_at (program_in after.now.text) line ≡ EquBody definition.now }
+    ensures { result ≡ is_reencoded (base_before before.now) (lines_before before.now) (edit_on before.now) line }
+{
+    match before.edit.line_before(line) {
+        Some(stood) => differs_in_symbol(&before.symbols, after, definition, stood, line),
+        None => true,
+    }
+}
+
+// Whether a jump is due: it is new, or its target is another distance from it than it was.
+fn is_jump_due<C: Count>(
+    before: &Before<'_, '_>,
+    after: &SymbolRows<'_>,
+    target: &Expr,
+    line: u32,
+    counter: &mut C,
+) -> bool
+    requires before { IsBefore before.now }
+    requires rows { AreSymbolRows after.now }
+    requires after { IsAfter before.now after.now.text }
+    requires first { 1 ≤ line }
+    requires last { line ≤ length after.now.text.lines.now }
+    requires target { target_of (body_at (program_in after.now.text) line) ≡ Some target.now }
+    requires count { C.valued_count counter.old < 2 ^ 64 - 1 }
+    ensures due { result ≡ is_reencoded (base_before before.now) (lines_before before.now) (edit_on before.now) line }
+    ensures compared { IsCompared before.now line (counts_of C.parsed_count C.valued_count C.encoded_count counter.old) (counts_of C.parsed_count C.valued_count C.encoded_count counter.new) }
+{
+    let Some(stood) = before.edit.line_before(line) else {
+        return true;
+    };
+    let symbols = &before.symbols;
+    match &target.node {
+        Node::Symbol(name) => differs_in_distance(symbols, after, name.bytes(), stood, line),
+        Node::Local(number, direction) => differs_in_local_distance(
+            &symbols.text,
+            &after.text,
+            *number,
+            *direction,
+            stood,
+            line,
+            counter,
+        ),
+        _ => unreachable!(),
+    }
+}
+
+// Whether a line of the text after an edit is due. `differing` has each symbol that differs on one of the lines.
+fn is_due<C: Count>(
+    before: &Before<'_, '_>,
+    after: &SymbolRows<'_>,
+    differing: &NameSet,
+    line: u32,
+    counter: &mut C,
+) -> bool
+    requires before { IsBefore before.now }
+    requires rows { AreSymbolRows after.now }
+    requires after { IsAfter before.now after.now.text }
+    requires differing { HasDiffering (base_before before.now) (lines_before before.now) (edit_on before.now) differing.now }
+    requires first { 1 ≤ line }
+    requires last { line ≤ length after.now.text.lines.now }
+    requires count { C.valued_count counter.old < 2 ^ 64 - 1 }
+    ensures due { result ≡ is_due (base_before before.now) (lines_before before.now) (edit_on before.now) line }
+    ensures compared { IsCompared before.now line (counts_of C.parsed_count C.valued_count C.encoded_count counter.old) (counts_of C.parsed_count C.valued_count C.encoded_count counter.new) }
+{
+    if let Some(definition) = equ_on(&after.text, line) {
+        return is_equ_due(before, after, definition, line);
+    }
+    match target_on(&after.text, line) {
+        Some(target) => is_jump_due(before, after, target, line, counter),
+        None => is_invalidated(before, after, differing, line),
+    }
+}
+
+// Whether a line is a jump to a symbol, and both moved as far as the lines behind the edit: the symbol is as far from it as it was. It
+// stays a call, so that the loop over the lines does not read what only jumps need.
+#[inline(never)]
+fn is_carried(
+    before: &Before<'_, '_>,
+    after: &SymbolRows<'_>,
+    differing: &NameSet,
+    line: u32,
+) -> bool
+    requires before { IsBefore before.now }
+    requires rows { AreSymbolRows after.now }
+    requires after { IsAfter before.now after.now.text }
+    requires differing { HasDiffering (base_before before.now) (lines_before before.now) (edit_on before.now) differing.now }
+    requires first { 1 ≤ line }
+    requires last { line ≤ length after.now.text.lines.now }
+    ensures { IsTrue result → is_due (base_before before.now) (lines_before before.now) (edit_on before.now) line ≡ false }
+{
+    let brief = brief_on(&after.text, line);
+    match before.edit.line_before(line) {
+        Some(stood) if brief.jump && !brief.uncompared => {
+            brief.names.has_moved(differing)
+                && rise(&before.symbols.text, &after.text, stood, line) == differing.shift()
+        }
+        _ => false,
+    }
+}
+
+// It is as for `is_due`, by the brief of the line, which is mostly enough.
+#[inline(always)]
+fn is_due_by_brief<C: Count>(
+    before: &Before<'_, '_>,
+    after: &SymbolRows<'_>,
+    differing: &NameSet,
+    brief: Brief,
+    line: u32,
+    counter: &mut C,
+) -> bool
+    requires before { IsBefore before.now }
+    requires rows { AreSymbolRows after.now }
+    requires after { IsAfter before.now after.now.text }
+    requires differing { HasDiffering (base_before before.now) (lines_before before.now) (edit_on before.now) differing.now }
+    requires brief { brief ≡ brief_of (statement_at (program_in after.now.text) line) }
+    requires first { 1 ≤ line }
+    requires last { line ≤ length after.now.text.lines.now }
+    requires count { C.valued_count counter.old < 2 ^ 64 - 1 }
+    ensures due { result ≡ is_due (base_before before.now) (lines_before before.now) (edit_on before.now) line }
+    ensures compared { IsCompared before.now line (counts_of C.parsed_count C.valued_count C.encoded_count counter.old) (counts_of C.parsed_count C.valued_count C.encoded_count counter.new) }
+{
+    if !may_be_invalidated(before, after, differing, brief, line) {
+        return false;
+    }
+    !is_carried(before, after, differing, line) && is_due(before, after, differing, line, counter)
+}
+
+/// The lines of the text after an edit that are due, rising. The text has these lines.
+///
+/// The counter's number of expressions computed rises by one for each jump to a local label that stood in the text before: the distance of
+/// the label is computed in both texts.
+///
+/// # Errors
+///
+/// Fails only where there is no memory.
+pub fn due_lines<C: Count>(
+    alloc: Global,
+    before: &Before<'_, '_>,
+    after: &SymbolRows<'_>,
+    lines: &[Line],
+    counter: &mut C,
+) -> Result<Vec<u32>, AllocError>
+    requires before { IsBefore before.now }
+    requires rows { AreSymbolRows after.now }
+    requires after { IsAfter before.now after.now.text }
+    requires column { lines.now ≡ after.now.text.lines.now }
+    requires count { C.valued_count counter.old + length after.now.text.lines.now < 2 ^ 64 }
+    ensures due { IfOk result (λ row. row.items ≡ lines_that (is_due (base_before before.now) (lines_before before.now) (edit_on before.now)) (length after.now.text.lines.now)) }
+    ensures compared { AreCompared before.now (length after.now.text.lines.now) (counts_of C.parsed_count C.valued_count C.encoded_count counter.old) (counts_of C.parsed_count C.valued_count C.encoded_count counter.new) }
+{
+    let differing = differing_names(alloc, before, after)?;
+    let mut row = Vec::new(alloc);
+    for (i, line) in lines.iter().enumerate() {
+        let number = i as u32 + 1;
+        if is_due_by_brief(before, after, &differing, line.brief(), number, counter) {
+            row.push(number)?;
+        }
+    }
+    Ok(row)
+}

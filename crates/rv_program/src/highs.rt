@@ -1,0 +1,190 @@
+//! The high halves on the lines of a text.
+
+ghost use Rattle.std.specs.Prelude.{◌≡◌, ◌≤◌, ◌<◌, ◌+◌, ◌^◌, ◌-◌, Err, length, IfOk, if◌then◌else◌};
+ghost use Rattle.std.specs.Option.{is_some, option_map};
+ghost use Rattle.rv_expr.specs.declared.faults.ValueFault.TheVariants.{NoPartner};
+ghost use Rattle.rv_program.specs.declared.limits.TheConstants.{MAX_LINES};
+ghost use Rattle.rv_program.specs.internal.Before.{IsBefore, IsAfter, base_before, lines_before, edit_on};
+ghost use Rattle.rv_program.specs.Changes.{is_invalidated};
+ghost use Rattle.rv_program.specs.Pairs.{pcrel_high_of, high_by, high_at};
+ghost use Rattle.rv_program.specs.Program.{body_at};
+ghost use Rattle.rv_program.specs.internal.Rows.{AreHighs};
+ghost use Rattle.rv_program.specs.internal.SymbolRows.{AreSymbolRows};
+ghost use Rattle.rv_program.specs.internal.TextRows.{AreTextRows, AreEquValuesIn, program_in};
+ghost use Rattle.rv_program.specs.internal.Work.{high_operands, work};
+
+use crate::before::Before;
+use crate::invalidation::is_invalidated;
+use crate::line::Line;
+use crate::line_names::{high_in, references_at};
+use crate::lines::{Sought, lines_up_to};
+use crate::name_set::NameSet;
+use crate::room::row_of;
+use crate::symbol_rows::SymbolRows;
+use crate::text_lines::{place_on, statement_on};
+use crate::text_rows::TextRows;
+use rv_expr::{Expr, Names, ValueFault, value};
+use rv_fix::{Entry, displacement};
+use rv_ops::Op;
+use rv_stmt::{Body, OperandValue};
+use rv_text::Count;
+use std::alloc::{AllocError, Global};
+
+/// The expression of `auipc rd, %pcrel_hi(expression)`.
+pub fn pcrel_high(body: &Body) -> Option<&Expr>
+    ensures { option_map (λ e. e.now) result ≡ pcrel_high_of body.now }
+{
+    let Body::Instr(instruction) = body else {
+        return None;
+    };
+    if instruction.op != Op::Auipc {
+        return None;
+    }
+    let [operand, ..] = instruction.operands.as_slice() else {
+        return None;
+    };
+    match &operand.value {
+        OperandValue::PcrelHigh(expression) => Some(expression),
+        _ => None,
+    }
+}
+
+// The value of that expression less the address of its line.
+fn high_by<N: Names, C: Count>(body: &Body, names: &N, here: u32, counter: &mut C) -> Entry
+    requires { C.valued_count counter.old < 2 ^ 64 - 1 }
+    ensures value { result ≡ high_by (N.environment names.now here) here (pcrel_high_of body.now) }
+    ensures least { C.valued_count counter.old ≤ C.valued_count counter.new }
+    ensures most { C.valued_count counter.new ≤ C.valued_count counter.old + 1 }
+    ensures parsed { C.parsed_count counter.new ≡ C.parsed_count counter.old }
+    ensures encoded { C.encoded_count counter.new ≡ C.encoded_count counter.old }
+{
+    match pcrel_high(body) {
+        Some(expression) => {
+            let address = value(expression, names, here, counter)?;
+            Ok(i64::from(displacement(here, address)))
+        }
+        None => Err(ValueFault::NoPartner),
+    }
+}
+
+// The high half on a line.
+fn high_on<'a, C: Count>(
+    text: &TextRows<'a>,
+    equ_values: &'a [Entry],
+    line: u32,
+    counter: &mut C,
+) -> Entry
+    requires rows { AreTextRows text.now }
+    requires values { AreEquValuesIn text.now (length text.now.lines.now) equ_values.now }
+    requires first { 1 ≤ line }
+    requires last { line ≤ length text.now.lines.now }
+    requires few { length text.now.lines.now ≤ MAX_LINES }
+    requires valued { C.valued_count counter.old < 2 ^ 64 - 1 }
+    ensures value { result ≡ high_at text.now.base (program_in text.now) line }
+    ensures least { C.valued_count counter.old ≤ C.valued_count counter.new }
+    ensures most { C.valued_count counter.new ≤ C.valued_count counter.old + 1 }
+    ensures parsed { C.parsed_count counter.new ≡ C.parsed_count counter.old }
+    ensures encoded { C.encoded_count counter.new ≡ C.encoded_count counter.old }
+{
+    let names = references_at(text, equ_values, line);
+    let place = place_on(text, line);
+    high_by(
+        &statement_on(text, line).body,
+        &names,
+        place.address,
+        counter,
+    )
+}
+
+// Whether a line is an `auipc` with `%pcrel_hi`.
+fn has_pcrel_high(text: &TextRows<'_>, line: u32) -> bool
+    requires first { 1 ≤ line }
+    requires last { line ≤ length text.now.lines.now }
+    ensures { result ≡ is_some (pcrel_high_of (body_at (program_in text.now) line)) }
+{
+    text.lines.line(line).brief().pcrel_high
+}
+
+// Whether the edit invalidates a line, by its names one by one.
+fn is_line_invalidated(before: &Before<'_, '_>, after: &SymbolRows<'_>, line: u32) -> bool
+    requires before { IsBefore before.now }
+    requires rows { AreSymbolRows after.now }
+    requires after { IsAfter before.now after.now.text }
+    requires first { 1 ≤ line }
+    requires last { line ≤ length after.now.text.lines.now }
+    ensures { result ≡ is_invalidated (base_before before.now) (lines_before before.now) (edit_on before.now) line }
+{
+    let every = NameSet::every();
+    is_invalidated(before, after, &every, line)
+}
+
+// The high half on a line of the text after an edit: what it was, unless the edit invalidates the line.
+fn high_after<C: Count>(
+    before: &Before<'_, '_>,
+    after: &SymbolRows<'_>,
+    line: u32,
+    counter: &mut C,
+) -> Entry
+    requires before { IsBefore before.now }
+    requires rows { AreSymbolRows after.now }
+    requires after { IsAfter before.now after.now.text }
+    requires first { 1 ≤ line }
+    requires last { line ≤ length after.now.text.lines.now }
+    requires valued { C.valued_count counter.old < 2 ^ 64 - 1 }
+    ensures value { result ≡ high_at after.now.text.base (program_in after.now.text) line }
+    ensures least { C.valued_count counter.old ≤ C.valued_count counter.new }
+    ensures most { C.valued_count counter.new + work high_operands (base_before before.now) (lines_before before.now) (edit_on before.now) (line - 1) ≤ C.valued_count counter.old + work high_operands (base_before before.now) (lines_before before.now) (edit_on before.now) line }
+    ensures one { C.valued_count counter.new ≤ C.valued_count counter.old + 1 }
+    ensures parsed { C.parsed_count counter.new ≡ C.parsed_count counter.old }
+    ensures encoded { C.encoded_count counter.new ≡ C.encoded_count counter.old }
+{
+    if !has_pcrel_high(&after.text, line) {
+        return Err(ValueFault::NoPartner);
+    }
+    if !is_line_invalidated(before, after, line) {
+        if let Some(stood) = before.edit.line_before(line) {
+            return high_in(before.highs, stood);
+        }
+    }
+    high_on(&after.text, after.equ_values, line, counter)
+}
+
+/// The high half on each line of the text after an edit, which has these lines. Lines without `%pcrel_hi` are gone past; where there
+/// are no others, the row is empty.
+///
+/// The counter's number of expressions computed rises by at most the high halves on the lines that the edit invalidates,
+/// whatever the outcome.
+///
+/// # Errors
+///
+/// Fails only where there is no memory.
+pub fn highs<C: Count>(
+    alloc: Global,
+    before: &Before<'_, '_>,
+    after: &SymbolRows<'_>,
+    lines: &[Line],
+    counter: &mut C,
+) -> Result<Vec<Entry>, AllocError>
+    requires before { IsBefore before.now }
+    requires rows { AreSymbolRows after.now }
+    requires after { IsAfter before.now after.now.text }
+    requires column { lines.now ≡ after.now.text.lines.now }
+    requires valued { C.valued_count counter.old + length after.now.text.lines.now < 2 ^ 64 }
+    ensures highs { IfOk result (λ row. AreHighs after.now.text.base (program_in after.now.text) row.items) }
+    ensures least { C.valued_count counter.old ≤ C.valued_count counter.new }
+    ensures most { C.valued_count counter.new ≤ C.valued_count counter.old + length after.now.text.lines.now }
+    ensures work { C.valued_count counter.new ≤ C.valued_count counter.old + work high_operands (base_before before.now) (lines_before before.now) (edit_on before.now) (length after.now.text.lines.now) }
+    ensures parsed { C.parsed_count counter.new ≡ C.parsed_count counter.old }
+    ensures encoded { C.encoded_count counter.new ≡ C.encoded_count counter.old }
+{
+    let mut i = lines_up_to(lines, 0, Sought::PcrelHigh);
+    if i >= lines.len() {
+        return Ok(Vec::new(alloc));
+    }
+    let mut row = row_of(alloc, Err(ValueFault::NoPartner), lines.len())?;
+    while i < lines.len() {
+        row[i] = high_after(before, after, i as u32 + 1, counter);
+        i = lines_up_to(lines, i + 1, Sought::PcrelHigh);
+    }
+    Ok(row)
+}

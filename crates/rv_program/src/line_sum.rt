@@ -1,0 +1,36 @@
+//! What lines add up to.
+
+ghost use Rattle.rv_program.specs.internal.LineSums.{IsLineSum, no_line_sum, both_line_sums, line_sum_laws};
+
+use rv_tree::Joined;
+
+/// How many lines there are. Where they lie, rows say.
+#[derive(Clone, Copy)]
+pub struct LineSum {
+    /// How many; `u32::MAX` stands for so many or more.
+    pub count: u32,
+}
+
+impl Joined for LineSum {
+    ghost IsValue = { IsLineSum };
+
+    ghost empty = { no_line_sum };
+
+    ghost op = { both_line_sums };
+
+    fn unit() -> LineSum {
+        LineSum { count: 0 }
+    }
+
+    fn join(&self, other: &LineSum) -> LineSum {
+        LineSum {
+            count: self.count.saturating_add(other.count),
+        }
+    }
+
+    fn known(&self) {
+        let _count = self.count;
+    }
+
+    ghost laws = { line_sum_laws };
+}

@@ -1,0 +1,183 @@
+//! The lines of local labels.
+
+ghost use Rattle.std.specs.Prelude.{◌≡◌, ◌≤◌, [], nat_le, true, false, length, IsTrue};
+ghost use Rattle.std.specs.List.{AllWithin};
+ghost use Rattle.std.specs.List.Sorted.{IsNonDecreasing};
+ghost use Rattle.rv_program.specs.internal.Locals.{AreParted, AreRising, line_among, local_line_in, has_local_labels};
+
+use rv_expr::Direction;
+use rv_stmt::{LabelName, LabelSlice};
+use rv_text::Sequence;
+use std::alloc::Global;
+use std::marker::Model;
+
+// How far from a guess a count is looked for first.
+const REACH: usize = 4;
+
+/// The lines of the local labels, by their numbers: for each number the lines that have its label, rising.
+#[derive(Drop)]
+pub struct Locals {
+    rows: Vec<Sequence<u32>>,
+}
+
+impl Model for Locals {
+    ghost use Rattle.std.specs.Prelude.{ℕ, List};
+    ghost use Rattle.rv_program.specs.internal.Locals.{AreRising};
+
+    ghost Value = { List (List ℕ) };
+
+    ghost view = { λ l. l.rows.items };
+
+    ghost invariant = { λ l. AreRising l.rows.items };
+}
+
+/// Whether one of some labels is a local one.
+pub fn has_local_labels(mut labels: LabelSlice<'_>) -> bool
+    ensures { result ≡ has_local_labels labels.entry }
+{
+    while let Some((label, rest)) = labels.split_first() {
+        if let LabelName::Local(_) = label.name {
+            return true;
+        }
+        labels = rest;
+    }
+    false
+}
+
+// How many of some rising lines are this one or earlier ones.
+fn count_up_to(lines: &[u32], line: u32) -> usize
+    requires { IsNonDecreasing lines.now }
+    ensures bound { result ≤ length lines.now }
+    ensures parted { AreParted line lines.now result }
+{
+    lines.partition_point(
+        |l: &u32| -> bool
+            ensures { result ≡ nat_le l.now line }
+        { *l <= line },
+    )
+}
+
+// How many of some rising lines would be this one or earlier ones if they stood evenly.
+fn count_if_even(lines: &[u32], line: u32) -> usize {
+    match lines.last() {
+        Some(last) => {
+            let all = lines.len().saturating_mul(line as usize);
+            all / (*last as usize).saturating_add(1)
+        }
+        None => 0,
+    }
+}
+
+// Whether so many of some rising lines, or more, are this one or earlier ones.
+fn are_up_to(lines: &[u32], line: u32, count: usize) -> bool
+    requires rising { IsNonDecreasing lines.now }
+    requires within { count ≤ length lines.now }
+    ensures { IsTrue result → AllWithin (λ l. nat_le l line ≡ true) lines.now 0 count }
+{
+    match count.checked_sub(1) {
+        Some(last) => lines[last] <= line,
+        None => true,
+    }
+}
+
+// Whether no more than so many of some rising lines are this one or earlier ones.
+fn are_above(lines: &[u32], line: u32, count: usize) -> bool
+    requires rising { IsNonDecreasing lines.now }
+    ensures { IsTrue result → AllWithin (λ l. nat_le l line ≡ false) lines.now count (length lines.now) }
+{
+    match lines.get(count) {
+        Some(first) => *first > line,
+        None => true,
+    }
+}
+
+// How many of some rising lines are this one or earlier ones. `near` is a guess, by which few lines have to be looked at if it is
+// nearly right.
+fn count_near(lines: &[u32], line: u32, near: usize) -> usize
+    requires { IsNonDecreasing lines.now }
+    ensures bound { result ≤ length lines.now }
+    ensures parted { AreParted line lines.now result }
+{
+    let near = near.min(lines.len());
+    if are_up_to(lines, line, near) && are_above(lines, line, near) {
+        return near;
+    }
+    let high = near.saturating_add(REACH).min(lines.len());
+    let low = near.saturating_sub(REACH);
+    if are_up_to(lines, line, low) && are_above(lines, line, high) {
+        return low + count_up_to(&lines[low..high], line);
+    }
+    count_up_to(lines, line)
+}
+
+// The line among those of a local label, of which so many are this one or earlier ones.
+fn line_among(lines: &[u32], line: u32, direction: Direction, count: usize) -> Option<u32>
+    requires bound { count ≤ length lines.now }
+    requires parted { AreParted line lines.now count }
+    ensures { result ≡ line_among lines.now line direction }
+{
+    let (up_to, above) = lines.split_at(count);
+    match direction {
+        Direction::Back => up_to.last().copied(),
+        Direction::Forward => above.first().copied(),
+    }
+}
+
+impl Locals {
+    /// Those of no lines, which take no memory.
+    pub fn new(alloc: Global) -> Self
+        ensures { result ≡ [] }
+    {
+        Locals {
+            rows: Vec::new(alloc),
+        }
+    }
+
+    /// Those of these rows.
+    pub fn of_rows(rows: Vec<Sequence<u32>>) -> Self
+        requires { AreRising rows.items }
+        ensures { result ≡ rows.items }
+    {
+        Locals { rows }
+    }
+
+    /// The rows.
+    pub fn rows(&self) -> &[Sequence<u32>]
+        ensures { result.now ≡ self.now }
+    {
+        self.rows.as_slice()
+    }
+
+    /// How many lines up to this one have the local label of a number: looked for first where it would be if they stood evenly.
+    pub fn count(&self, line: u32, number: u16) -> usize {
+        match self.rows.get(usize::from(number)) {
+            Some(lines) => {
+                let lines = lines.as_slice();
+                count_near(lines, line, count_if_even(lines, line))
+            }
+            None => 0,
+        }
+    }
+
+    /// The same as `line`. `near` is a guess of how many lines up to this one have the label; the answer does not depend on it.
+    pub fn line_near(
+        &self,
+        line: u32,
+        number: u16,
+        direction: Direction,
+        near: usize,
+    ) -> Option<u32>
+        ensures { result ≡ local_line_in self.now line number direction }
+    {
+        let lines = self.rows.get(usize::from(number))?.as_slice();
+        line_among(lines, line, direction, count_near(lines, line, near))
+    }
+
+    /// The line of a local label as a line names it: `b` is the last one up to this line, `f` the first one after it.
+    pub fn line(&self, line: u32, number: u16, direction: Direction) -> Option<u32>
+        ensures { result ≡ local_line_in self.now line number direction }
+    {
+        let lines = self.rows.get(usize::from(number))?.as_slice();
+        line_among(lines, line, direction, count_up_to(lines, line))
+    }
+}

@@ -1,0 +1,201 @@
+//! Where the names of a text are defined after an edit: where they were, on the lines as they move, but for names that are defined
+//! on a line that the edit takes out or puts in.
+
+ghost use Rattle.std.specs.Prelude.{◌≡◌, ◌≤◌, ◌<◌, ◌-◌, ℕ, List, Some, None, length, IfOk};
+ghost use Rattle.rv_list.specs.declared.view.DefinitionPlace.TheVariants.{Nowhere};
+ghost use Rattle.rv_program.specs.internal.Defining.{also_on, Holds};
+ghost use Rattle.rv_program.specs.Definitions.{definition_of};
+ghost use Rattle.rv_program.specs.Edits.{edit_of, place_of_edit};
+ghost use Rattle.rv_program.specs.internal.MovedDefinitions.{is_on, takes_out, line_after_edit, moved_place, place_after, found_after, kept_after, put_in, leaves_definitions};
+ghost use Rattle.rv_program.specs.Program.{program_of};
+ghost use Rattle.rv_program.specs.internal.Rows.{number_of, in_row, Grows, AreDefinitions};
+ghost use Rattle.rv_program.specs.Text.{refusal_of, lines_after};
+
+use crate::definitions::{define_line, may_define};
+use crate::edit::LineEdit;
+use crate::first_definition::first_place;
+use crate::limits::MAX_LINES;
+use crate::line::Line;
+use crate::lines::Lines;
+use crate::names::NameTable;
+use rv_list::DefinitionPlace;
+use std::alloc::{AllocError, Global};
+
+// Whether a definition stands on a line.
+fn is_on(line: u32, place: DefinitionPlace) -> bool
+    ensures { result ≡ is_on line place }
+{
+    match place {
+        DefinitionPlace::Nowhere => false,
+        DefinitionPlace::Label(defining, _) | DefinitionPlace::Equ(defining) => defining == line,
+    }
+}
+
+// Whether an edit takes a definition out with its line.
+fn takes_out(edit: &LineEdit<'_>, place: DefinitionPlace) -> bool
+    ensures { result ≡ takes_out (edit_of edit.now) place }
+{
+    match *edit {
+        LineEdit::Insert(_, _) => false,
+        LineEdit::Delete(k) | LineEdit::Replace(k, _) => is_on(k, place),
+    }
+}
+
+// Where a line stands after an edit that does not take it out.
+fn line_after(edit: &LineEdit<'_>, line: u32) -> u32
+    ensures { result ≡ line_after_edit (edit_of edit.now) line }
+{
+    match *edit {
+        LineEdit::Insert(k, _) if line < k => line,
+        LineEdit::Insert(_, _) => line.saturating_add(1),
+        LineEdit::Delete(k) if line < k => line,
+        LineEdit::Delete(_) => line.saturating_sub(1),
+        LineEdit::Replace(_, _) => line,
+    }
+}
+
+// A definition on a line that an edit moves.
+fn moved_place(edit: &LineEdit<'_>, place: DefinitionPlace) -> DefinitionPlace
+    ensures { result ≡ moved_place (line_after_edit (edit_of edit.now)) place }
+{
+    match place {
+        DefinitionPlace::Nowhere => DefinitionPlace::Nowhere,
+        DefinitionPlace::Label(line, index) => {
+            DefinitionPlace::Label(line_after(edit, line), index)
+        }
+        DefinitionPlace::Equ(line) => DefinitionPlace::Equ(line_after(edit, line)),
+    }
+}
+
+// Where a name is defined first from the place of an edit on; `lines` are those after the edit.
+fn found_after(edit: &LineEdit<'_>, lines: &[Line], name: &[u8]) -> DefinitionPlace
+    requires first { 1 ≤ place_of_edit (edit_of edit.now) }
+    requires within { place_of_edit (edit_of edit.now) - 1 ≤ length lines.now }
+    requires few { length lines.now ≤ MAX_LINES }
+    ensures { result ≡ found_after (edit_of edit.now) lines.now name.now }
+{
+    let place = edit.place();
+    let (_, from) = lines.split_at(place as usize - 1);
+    first_place(from, place, name)
+}
+
+// Where the name of a number is defined that was defined at `place`, but for what the line defines that the edit puts in.
+fn place_after(
+    edit: &LineEdit<'_>,
+    lines: &[Line],
+    names: &NameTable,
+    number: usize,
+    place: DefinitionPlace,
+) -> DefinitionPlace
+    requires first { 1 ≤ place_of_edit (edit_of edit.now) }
+    requires within { place_of_edit (edit_of edit.now) - 1 ≤ length lines.now }
+    requires few { length lines.now ≤ MAX_LINES }
+    requires named { number < length names.now }
+    ensures { (name : List ℕ) → number_of names.now name ≡ Some number → result ≡ place_after (edit_of edit.now) (found_after (edit_of edit.now) lines.now name) place }
+{
+    if takes_out(edit, place) {
+        found_after(edit, lines, names.name(number))
+    } else {
+        moved_place(edit, place)
+    }
+}
+
+/// Where all names of a row are defined after an edit that leaves these lines, but for what the line defines that it puts in.
+pub fn keep_places(
+    edit: &LineEdit<'_>,
+    lines: &[Line],
+    names: &NameTable,
+    row: &mut [DefinitionPlace],
+)
+    requires first { 1 ≤ place_of_edit (edit_of edit.now) }
+    requires within { place_of_edit (edit_of edit.now) - 1 ≤ length lines.now }
+    requires few { length lines.now ≤ MAX_LINES }
+    requires named { length row.old ≤ length names.now }
+    ensures row { in_row names.now row.new Nowhere ≡ kept_after (edit_of edit.now) lines.now (in_row names.now row.old Nowhere) }
+    ensures as_many { length row.new ≡ length row.old }
+{
+    for number in 0..row.len() {
+        row[number] = place_after(edit, lines, names, number, row[number]);
+    }
+}
+
+// Whether an edit takes out no definition and moves none: it puts a line at the end, or in the place of one that defines nothing.
+fn leaves_definitions(old: &Lines<'_>, edit: &LineEdit<'_>) -> bool
+    requires allowed { refusal_of old.now (edit_of edit.now) ≡ None }
+    ensures { result ≡ leaves_definitions old.now (edit_of edit.now) }
+{
+    match *edit {
+        LineEdit::Insert(k, _) => old.len() < k as usize,
+        LineEdit::Delete(_) => false,
+        LineEdit::Replace(k, _) => !may_define(old.line(k)),
+    }
+}
+
+// Where the names of a text are defined after an edit, but for what the line defines that it puts in.
+fn kept_definitions(
+    alloc: Global,
+    row: &[DefinitionPlace],
+    old: &Lines<'_>,
+    lines: &[Line],
+    edit: &LineEdit<'_>,
+    names: &NameTable,
+) -> Result<Vec<DefinitionPlace>, AllocError>
+    requires row { AreDefinitions (program_of old.now) names.now row.now }
+    requires allowed { refusal_of old.now (edit_of edit.now) ≡ None }
+    requires edited { lines.now ≡ lines_after old.now (edit_of edit.now) }
+    requires few { length lines.now ≤ MAX_LINES }
+    ensures { IfOk result (λ row'. Holds names.now row'.items (kept_after (edit_of edit.now) lines.now (definition_of (program_of old.now)))) }
+{
+    let mut kept = Vec::from_slice(alloc, row)?;
+    if leaves_definitions(old, edit) {
+        return Ok(kept);
+    }
+    keep_places(edit, lines, names, kept.as_mut_slice());
+    Ok(kept)
+}
+
+// Writes what the line defines that an edit puts in.
+fn define_put_in(
+    alloc: Global,
+    old: &Lines<'_>,
+    lines: &[Line],
+    edit: &LineEdit<'_>,
+    names: &mut NameTable,
+    row: &mut Vec<DefinitionPlace>,
+) -> Result<(), AllocError>
+    requires allowed { refusal_of old.now (edit_of edit.now) ≡ None }
+    requires edited { lines.now ≡ lines_after old.now (edit_of edit.now) }
+    requires named { length row.old.items ≤ length names.old }
+    ensures row { IfOk result (λ _. Holds names.new row.new.items (also_on (place_of_edit (edit_of edit.now)) (in_row names.old row.old.items Nowhere) (put_in (edit_of edit.now)))) }
+    ensures names { Grows names.old names.new }
+{
+    match *edit {
+        LineEdit::Insert(k, _) => define_line(alloc, &lines[k as usize - 1], k, names, row),
+        LineEdit::Delete(_) => Ok(()),
+        LineEdit::Replace(k, _) => define_line(alloc, &lines[k as usize - 1], k, names, row),
+    }
+}
+
+/// Where each name of a text is defined after an edit, by the names' numbers; `row` says it of the lines before the edit. Definitions
+/// move with their lines: only for a name whose definition the edit takes out are the lines from there on searched. Names that the
+/// new line defines get numbers if they have none, also where there is no memory for the rest.
+pub fn definitions_after(
+    alloc: Global,
+    row: &[DefinitionPlace],
+    old: &Lines<'_>,
+    lines: &[Line],
+    edit: &LineEdit<'_>,
+    names: &mut NameTable,
+) -> Result<Vec<DefinitionPlace>, AllocError>
+    requires row { AreDefinitions (program_of old.now) names.old row.now }
+    requires old_few { length old.now ≤ MAX_LINES }
+    requires allowed { refusal_of old.now (edit_of edit.now) ≡ None }
+    requires edited { lines.now ≡ lines_after old.now (edit_of edit.now) }
+    requires few { length lines.now ≤ MAX_LINES }
+    ensures definitions { IfOk result (λ row'. AreDefinitions (program_of lines.now) names.new row'.items) }
+    ensures names { Grows names.old names.new }
+{
+    let mut after = kept_definitions(alloc, row, old, lines, edit, names)?;
+    define_put_in(alloc, old, lines, edit, names, &mut after)?;
+    Ok(after)
+}

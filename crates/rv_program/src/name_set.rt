@@ -1,0 +1,198 @@
+//! Sets of names by their buckets, which may also have names that do not differ.
+
+ghost use Rattle.std.specs.Prelude.{◌≡◌, ◌<◌, ℕ, IfOk, IsTrue, true, false};
+ghost use Rattle.rv_program.specs.declared.name_set.Mark.TheVariants.{Unknown, Changed};
+ghost use Rattle.rv_program.specs.internal.NameSets.{bucket_of, differs, IsBelow, HasMoved, mark_of, has_bucket, has_group};
+
+use crate::groups::Groups;
+use std::alloc::{AllocError, Global};
+use std::marker::Model;
+
+// How many buckets there are.
+const BUCKETS: usize = 4096;
+
+/// The bucket of a name. By the factor 37 names that end in other numbers are mostly in other buckets.
+pub fn bucket_of(mut name: &[u8]) -> u16
+    ensures bucket { result ≡ bucket_of name.entry.now }
+    ensures below { result < 4096 }
+{
+    let mut bucket = 0;
+    while let [byte, rest @ ..] = name {
+        bucket = (bucket * 37 + u32::from(*byte)) % 4096;
+        name = rest;
+    }
+    bucket as u16
+}
+
+/// What is true of the symbols of a bucket after an edit.
+#[derive(Clone, Copy)]
+pub enum Mark {
+    /// None of them has a number.
+    Unknown,
+    /// They give what they gave.
+    Same,
+    /// They are labels, which moved as far as the lines behind the edit.
+    Moved,
+    /// They may give anything else.
+    Changed,
+}
+
+impl Mark {
+    // What is true of all symbols of which the one or the other is.
+    fn with(self, other: Mark) -> Mark
+        ensures first { IsBelow self result }
+        ensures second { IsBelow other result }
+    {
+        match self {
+            Mark::Unknown => other,
+            Mark::Same => match other {
+                Mark::Unknown | Mark::Same => Mark::Same,
+                Mark::Moved | Mark::Changed => Mark::Changed,
+            },
+            Mark::Moved => match other {
+                Mark::Unknown | Mark::Moved => Mark::Moved,
+                Mark::Same | Mark::Changed => Mark::Changed,
+            },
+            Mark::Changed => Mark::Changed,
+        }
+    }
+
+    // Whether one of the symbols may differ.
+    #[inline]
+    fn differs(self) -> bool
+        ensures { result ≡ differs self }
+    {
+        match self {
+            Mark::Unknown | Mark::Same => false,
+            Mark::Moved | Mark::Changed => true,
+        }
+    }
+
+    // Whether each of the symbols that gives an address moved as far as the lines behind the edit.
+    #[inline]
+    fn has_moved(self) -> bool
+        ensures { IsTrue result → HasMoved self }
+    {
+        match self {
+            Mark::Unknown | Mark::Moved => true,
+            Mark::Same | Mark::Changed => false,
+        }
+    }
+}
+
+/// What an edit did to the symbols, by the buckets of their names: the set has all names of a bucket of which one may differ. Contracts
+/// see a mark for each bucket, or none where the set has every name, and how far the lines behind the edit moved.
+#[derive(Drop)]
+pub struct NameSet {
+    // How far the lines behind the edit moved.
+    shift: i64,
+    // The groups of the buckets of which a name may differ, and maybe others.
+    groups: Groups,
+    marks: Option<Vec<Mark>>,
+}
+
+impl Model for NameSet {
+    ghost use Rattle.std.specs.Option.{option_map};
+    ghost use Rattle.rv_program.specs.internal.NameSets.{Marks, IsSized, AreGrouped};
+
+    ghost Value = { Marks };
+
+    ghost view = { λ s. record { shift = s.shift; marks = option_map (λ m. m.items) s.marks } };
+
+    ghost invariant = { λ s. IsSized (option_map (λ m. m.items) s.marks) × AreGrouped (option_map (λ m. m.items) s.marks) s.groups };
+}
+
+impl NameSet {
+    /// The set of no names, where the lines behind the edit moved so far.
+    pub fn empty(alloc: Global, shift: i64) -> Result<NameSet, AllocError>
+        ensures none { IfOk result (λ set. (bucket : ℕ) → mark_of set bucket ≡ Unknown) }
+        ensures shift { IfOk result (λ set. set.shift ≡ shift) }
+    {
+        let marks = vec![in alloc; Mark::Unknown; BUCKETS]?;
+        Ok(NameSet {
+            shift,
+            groups: Groups::none(),
+            marks: Some(marks),
+        })
+    }
+
+    /// The set of all names, which takes no memory.
+    pub fn every() -> NameSet
+        ensures { (bucket : ℕ) → mark_of result bucket ≡ Changed }
+    {
+        NameSet {
+            shift: 0,
+            groups: Groups::every(),
+            marks: None,
+        }
+    }
+
+    /// How far the lines behind the edit moved.
+    pub fn shift(&self) -> i64
+        ensures { result ≡ self.now.shift }
+    {
+        self.shift
+    }
+
+    /// Adds a name of this bucket, of which this is true.
+    pub fn add(&mut self, bucket: u16, mark: Mark)
+        requires { bucket < 4096 }
+        ensures kept { (other : ℕ) → IsBelow (mark_of self.old other) (mark_of self.new other) }
+        ensures added { IsBelow mark (mark_of self.new bucket) }
+        ensures shift { self.new.shift ≡ self.old.shift }
+    {
+        if let Some(marks) = &mut self.marks {
+            let place = usize::from(bucket);
+            let mark = marks[place].with(mark);
+            marks[place] = mark;
+            if mark.differs() {
+                self.groups = self.groups.with(bucket);
+            }
+        }
+    }
+
+    /// Whether it has no name.
+    pub fn is_empty(&self) -> bool
+        ensures { IsTrue result → (bucket : ℕ) → has_bucket self.now bucket ≡ false }
+    {
+        self.groups.are_none()
+    }
+
+    // What is true of the names of a bucket.
+    #[inline]
+    fn mark(&self, bucket: u16) -> Mark
+        ensures { result ≡ mark_of self.now bucket }
+    {
+        match &self.marks {
+            Some(marks) => match marks.get(usize::from(bucket)) {
+                Some(mark) => *mark,
+                None => Mark::Unknown,
+            },
+            None => Mark::Changed,
+        }
+    }
+
+    /// Whether it has the names of a bucket.
+    #[inline]
+    pub fn has(&self, bucket: u16) -> bool
+        ensures { result ≡ has_bucket self.now bucket }
+    {
+        self.mark(bucket).differs()
+    }
+
+    /// Whether it may have names of these groups.
+    #[inline]
+    pub fn meets(&self, groups: Groups) -> bool
+        ensures { result ≡ false → (bucket : ℕ) → has_bucket self.now bucket ≡ true → has_group groups bucket ≡ false }
+    {
+        self.groups.meets(groups)
+    }
+
+    /// Whether each name of a bucket that gives an address moved as far as the lines behind the edit.
+    #[inline]
+    pub fn has_moved(&self, bucket: u16) -> bool
+        ensures { IsTrue result → HasMoved (mark_of self.now bucket) }
+    {
+        self.mark(bucket).has_moved()
+    }
+}

@@ -1,8 +1,0 @@
-use Rattle.std.proofs.Common.{arith}
-use Rattle.rv_store.proofs.LocalLines.{parted-between}
-use Rattle.rv_store.proofs.locals.count_near.Goals as goal
-
-pub returns-then-are_above-2-clause-parted : goal.returns-then-are_above-2-clause-parted
-returns-then-are_above-2-clause-parted c =
-    parted-between c.args.line c.saturating_sub-low.result c.min-high.result c.count_up_to.result c.args.lines.now (omega (arith, c.saturating_sub-low.ensures, c.min-high.ensures)) (omega (arith, c.min-high.ensures))
-    (c.are_up_to-2.ensures c.if-are_up_to-2.true) (c.are_above-then-are_up_to-2.ensures c.if-are_above-2.true) (omega (arith, c.count_up_to.ensures.bound)) c.count_up_to.ensures.parted

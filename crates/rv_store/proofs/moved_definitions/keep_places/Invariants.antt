@@ -1,6 +1,0 @@
-use Rattle.rv_store.specs.Edits.{edit_of}
-use Rattle.rv_store.proofs.MovedDefinitions.{AreKept}
-use Rattle.rv_store.proofs.moved_definitions.keep_places.Given as goal
-
-abbrev pub invariant-loop-number : goal.invariant-loop-number
-invariant-loop-number l = record { kept : AreKept (edit_of l.edit) l.lines l.names l.initial.row l.row l.number }

@@ -1,8 +1,0 @@
-use Rattle.std.proofs.Common.{ap, sym, ◌∙◌}
-use Rattle.rv_store.specs.NameSets.{has_bucket}
-use Rattle.rv_store.proofs.NameSets.{no-common_group}
-use Rattle.rv_store.proofs.name_set.NameSet.meets.Goals as goal
-
-pub returns : goal.returns
-returns c = λ apart bucket has.
-    no-common_group c.self.inside.groups c.args.groups bucket (sym c.meets.ensures ∙ apart) (c.self.invariant.1 bucket (ap (λ set. has_bucket set bucket) c.self.view_is ∙ has))

@@ -1,0 +1,15 @@
+-- What only contracts of private functions cite: nothing of it has to be believed.
+pub mod Alike
+pub mod Apart
+pub mod Appended
+pub mod Assembled
+pub mod Column
+pub mod ConstantPairs
+pub mod Ends
+pub mod Forgetting
+pub mod FormerShapes
+pub mod KeptConstants
+pub mod MovedPlaces
+pub mod Passed
+pub mod Stored
+pub mod Surveys

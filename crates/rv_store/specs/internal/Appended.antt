@@ -1,0 +1,143 @@
+-- A line at the end of a text. No other line has to do with it where none uses what it defines, and no section moves by it.
+use Rattle.std.specs.Prelude.{◌≡◌, ℕ, suc, ◌<◌, ◌≤◌, Bool, false, not, ◌&&◌, List, [], ◌∷◌, ◌++◌, length, take, None, Err}
+use Rattle.std.specs.List.{list_any}
+use Rattle.rv_expr.specs.declared.faults.ValueFault.TheVariants.{LaterEqu}
+use Rattle.rv_stmt.specs.declared.statement.Stmt.{Stmt}
+use Rattle.rv_stmt.specs.Statement.{statement_of}
+use Rattle.rv_layout.specs.declared.measured.Measured.{Measured}
+use Rattle.rv_layout.specs.Places.{section_base_of, IsLimited}
+use Rattle.rv_layout.specs.Sections.{sections}
+use Rattle.rv_layout.specs.Shapes.{shape_of}
+use Rattle.rv_list.specs.declared.view.DefinitionPlace.{DefinitionPlace}
+use Rattle.rv_list.specs.declared.view.DefinitionPlace.TheVariants.{Nowhere}
+use Rattle.rv_store.specs.declared.ending.Ending.{Ending}
+use Rattle.rv_program.specs.declared.limits.TheConstants.{MAX_LINES}
+use Rattle.rv_store.specs.declared.survey.Survey.{Survey}
+use Rattle.rv_program.specs.Constants.{constant_through}
+use Rattle.rv_program.specs.internal.Defining.{HoldsPart}
+use Rattle.rv_program.specs.Definitions.{place_in_body, place_in_statement, definition_of, is_defined, is_equ_on}
+use Rattle.rv_store.specs.internal.Ends.{ends_of}
+use Rattle.rv_program.specs.Layout.{shapes_of, place_at}
+use Rattle.rv_program.specs.Pairs.{pcrel_high_of}
+use Rattle.rv_program.specs.Program.{Program, program_of, body_at}
+use Rattle.rv_program.specs.References.{among_local, equ_value}
+use Rattle.rv_program.specs.internal.Rows.{in_row, AreDefinitions, AreConstants, AreEquValues, ArePlaces, AreLocals}
+use Rattle.rv_program.specs.Uses.{names_used}
+
+-- a statement at the end of a text defines a name that the text does not
+abbrev pub adds : Program → Stmt → (name : List ℕ) → Bool
+adds program s name = not (is_defined (definition_of program name)) && is_defined (place_in_statement (suc (length program)) s name)
+
+-- the same by rows that say where names are defined, and the number of its line
+abbrev pub adds_by_rows : (names : List (List ℕ)) → List DefinitionPlace → (line : ℕ) → Stmt → (name : List ℕ) → Bool
+adds_by_rows names row line s name = not (is_defined (in_row names row Nowhere name)) && is_defined (place_in_statement line s name)
+
+-- a statement with which no line of a text has to do: the text uses no name that it adds, and it has no local label, and is
+-- no high half
+pub record IsApart (program : Program) (s : Stmt) : Type 0 where
+  pub local : (number : ℕ) → among_local number s.labels ≡ false
+  pub high : pcrel_high_of s.body ≡ None
+  pub unused : (i : ℕ) → 1 ≤ i → i ≤ length program → list_any (adds program s) (names_used (body_at program i)) ≡ false
+
+-- the shape of a statement at the end of a text
+abbrev pub shape_at_end : Program → Stmt → Measured
+shape_at_end program s = shape_of (constant_through program (length program)) s.body
+
+-- all sections begin where they began, with a line of this shape at the end
+abbrev pub StaySections : (base : ℕ) → Program → Measured → Type 0
+StaySections base program shape =
+    (t : ℕ) → t < sections → section_base_of base (shapes_of program ++ shape ∷ []) t ≡ section_base_of base (shapes_of program) t
+
+-- what the statement adds at the end of the text
+pub record IsEnding (base : ℕ) (program : Program) (s : Stmt) (end : Ending) : Type 0 where
+  pub apart : IsApart program s
+  pub nothing : end.defines ≡ false → (name : List ℕ) → adds program s name ≡ false
+  pub shape : end.shape ≡ shape_at_end program s
+  pub limited : IsLimited end.shape
+  pub ends : end.ends ≡ ends_of (shapes_of program ++ end.shape ∷ [])
+  pub place : end.place ≡ place_at base (program ++ s ∷ []) (suc (length program))
+  pub stay : StaySections base program end.shape
+
+-- Rows
+
+-- the rows by names changed in nothing
+pub record AreSameSymbols (old new : Survey) : Type 0 where
+  pub definitions : new.definitions ≡ old.definitions
+  pub constants : new.constants ≡ old.constants
+  pub equ_values : new.equ_values ≡ old.equ_values
+
+-- the rows by lines changed in nothing
+pub record AreSameLines (old new : Survey) : Type 0 where
+  pub lines : new.lines.items ≡ old.lines.items
+  pub shapes : new.shapes.items ≡ old.shapes.items
+  pub ends : new.ends ≡ old.ends
+  pub places : new.places.items ≡ old.places.items
+  pub locals : new.locals ≡ old.locals
+  pub highs : new.highs.items ≡ old.highs.items
+  pub paired_highs : new.paired_highs.items ≡ old.paired_highs.items
+
+-- the rows by lines with what a line at the end adds
+pub record AreExtended (line : List ℕ) (end : Ending) (old new : Survey) : Type 0 where
+  pub lines : new.lines.items ≡ old.lines.items ++ line ∷ []
+  pub shapes : new.shapes.items ≡ old.shapes.items ++ end.shape ∷ []
+  pub ends : new.ends ≡ end.ends
+  pub places : new.places.items ≡ old.places.items ++ end.place ∷ []
+  pub locals : new.locals ≡ old.locals
+  pub highs : new.highs.items ≡ old.highs.items
+  pub paired_highs : new.paired_highs.items ≡ old.paired_highs.items
+
+-- the rows of the first lines are the old ones
+pub record BeginAs (count : ℕ) (old new : Survey) : Type 0 where
+  pub lines : take count new.lines.items ≡ old.lines.items
+  pub shapes : take count new.shapes.items ≡ old.shapes.items
+  pub places : take count new.places.items ≡ old.places.items
+  pub locals : new.locals ≡ old.locals
+  pub highs : new.highs.items ≡ old.highs.items
+  pub paired_highs : new.paired_highs.items ≡ old.paired_highs.items
+
+-- the rows by names hold what the first k lines of a text define, and no row is longer than there are names
+pub record AreSymbols (base : ℕ) (program : Program) (k : ℕ) (names : List (List ℕ)) (s : Survey) : Type 0 where
+  pub definitions : AreDefinitions program names s.definitions.items
+  pub constants : AreConstants program k names s.constants.items
+  pub equ_values : AreEquValues base program k names s.equ_values.items
+
+-- each name has its place in them
+pub record HavePlaces (names : List (List ℕ)) (s : Survey) : Type 0 where
+  pub definitions : length s.definitions.items ≡ length names
+  pub constants : length s.constants.items ≡ length names
+  pub equ_values : length s.equ_values.items ≡ length names
+
+-- A line at the end of a text that has nothing to do with it
+
+pub record IsLast (base : ℕ) (lines : List (List ℕ)) (line : List ℕ) : Type 0 where
+  pub apart : IsApart (program_of lines) (statement_of line)
+  pub earlier : equ_value base (program_of (lines ++ line ∷ [])) (length lines) ≡ equ_value base (program_of lines) (length lines)
+
+-- the rows by lines are those of the text with the line, and the rows by names still those of the text without it
+pub record IsUnsettled (base : ℕ) (lines names : List (List ℕ)) (line : List ℕ) (s : Survey) : Type 0 where
+  pub more : s.lines.items ≡ lines ++ line ∷ []
+  pub few : length s.lines.items ≤ MAX_LINES
+  pub last : IsLast base lines line
+  pub symbols : AreSymbols base (program_of lines) (length lines) names s
+  pub places : ArePlaces base (program_of s.lines.items) s.places.items
+  pub locals : AreLocals (program_of s.lines.items) (length (program_of s.lines.items)) s.locals
+
+-- a definition by the `.equ` of the line behind the text
+abbrev pub is_equ_behind : (lines : List (List ℕ)) → Stmt → (name : List ℕ) → DefinitionPlace → Bool
+is_equ_behind lines s name place = is_equ_on (suc (length lines)) place && is_defined (place_in_body (suc (length lines)) s.body name)
+
+-- the rows by names hold a part of what the line defines
+pub record AreInPart (base : ℕ) (lines names : List (List ℕ)) (s : Stmt) (survey : Survey) : Type 0 where
+  pub definitions : HoldsPart names survey.definitions.items (suc (length lines)) (definition_of (program_of lines))
+  pub constants : (name : List ℕ) → is_equ_behind lines s name (in_row names survey.definitions.items Nowhere name) ≡ false
+      → in_row names survey.constants.items None name ≡ constant_through (program_of lines) (length lines) name
+  pub equ_values : (name : List ℕ) → is_equ_behind lines s name (in_row names survey.definitions.items Nowhere name) ≡ false
+      → in_row names survey.equ_values.items (Err LaterEqu) name ≡ equ_value base (program_of lines) (length lines) name
+  pub constants_within : length survey.constants.items ≤ length names
+  pub equ_values_within : length survey.equ_values.items ≤ length names
+
+-- those hold a part of it that say where names are defined, and the others nothing
+pub record AreDefinitionsInPart (base : ℕ) (lines names : List (List ℕ)) (survey : Survey) : Type 0 where
+  pub definitions : HoldsPart names survey.definitions.items (suc (length lines)) (definition_of (program_of lines))
+  pub constants : AreConstants (program_of lines) (length lines) names survey.constants.items
+  pub equ_values : AreEquValues base (program_of lines) (length lines) names survey.equ_values.items
