@@ -1,0 +1,5 @@
+pub mod Starts
+pub mod Around
+pub mod Edited
+pub mod Examples
+pub mod Rooms

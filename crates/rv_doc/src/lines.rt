@@ -1,0 +1,50 @@
+//! Where the lines of a text begin and end.
+
+ghost use Rattle.std.specs.Prelude.{◌≡◌, ◌+◌, ◌≤◌, length, count_by, ◌==◌};
+ghost use Rattle.rv_doc.specs.Positions.{lines_of};
+ghost use Rattle.rv_doc.specs.Borders.{IsLineStart, IsLineEnd};
+
+use memchr::{memchr, memrchr};
+
+// How many line breaks there are.
+pub(crate) fn line_breaks(text: &[u8]) -> usize
+    ensures value { result ≡ count_by (λ b. b == 10) text.now }
+    ensures within { result ≤ length text.now }
+{
+    text.iter().filter(|b| **b == b'\n').count()
+}
+
+/// How many lines a text has: one more than line breaks.
+pub fn line_count(text: &[u8]) -> usize
+    ensures value { result ≡ length (lines_of text.now) }
+    ensures within { result ≤ length text.now + 1 }
+{
+    line_breaks(text) + 1
+}
+
+// Where the line begins that holds a place.
+pub(crate) fn line_start_before(text: &[u8], at: usize) -> usize
+    requires { at ≤ length text.now }
+    ensures before { result ≤ at }
+    ensures border { IsLineStart text.now result }
+{
+    let (front, _) = text.split_at(at);
+    match memrchr(b'\n', front) {
+        None => 0,
+        Some(k) => k + 1,
+    }
+}
+
+// Where the line ends that holds a place.
+pub(crate) fn line_end_behind(text: &[u8], at: usize) -> usize
+    requires { at ≤ length text.now }
+    ensures behind { at ≤ result }
+    ensures within { result ≤ length text.now }
+    ensures border { IsLineEnd text.now result }
+{
+    let (_, rest) = text.split_at(at);
+    match memchr(b'\n', rest) {
+        None => text.len(),
+        Some(k) => at + k,
+    }
+}

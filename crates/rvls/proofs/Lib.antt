@@ -1,0 +1,4 @@
+pub mod LineSplits
+pub mod Pieces
+pub mod WindowLaws
+pub mod Written

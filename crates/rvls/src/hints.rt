@@ -1,0 +1,66 @@
+//! Hints beside lines: their addresses and first bytes.
+
+ghost use Rattle.std.specs.Prelude.{◌≤◌, length};
+
+use crate::diagnostics::column_at;
+use crate::hover::hint_text;
+use crate::message::Message;
+use crate::writing::put_position;
+use rv_doc::Encoding;
+use rv_list::{LineSource, LineView, View};
+use rv_store::MAX_LINE_LENGTH;
+use std::alloc::{AllocError, Global};
+
+// The column at the end of a line, before the carriage return that belongs to its end.
+fn end_column(encoding: Encoding, text: &[u8]) -> u32 {
+    let (text, _) = text.split_at(text.len().min(MAX_LINE_LENGTH));
+    let end = match text.split_last() {
+        Some((b'\r', before)) => before.len(),
+        _ => text.len(),
+    };
+    column_at(encoding, text, end as u32)
+}
+
+// Writes the hint of a line, by its number from 0 on.
+fn put_hint(
+    m: &mut Message,
+    alloc: Global,
+    encoding: Encoding,
+    number: u32,
+    line: &LineView<'_>,
+) -> Result<(), AllocError> {
+    let text = hint_text(alloc, line)?;
+    m.begin_object()?;
+    m.key("position")?;
+    put_position(m, number, end_column(encoding, line.text))?;
+    m.put_string("label", text.as_str())?;
+    m.put_true("paddingLeft")?;
+    m.end_object()
+}
+
+/// Writes the hints of the lines with bytes from number `from` on, up to and with number `to`, both from 0 on.
+///
+/// # Errors
+///
+/// `AllocError` if there is no memory for them.
+pub fn put_hints<V: View>(
+    m: &mut Message,
+    alloc: Global,
+    encoding: Encoding,
+    view: &V,
+    from: u32,
+    to: u32,
+) -> Result<(), AllocError> {
+    let mut lines = view.lines();
+    for k in 0..view.line_count() {
+        if k > to {
+            return Ok(());
+        }
+        lines.advance();
+        let line = lines.line();
+        if k >= from && line.place.size > 0 {
+            put_hint(m, alloc, encoding, k, &line)?;
+        }
+    }
+    Ok(())
+}

@@ -1,0 +1,6 @@
+;; Emacs 29 and later, whose Eglot starts rvls for files of assembly. Put this into init.el; rvls has to be on the PATH.
+;; Emacs 30 shows addresses and bytes at the ends of lines (eglot-inlay-hints-mode).
+(with-eval-after-load 'eglot
+  (add-to-list 'eglot-server-programs '(asm-mode . ("rvls"))))
+(setq-default asm-comment-char ?#)
+(add-hook 'asm-mode-hook #'eglot-ensure)

@@ -1,0 +1,63 @@
+-- Neovim 0.7, which Debian 12 has. Put this into init.lua; rvls has to be on the PATH, or RVLS has to name it.
+vim.filetype.add({ extension = { s = 'riscv', S = 'riscv' } })
+
+-- This Neovim knows no hints: they are shown as virtual text.
+local space = vim.api.nvim_create_namespace('rvls')
+
+local function show_hints(client, buffer)
+  if not client.server_capabilities.inlayHintProvider then
+    return
+  end
+  local last = vim.api.nvim_buf_line_count(buffer)
+  local range = { start = { line = 0, character = 0 }, ['end'] = { line = last, character = 0 } }
+  local document = { uri = vim.uri_from_bufnr(buffer) }
+  client.request('textDocument/inlayHint', { textDocument = document, range = range }, function(fault, hints)
+    if fault or not vim.api.nvim_buf_is_valid(buffer) then
+      return
+    end
+    vim.api.nvim_buf_clear_namespace(buffer, space, 0, -1)
+    for _, hint in ipairs(hints or {}) do
+      if hint.position.line < vim.api.nvim_buf_line_count(buffer) then
+        local text = { { hint.label, 'Comment' } }
+        vim.api.nvim_buf_set_extmark(buffer, space, hint.position.line, 0, { virt_text = text, virt_text_win_col = 48 })
+      end
+    end
+  end, buffer)
+end
+
+local function attached(client, buffer)
+  for keys, action in pairs({ K = vim.lsp.buf.hover, gd = vim.lsp.buf.definition, gr = vim.lsp.buf.references }) do
+    vim.keymap.set('n', keys, action, { buffer = buffer })
+  end
+  show_hints(client, buffer)
+  vim.api.nvim_create_autocmd({ 'TextChanged', 'TextChangedI' }, {
+    buffer = buffer,
+    callback = function()
+      show_hints(client, buffer)
+    end,
+  })
+end
+
+vim.api.nvim_create_autocmd('FileType', {
+  pattern = 'riscv',
+  callback = function(args)
+    vim.bo[args.buf].commentstring = '# %s'
+    local capabilities = vim.lsp.protocol.make_client_capabilities()
+    capabilities.general = { positionEncodings = { 'utf-8', 'utf-16' } }
+    local client = vim.lsp.start_client({
+      name = 'rvls',
+      cmd = { vim.env.RVLS or 'rvls' },
+      capabilities = capabilities,
+      root_dir = vim.fn.getcwd(),
+      flags = { debounce_text_changes = 0 },
+      -- This Neovim does not read the encoding that was agreed on by itself.
+      on_init = function(client, result)
+        client.offset_encoding = result.capabilities.positionEncoding or 'utf-16'
+      end,
+      on_attach = attached,
+    })
+    if client then
+      vim.lsp.buf_attach_client(args.buf, client)
+    end
+  end,
+})

@@ -1,0 +1,27 @@
+-- Neovim 0.8 and later. Put this into init.lua; rvls has to be on the PATH, or RVLS has to name it.
+vim.filetype.add({ extension = { s = 'riscv', S = 'riscv' } })
+
+vim.api.nvim_create_autocmd('FileType', {
+  pattern = 'riscv',
+  callback = function(args)
+    vim.bo[args.buf].commentstring = '# %s'
+    vim.lsp.start({ name = 'rvls', cmd = { vim.env.RVLS or 'rvls' }, root_dir = vim.fs.dirname(args.file) })
+  end,
+})
+
+vim.api.nvim_create_autocmd('LspAttach', {
+  callback = function(args)
+    local client = vim.lsp.get_client_by_id(args.data.client_id)
+    if not client or client.name ~= 'rvls' then
+      return
+    end
+    -- Neovim 0.11 has K for hover by itself, and grr for references.
+    for keys, action in pairs({ K = vim.lsp.buf.hover, gd = vim.lsp.buf.definition, gr = vim.lsp.buf.references }) do
+      vim.keymap.set('n', keys, action, { buffer = args.buf })
+    end
+    -- Hints at the ends of lines, from Neovim 0.10 on.
+    if vim.lsp.inlay_hint and client.server_capabilities.inlayHintProvider then
+      vim.lsp.inlay_hint.enable(true, { bufnr = args.buf })
+    end
+  end,
+})
