@@ -10,7 +10,7 @@ use Rattle.std.specs.List.{flat_map}
 use Rattle.rvls.specs.declared.window.Window.{Window}
 use Rattle.rvls.specs.Windows.{passed, shows, windowed}
 
-alike : (v w : Window) → v.skipped ≡ w.skipped → v.most ≡ w.most → v ≡ w
+pub alike : (v w : Window) → v.skipped ≡ w.skipped → v.most ≡ w.most → v ≡ w
 alike v w s m = ap (λ n. record { skipped = n; most = v.most }) s ∙ ap (λ n. record { skipped = w.skipped; most = n }) m
 
 -- the rest of a window is passed in one step or in two

@@ -1,9 +1,14 @@
 //! How many diagnostics a document has, and how many of them stand before a line.
 
+ghost use Rattle.std.specs.Prelude.{◌≡◌, ◌+◌, ◌*◌, ◌^◌, ◌<◌, ◌≤◌, ◌∷◌, [], length, take, drop, if◌then◌else◌};
+ghost use Rattle.rv_report.specs.Warnings.{warning_of};
+ghost use Rattle.rvls.specs.Published.{are_lines, fault_count, faults_before, is_long, long_count, optional, warning_count, warnings_before};
+
 use crate::lines::Lines;
 use arrayvec::ArrayVec;
 use rv_list::{LineSource, MAX_FAULTS, View, find_faults};
 use rv_report::find_warning;
+use rv_stmt::Stmt;
 use rv_store::{MAX_LINE_LENGTH, MAX_LINES};
 use rv_text::Fault;
 
@@ -16,21 +21,34 @@ pub struct Counted {
 
 impl Counted {
     // No rows.
-    fn new() -> Counted {
+    fn new() -> Counted
+        ensures all { result.all ≡ 0 }
+        ensures before { result.before ≡ 0 }
+    {
         Counted { before: 0, all: 0 }
     }
 
     // Adds so many rows.
-    fn add(&mut self, rows: usize, are_before: bool) {
-        self.all = self.all.saturating_add(rows);
+    fn add(&mut self, rows: usize, are_before: bool)
+        requires within { self.old.before ≤ self.old.all }
+        requires room { self.old.all + rows < 2 ^ 64 }
+        ensures all { self.new.all ≡ self.old.all + rows }
+        ensures before { self.new.before ≡ (if are_before then self.old.before + rows else self.old.before) }
+        ensures within { self.new.before ≤ self.new.all }
+    {
+        self.all += rows;
         if are_before {
-            self.before = self.before.saturating_add(rows);
+            self.before += rows;
         }
     }
 }
 
 /// How many faults a text has, and how many stand before a line, by its number from 0 on.
-pub fn count_faults<V: View>(view: &V, at: u32) -> Counted {
+pub fn count_faults<V: View>(view: &V, at: u32) -> Counted
+    ensures all { result.all ≡ fault_count (V.shown view.now) }
+    ensures before { result.before ≡ faults_before (V.shown view.now) at }
+    ensures few { result.all ≤ 1004 * 16384 }
+{
     let mut faults = ArrayVec::<Option<Fault>, MAX_FAULTS>::new();
     let mut counted = Counted::new();
     let mut lines = view.lines();
@@ -42,42 +60,84 @@ pub fn count_faults<V: View>(view: &V, at: u32) -> Counted {
     counted
 }
 
+// How many warnings there are about a statement.
+fn warnings_on<V: View>(view: &V, stmt: &Stmt) -> usize
+    ensures value { result ≡ length (optional (warning_of (V.shown view.now) stmt.now.body)) }
+    ensures few { result ≤ 1 }
+{
+    match find_warning(view, stmt) {
+        Some(_) => 1,
+        None => 0,
+    }
+}
+
 /// How many warnings there are about a text, and how many stand before a line, by its number from 0 on.
-pub fn count_warnings<V: View>(view: &V, at: u32) -> Counted {
+pub fn count_warnings<V: View>(view: &V, at: u32) -> Counted
+    ensures all { result.all ≡ warning_count (V.shown view.now) }
+    ensures before { result.before ≡ warnings_before (V.shown view.now) at }
+    ensures few { result.all ≤ 16384 }
+{
     let mut counted = Counted::new();
     let mut lines = view.lines();
     for k in 0..view.line_count() {
         lines.advance();
-        if find_warning(view, lines.line().stmt).is_some() {
-            counted.add(1, k < at);
-        }
+        counted.add(warnings_on(view, lines.line().stmt), k < at);
     }
     counted
+}
+
+/// Whether a line is too long.
+pub fn is_long(line: &[u8]) -> bool
+    ensures { result ≡ is_long line.now }
+{
+    line.len() > MAX_LINE_LENGTH
+}
+
+// How many lines that are too long a line is.
+fn long_on(line: &[u8]) -> usize
+    ensures value { result ≡ long_count (line.now ∷ []) }
+    ensures few { result ≤ 1 }
+{
+    if is_long(line) { 1 } else { 0 }
 }
 
 /// How many lines of a document are too long, and how many of them stand before a line, by its number from 0 on.
-pub fn count_long_lines(mut lines: Lines<'_>, at: u32) -> Counted {
+pub fn count_long_lines(mut lines: Lines<'_>, at: u32) -> Counted
+    ensures all { result.all ≡ long_count (take 16384 lines.entry) }
+    ensures before { result.before ≡ long_count (take at (take 16384 lines.entry)) }
+    ensures few { result.all ≤ 16384 }
+{
     let mut counted = Counted::new();
-    for k in 0..MAX_LINES {
+    for k in 0..MAX_LINES as u32 {
         let Some(line) = lines.next_line() else {
             return counted;
         };
-        if line.len() > MAX_LINE_LENGTH {
-            counted.add(1, k < at as usize);
-        }
+        counted.add(long_on(line), k < at);
     }
     counted
 }
 
-/// Whether a document has more lines than a text may have. What stands behind the last line break is a line if it is not empty.
-pub fn has_too_many_lines(mut lines: Lines<'_>) -> bool {
-    for _ in 0..MAX_LINES {
-        if lines.next_line().is_none() {
-            return false;
-        }
-    }
+// Whether what stands behind some line breaks is a line or more. Behind the last one it is a line if it is not empty.
+fn are_lines(mut lines: Lines<'_>) -> bool
+    ensures { result ≡ are_lines lines.entry }
+{
+    let Some(line) = lines.next_line() else {
+        return false;
+    };
     match lines.next_line() {
-        Some(line) => !line.is_empty() || lines.next_line().is_some(),
-        None => false,
+        Some(_) => true,
+        None => !line.is_empty(),
     }
+}
+
+/// Whether a document has more lines than a text may have.
+pub fn has_too_many_lines(mut lines: Lines<'_>) -> bool
+    ensures { result ≡ are_lines (drop 16384 lines.entry) }
+{
+    for _ in 0..MAX_LINES {
+        let Some(_) = lines.next_line() else {
+            return false;
+        };
+    }
+    are_lines(lines)
 }

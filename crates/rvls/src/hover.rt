@@ -1,6 +1,11 @@
-//! What is shown of a line: its address and bytes, and the instructions that it stands for.
+//! What is shown of a line: its address and bytes, the instructions that it stands for, and the value of a name.
 
+use crate::diagnostics::Context;
+use crate::name_at::meaning_at;
+use crate::places::lines_to;
+use crate::symbol_text::push_meaning;
 use rv_dis::disassemble;
+use rv_doc::Position;
 use rv_fix::Payload;
 use rv_list::{LineSource, LineView, View};
 use rv_show::Text;
@@ -72,40 +77,61 @@ pub fn hint_text(alloc: Global, line: &LineView<'_>) -> Result<String, AllocErro
     String::from_utf8_lossy(alloc, text.bytes())
 }
 
-// What is said of a line: its address, its bytes, how many they are, and the instructions.
-fn line_text(alloc: Global, line: &LineView<'_>) -> Result<String, AllocError> {
-    let mut text = Text::new(alloc);
-    push_place(&mut text, line, HOVER_BYTES)?;
+// Appends what is said of a line: its address, its bytes, how many they are, and the instructions.
+fn push_line(text: &mut Text, alloc: Global, line: &LineView<'_>) -> Result<(), AllocError> {
+    push_place(text, line, HOVER_BYTES)?;
     text.push(b" (")?;
     text.push_number(line.place.size)?;
     text.push(b" bytes)")?;
     match &line.stmt.body {
-        Body::Instr(_) | Body::Pseudo(_) => push_instructions(&mut text, alloc, line)?,
-        _ => {}
+        Body::Instr(_) | Body::Pseudo(_) => push_instructions(text, alloc, line),
+        _ => Ok(()),
     }
-    String::from_utf8_lossy(alloc, text.bytes())
 }
 
-/// What is said of a line of a text, by its number from 0 on, if it has bytes.
+// Appends what is said at a column of a line: what the name there stands for, if one is there, and what the line is, if it has bytes.
+fn push_said<V: View>(
+    text: &mut Text,
+    context: &Context<'_>,
+    view: &V,
+    number: u32,
+    line: &LineView<'_>,
+    column: u32,
+) -> Result<(), AllocError> {
+    let alloc = context.alloc;
+    let meaning = meaning_at(alloc, context.encoding, view, number, line, column)?;
+    if let Some(meaning) = meaning {
+        push_meaning(text, view, &meaning)?;
+        if line.place.size > 0 {
+            text.push(b"\n")?;
+        }
+    }
+    if line.place.size > 0 {
+        push_line(text, alloc, line)?;
+    }
+    Ok(())
+}
+
+/// What is said at a position of a text, if there is a name that stands for something, or the line has bytes.
 ///
 /// # Errors
 ///
 /// `AllocError` if there is no memory for the text.
 pub fn hover_text<V: View>(
-    alloc: Global,
+    context: &Context<'_>,
     view: &V,
-    number: u32,
+    position: Position,
 ) -> Result<Option<String>, AllocError> {
-    let mut lines = view.lines();
-    for k in 0..view.line_count() {
-        lines.advance();
-        if k == number {
-            let line = lines.line();
-            if line.place.size == 0 {
-                return Ok(None);
-            }
-            return Ok(Some(line_text(alloc, &line)?));
-        }
+    let number = position.line.saturating_add(1);
+    let Some(lines) = lines_to(view, number) else {
+        return Ok(None);
+    };
+    let line = lines.line();
+    let mut text = Text::new(context.alloc);
+    push_said(&mut text, context, view, number, &line, position.character)?;
+    if text.bytes().is_empty() {
+        return Ok(None);
     }
-    Ok(None)
+    let said = String::from_utf8_lossy(context.alloc, text.bytes())?;
+    Ok(Some(said))
 }

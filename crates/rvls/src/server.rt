@@ -6,9 +6,10 @@ use crate::assembly::Assembly;
 use crate::diagnostics::Context;
 use crate::hints::put_hints;
 use crate::hover::hover_text;
+use crate::looking_up::{put_answer, question_in};
 use crate::message::Message;
 use crate::publishing::{publish, publish_none};
-use crate::reading::{number_at, text_at};
+use crate::reading::{number_at, position_of, text_at};
 use crate::writing::{Refusal, answer_null, answer_text, begin_result, refuse, show_error};
 use rv_doc::Encoding;
 use serde_json::Value;
@@ -57,7 +58,13 @@ pub struct Server {
 }
 
 // What the server can do, beside what takes options.
-const PROVIDERS: [&str; 2] = ["hoverProvider", "inlayHintProvider"];
+const PROVIDERS: [&str; 5] = [
+    "hoverProvider",
+    "inlayHintProvider",
+    "definitionProvider",
+    "referencesProvider",
+    "documentSymbolProvider",
+];
 
 // Whether a list of texts has this one.
 fn has_text(list: Option<&Value>, text: &str) -> bool {
@@ -183,14 +190,7 @@ impl Server {
         };
         let version = version_in(message);
         let document = Assembly::new(self.alloc, text.as_bytes())?;
-        publish(
-            &self.context(uri),
-            version,
-            document.text(),
-            &document.store(),
-            0,
-            out,
-        )?;
+        publish(&self.context(uri), version, &document, 0, out)?;
         let _ = self.take(uri);
         let uri = String::from_str(self.alloc, uri)?;
         self.documents.push(Open {
@@ -231,14 +231,7 @@ impl Server {
         };
         let at = document.edited();
         let context = self.context(uri.as_str());
-        publish(
-            &context,
-            version,
-            document.text(),
-            &document.store(),
-            at,
-            out,
-        )?;
+        publish(&context, version, &document, at, out)?;
         self.documents.push(Open {
             uri,
             version,
@@ -287,6 +280,8 @@ impl Server {
             }
             "textDocument/hover" => self.hover(message, out),
             "textDocument/inlayHint" => self.hints(message, out),
+            "textDocument/definition" | "textDocument/references" | "textDocument/documentSymbol" =>
+                self.look_up(method, message, out),
             _ => refuse(self.alloc, id, Refusal::UnknownMethod, out),
         }
     }
@@ -298,16 +293,27 @@ impl Server {
         self.documents.get(at)
     }
 
-    // Says what a line is.
-    fn hover(&self, message: &Value, out: &mut Vec<u8>) -> Result<(), AllocError> {
+    // Answers a question about names.
+    fn look_up(&self, method: &str, message: &Value, out: &mut Vec<u8>) -> Result<(), AllocError> {
         let id = message.get("id");
-        let (Some(open), Some(line)) = (
-            self.asked_about(message),
-            number_at(message, "/params/position/line"),
-        ) else {
+        let (Some(open), Some(question)) = (self.asked_about(message), question_in(method, message))
+        else {
             return refuse(self.alloc, id, Refusal::WrongParameters, out);
         };
-        let Some(text) = hover_text(self.alloc, &open.document.store(), line)? else {
+        let context = self.context(open.uri.as_str());
+        let mut m = begin_result(self.alloc, id)?;
+        put_answer(&mut m, &context, &open.document.store(), question)?;
+        m.end(out)
+    }
+
+    // Says what a name and its line are.
+    fn hover(&self, message: &Value, out: &mut Vec<u8>) -> Result<(), AllocError> {
+        let id = message.get("id");
+        let (Some(open), Some(position)) = (self.asked_about(message), position_of(message)) else {
+            return refuse(self.alloc, id, Refusal::WrongParameters, out);
+        };
+        let context = self.context(open.uri.as_str());
+        let Some(text) = hover_text(&context, &open.document.store(), position)? else {
             return answer_null(self.alloc, id, out);
         };
         answer_text(self.alloc, id, text.as_str(), out)

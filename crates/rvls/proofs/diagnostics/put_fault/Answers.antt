@@ -1,4 +1,4 @@
-use Rattle.std.proofs.Common.{append_assoc, ◌++◌, ap, refl, ◌∙◌}
+use Rattle.std.proofs.Common.{append_assoc, ◌++◌, ap, ◌∙◌}
 use Rattle.rvls.proofs.Written.{same_head}
 use Rattle.rvls.specs.Diagnostics.{fault_diagnostic, related_of}
 use Rattle.rvls.proofs.diagnostics.put_fault.Goals as goal

@@ -1,4 +1,4 @@
-use Rattle.std.proofs.Common.{◌≡◌, ap, sym, ◌∙◌}
+use Rattle.std.proofs.Common.{◌∙◌}
 use Rattle.rv_report.specs.Lines.{line_of}
 use Rattle.rvls.specs.Diagnostics.{fault_diagnostic}
 use Rattle.rvls.proofs.WindowLaws.{next_faults, next_passed}

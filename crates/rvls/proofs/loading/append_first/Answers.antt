@@ -1,4 +1,4 @@
-use Rattle.std.proofs.Common.{◌≡◌, ◌++◌, ◌-◌, ◌∷◌, [], length, map, take, ap, sym, ◌∙◌, arith, length-append}
+use Rattle.std.proofs.Common.{◌++◌, ◌-◌, ◌∷◌, [], length, map, take, ap, ◌∙◌, arith, length-append}
 use Rattle.rv_program.specs.Text.{Text}
 use Rattle.rv_doc.specs.Edits.{assembled_line}
 use Rattle.rvls.proofs.Pieces.{appended_more}

@@ -1,4 +1,4 @@
-use Rattle.std.proofs.Common.{◌≡◌, sym, ◌∙◌, refl}
+use Rattle.std.proofs.Common.{sym, ◌∙◌, refl}
 use Rattle.rvls.proofs.reading.range_of.Goals as goal
 
 pub returns-in_err-end : goal.returns-in_err-end

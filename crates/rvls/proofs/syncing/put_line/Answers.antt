@@ -1,4 +1,4 @@
-use Rattle.std.proofs.Common.{◌≡◌, ◌≤◌, length, ap, arith}
+use Rattle.std.proofs.Common.{◌≤◌, length, ap, arith}
 use Rattle.rv_program.specs.Text.{Text}
 use Rattle.rvls.proofs.Pieces.{put_insert}
 use Rattle.rvls.proofs.syncing.put_line.Goals as goal

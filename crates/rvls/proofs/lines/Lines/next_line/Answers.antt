@@ -1,4 +1,4 @@
-use Rattle.std.proofs.Common.{◌≡◌, ◌∷◌, drop, ap, refl, sym, ◌∙◌}
+use Rattle.std.proofs.Common.{◌≡◌, drop, refl, sym, ◌∙◌}
 use Rattle.rv_doc.specs.Positions.{lines_of}
 use Rattle.rvls.proofs.LineSplits.{lines_first, lines_only, unbroken_first, unbroken_only}
 use Rattle.rvls.proofs.lines.Lines.next_line.Goals as goal

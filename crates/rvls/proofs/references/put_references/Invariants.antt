@@ -1,5 +1,5 @@
 use Rattle.std.proofs.Common.{◌≡◌}
-use Rattle.rvls.proofs.hover.hover_text.Given as goal
+use Rattle.rvls.proofs.references.put_references.Given as goal
 
 -- so many lines are passed
 abbrev pub invariant-loop-k : goal.invariant-loop-k

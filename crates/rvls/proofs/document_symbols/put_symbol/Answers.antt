@@ -1,0 +1,10 @@
+use Rattle.std.proofs.Common.{append_assoc, ◌∙◌}
+use Rattle.rvls.specs.DocumentSymbols.{document_symbol}
+use Rattle.rvls.proofs.document_symbols.put_symbol.Goals as goal
+
+pub returns : goal.returns
+unfolding document_symbol
+returns c =
+    let name = c.as_str.ensures.value ∙ c.in_ok-name.ensures.lossy in
+    rw (c.in_ok-end_object.ensures, c.in_ok-put_name_range-2.ensures, c.in_ok-key-2.ensures, c.in_ok-put_name_range.ensures, c.in_ok-key.ensures, c.in_ok-put_number.ensures, c.in_ok-put_string.ensures, c.in_ok-begin_object.ensures, name)
+    (simp append_assoc)

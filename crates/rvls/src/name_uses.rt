@@ -1,0 +1,55 @@
+//! Where names stand among the tokens of a line's operands.
+
+use rv_text::TokenKind;
+
+/// What may come next in a line.
+#[derive(Clone, Copy, Debug, PartialEq, Eq)]
+pub enum Expected {
+    /// A label, or the name of an instruction or a directive.
+    Statement,
+    /// An operand, or a part of one.
+    Operand,
+    /// What stands behind an operand.
+    Sign,
+    /// The name of a modifier.
+    Modifier,
+    /// The register of an address.
+    Base,
+}
+
+// What may come behind a sign.
+fn after_sign(expected: Expected, sign: &[u8]) -> Expected {
+    match sign {
+        b":" => Expected::Statement,
+        b")" => Expected::Sign,
+        b"(" if expected == Expected::Sign => Expected::Base,
+        b"%" if expected == Expected::Operand => Expected::Modifier,
+        _ => Expected::Operand,
+    }
+}
+
+// What may come behind an identifier.
+fn after_identifier(expected: Expected) -> Expected {
+    match expected {
+        Expected::Statement | Expected::Modifier => Expected::Operand,
+        Expected::Operand | Expected::Sign | Expected::Base => Expected::Sign,
+    }
+}
+
+/// What may come behind a token.
+pub fn expected_after(expected: Expected, kind: TokenKind, text: &[u8]) -> Expected {
+    match kind {
+        TokenKind::Punctuation => after_sign(expected, text),
+        TokenKind::Identifier => after_identifier(expected),
+        TokenKind::Number | TokenKind::Local | TokenKind::Str | TokenKind::Char => Expected::Sign,
+    }
+}
+
+/// Whether a token may be the name of a symbol or of a local label.
+pub fn is_name(expected: Expected, kind: TokenKind, text: &[u8]) -> bool {
+    match kind {
+        TokenKind::Identifier => expected == Expected::Operand && text != b".".as_slice(),
+        TokenKind::Local => expected == Expected::Operand,
+        TokenKind::Number | TokenKind::Str | TokenKind::Char | TokenKind::Punctuation => false,
+    }
+}
