@@ -23,6 +23,7 @@ pub mod PairedHighs
 pub mod ReadLines
 pub mod Renewals
 pub mod Rows
+pub mod Still
 pub mod SymbolRows
 pub mod TextRows
 pub mod TreeRefusals

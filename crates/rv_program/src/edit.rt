@@ -40,7 +40,7 @@ impl LineEdit<'_> {
     }
 
     /// The number of the line that it puts in, or before which it takes one out. No other line of the text after it is new.
-    pub(crate) fn place(&self) -> u32
+    pub fn place(&self) -> u32
         ensures value { result ≡ place_of_edit (edit_of self.now) }
         ensures only { (line : ℕ) → line_before_edit (edit_of self.now) line ≡ None → line ≡ result }
     {

@@ -1,37 +1,29 @@
--- Where a statement is put in the place of one that it is alike, all other lines stay as they are.
-use Rattle.std.proofs.Common.{◌≡◌, ℕ, zero, suc, ◌+◌, ◌-◌, ◌<◌, ◌≤◌, ◌⊎◌, inl, inr, false, ◌||◌, ◌==◌, not, ◌&&◌, List, [], ◌∷◌, length, map, set, get_or, Option, Some, None, Err, Ok, ok_or, pos, if◌then◌else◌, true≢false, arith, ap, sym, subst, ◌∙◌, refl}
+-- Where a statement is put in the place of one that it is alike, all lines lie where they lay, and no other one has to do with it.
+use Rattle.std.proofs.Common.{◌≡◌, ℕ, zero, suc, ◌+◌, ◌-◌, ◌≤◌, ◌⊎◌, inl, inr, Bool, true, false, ◌||◌, List, [], ◌∷◌, length, map, set, get_or, if◌then◌else◌, true≢false, arith, ap, sym, ◌∙◌, refl}
 use Rattle.std.specs.Result.{result_ok}
-use Rattle.std.proofs.lemmas.Bool.{cases_lt}
 use Rattle.std.proofs.lemmas.List.{length-set, get_or-set_same, get_or-set_other}
 use Rattle.std.proofs.Math.Path.{fun_ext}
-use Rattle.rv_expr.specs.declared.faults.ValueFault.TheVariants.{NotConstant, Undefined}
-use Rattle.rv_expr.specs.declared.tree.Direction.{Direction}
-use Rattle.rv_expr.specs.declared.tree.Direction.TheVariants.{Back, Forward}
-use Rattle.rv_expr.specs.declared.tree.LabelReference.{LabelReference}
-use Rattle.rv_expr.specs.declared.tree.LabelReference.TheVariants as reference
-use Rattle.rv_expr.specs.Value.{Environment}
 use Rattle.rv_stmt.specs.declared.statement.Body.{Body}
 use Rattle.rv_stmt.specs.declared.statement.Body.TheVariants as body
 use Rattle.rv_stmt.specs.declared.statement.Stmt.{Stmt}
 use Rattle.rv_stmt.specs.LabelNames.{Label}
-use Rattle.rv_stmt.specs.Readings.{and_then}
 use Rattle.rv_layout.specs.Places.{section_of, line_size_of, address_of}
-use Rattle.rv_layout.specs.Sections.{is_code, section_number}
 use Rattle.rv_layout.specs.Shapes.{constants, shape_of}
-use Rattle.rv_fix.specs.Values.{Entry, operand_values_of}
 use Rattle.rv_list.specs.declared.view.DefinitionPlace.TheVariants.{Nowhere, Label as ByLabel}
-use Rattle.rv_program.specs.declared.line_values.LineValues.TheVariants.{Nothing, Operands, Symbol, Padding}
-use Rattle.rv_store.specs.internal.Alike.{label_names, room_of, IsPlain, DefinesSame, IsAlike}
-use Rattle.rv_program.specs.Codes.{values_of_body, values_by_shape, values_at, code_by_values, code_at}
+use Rattle.rv_store.specs.internal.Alike.{label_names, room_of, DefinesSame, IsAlike}
 use Rattle.rv_program.specs.Constants.{defined_value, constant_of, constant_through}
 use Rattle.rv_program.specs.Definitions.{defines_symbol, place_among_labels, place_in_body, or_place, place_in_statement, first_place, definition_of, is_equ_on}
 use Rattle.rv_store.specs.internal.Ends.{ends_of}
 use Rattle.rv_program.specs.Layout.{shape_at, shapes_of, section_at, address_at, size_at, place_at}
-use Rattle.rv_program.specs.Pairs.{pcrel_high_of, high_by, high_at, next_with_bytes, high_at_line, paired_high_of, names_at}
-use Rattle.rv_program.specs.Program.{Program, no_statement, statement_at, body_at, for_lines, last_line, first_line}
-use Rattle.rv_program.specs.References.{is_local, among_local, has_local, local_line, line_of_place, label_line, by_definition, address_of_line, names_on, no_pairs, equ_value, symbol_through, usable_equs, reference_of, references_at}
-use Rattle.rv_program.specs.Uses.{is_equ}
+use Rattle.rv_program.specs.Pairs.{pcrel_high_of}
+use Rattle.rv_program.specs.Program.{Program, no_statement, statement_at, body_at, for_lines}
+use Rattle.rv_program.specs.References.{is_local, among_local, has_local}
+use Rattle.rv_program.specs.internal.Still.{IsStill}
+use Rattle.rv_program.specs.Uses.{is_equ, names_used}
+use Rattle.rv_store.proofs.ApartLines.{none-of}
+use Rattle.rv_program.specs.lemmas.ConstantRows.{IsEquOf, is_equ_of, equ-defines, constant-kept}
 use Rattle.rv_store.proofs.Rooms.{map-for_lines, section-rooms, address-rooms, size-rooms, ends-rooms}
+use Rattle.rv_store.proofs.StillLaws.{same_number}
 
 -- Labels that define the same
 
@@ -63,18 +55,6 @@ pub place_in-plain : (line : ℕ) (b : Body) (name : List ℕ) → is_equ b ≡ 
 place_in-plain line (body.Equ d) name h = absurd (true≢false h)
 place_in-plain line b name h = refl
 
-defined_value-plain : (given : Environment) (b : Body) → is_equ b ≡ false → defined_value given b ≡ Err NotConstant
-defined_value-plain given (body.Equ d) h = absurd (true≢false h)
-defined_value-plain given b h = refl
-
-usable_equs-plain : (program : Program) (i : ℕ) (b : Body) → is_equ b ≡ false → usable_equs program i b ≡ length program
-usable_equs-plain program i (body.Equ d) h = absurd (true≢false h)
-usable_equs-plain program i b h = refl
-
-usable_equs-same : (p q : Program) (i : ℕ) (b : Body) → length q ≡ length p → usable_equs q i b ≡ usable_equs p i b
-usable_equs-same p q i (body.Equ d) count = refl
-usable_equs-same p q i b count = count
-
 -- Definitions
 
 place_in_statement-same : (line : ℕ) (s t : Stmt) (name : List ℕ) → DefinesSame s t → place_in_statement line t name ≡ place_in_statement line s name
@@ -93,13 +73,16 @@ first_place-same line (s ∷ ss) (suc j) t name same =
 
 -- The text with a statement in the place of that of line k
 
-pub same_number : (x y : ℕ) → (x ≡ y) ⊎ (x ≡ y → ⊥)
-same_number x y = at (cases_lt x y) (cases_lt y x)
+-- a line without an `.equ` defines nothing by one
+no_equ-on : (p : Program) (i : ℕ) (name : List ℕ) → is_equ (body_at p (suc i)) ≡ false → is_equ_on (suc i) (definition_of p name) ≡ false
+no_equ-on p i name none = at (is_equ_on (suc i) (definition_of p name)) refl
   where
-    at : (x < y) ⊎ (y ≤ x) → (y < x) ⊎ (x ≤ y) → (x ≡ y) ⊎ (x ≡ y → ⊥)
-    at (inl less) more = inr (λ e. omega (arith, e, less))
-    at (inr up) (inl less) = inr (λ e. omega (arith, e, less))
-    at (inr up) (inr down) = inl (omega (arith, up, down))
+    by : IsEquOf (body_at p (suc i)) name → ⊥
+    by (is_equ_of d here same) = true≢false (sym (ap is_equ here) ∙ none)
+
+    at : (b : Bool) → is_equ_on (suc i) (definition_of p name) ≡ b → is_equ_on (suc i) (definition_of p name) ≡ false
+    at false e = e
+    at true e = absurd (by (equ-defines p i name e))
 
 module _ (p : Program) (k : ℕ) (t : Stmt) (first : 1 ≤ k) (last : k ≤ length p) (alike : IsAlike p k t) where
   abbrev pub put : Program
@@ -120,20 +103,6 @@ module _ (p : Program) (k : ℕ) (t : Stmt) (first : 1 ≤ k) (last : k ≤ leng
   pub statement-other : (i : ℕ) → (i - 1 ≡ k - 1 → ⊥) → statement_at put i ≡ statement_at p i
   statement-other i differs = get_or-set_other p (k - 1) (i - 1) t no_statement differs
 
-  -- the bodies of a line are the same, or both are plain
-  abbrev AreLike : (i : ℕ) → Type 0
-  AreLike i = (body_at put i ≡ body_at p i) ⊎ (IsPlain (body_at put i) × IsPlain (body_at p i))
-
-  bodies : (i : ℕ) → AreLike i
-  bodies i = at (same_number (i - 1) (k - 1))
-    where
-      at : (i - 1 ≡ k - 1) ⊎ (i - 1 ≡ k - 1 → ⊥) → AreLike i
-      at (inl same) = inr (
-        subst (λ s. IsPlain s.body) (sym (statement-here i same)) alike.defines.plain_after,
-        subst (λ s. IsPlain s.body) (before-here i same) alike.defines.plain_before,
-      )
-      at (inr differs) = inl (ap (λ s. s.body) (statement-other i differs))
-
   labels-same : (i : ℕ) → label_names (statement_at put i).labels ≡ label_names (statement_at p i).labels
   labels-same i = at (same_number (i - 1) (k - 1))
     where
@@ -146,19 +115,23 @@ module _ (p : Program) (k : ℕ) (t : Stmt) (first : 1 ≤ k) (last : k ≤ leng
   pub definitions-same : definition_of put ≡ definition_of p
   definitions-same = fun_ext (λ name. first_place-same 1 p (k - 1) t name alike.defines)
 
-  defined-same : (i : ℕ) (given given' : Environment) → given ≡ given' → defined_value given (body_at put i) ≡ defined_value given' (body_at p i)
-  defined-same i given given' e = at (bodies i)
-    where
-      at : AreLike i → defined_value given (body_at put i) ≡ defined_value given' (body_at p i)
-      at (inl same) = λ j. defined_value (e j) (same j)
-      at (inr plain) = defined_value-plain given (body_at put i) plain.0.equ ∙ sym (defined_value-plain given' (body_at p i) plain.1.equ)
+  no_equ : (name : List ℕ) → is_equ_on k (definition_of p name) ≡ false
+  no_equ name =
+      let next : suc (k - 1) ≡ k = omega (arith, first) in
+      ap (λ n. is_equ_on n (definition_of p name)) (sym next) ∙ no_equ-on p (k - 1) name (ap (λ n. is_equ (body_at p n)) next ∙ alike.defines.plain_before.equ)
 
-  pub constants-same : (m : ℕ) → constant_through put m ≡ constant_through p m
+  constants-same : (m : ℕ) → constant_through put m ≡ constant_through p m
   constants-same zero = refl
-  constants-same (suc m) =
-      let before = constants-same m in
-      let value = defined-same (suc m) (constants (constant_through put m)) (constants (constant_through p m)) (ap constants before) in
-      λ i name. if is_equ_on (suc m) (definitions-same i name) then result_ok (value i) else before i name
+  constants-same (suc m) = at (constants-same m) (same_number m (k - 1))
+    where
+      at : constant_through put m ≡ constant_through p m → (m ≡ k - 1) ⊎ (m ≡ k - 1 → ⊥) → constant_through put (suc m) ≡ constant_through p (suc m)
+      at before (inl here) = fun_ext (λ name.
+          let number : suc m ≡ k = omega (arith, here, first) in
+          let no : is_equ_on (suc m) (definition_of p name) ≡ false = ap (λ n. is_equ_on n (definition_of p name)) number ∙ no_equ name in
+          constant-kept put m name (ap (λ f. is_equ_on (suc m) (f name)) definitions-same ∙ no) ∙ ap (λ f. f name) before ∙ sym (constant-kept p m name no))
+      at before (inr differs) =
+          let here = statement-other (suc m) (λ e. differs (omega (arith, e))) in
+          λ i name. if is_equ_on (suc m) (definitions-same i name) then result_ok (defined_value (constants (before i)) (here i).body) else before i name
 
   -- Where lines lie
 
@@ -205,109 +178,25 @@ module _ (p : Program) (k : ℕ) (t : Stmt) (first : 1 ≤ k) (last : k ≤ leng
   pub place-same : (base : ℕ) → place_at base put ≡ place_at base p
   place-same base = λ j i. record { section = section-same i j; address = address-same base j i; size = size-same i j }
 
-  -- Names
+  has_local-same : (number i : ℕ) → has_local put number i ≡ has_local p number i
+  has_local-same number i = among_local-same number (statement_at p i).labels (statement_at put i).labels (labels-same i)
 
-  pub has_local-same : (number : ℕ) → has_local put number ≡ has_local p number
-  has_local-same number = fun_ext (λ i. among_local-same number (statement_at p i).labels (statement_at put i).labels (labels-same i))
-
-  local_line-same : (i number : ℕ) (direction : Direction) → local_line put i number direction ≡ local_line p i number direction
-  local_line-same i number Back = λ j. last_line (has_local-same number j) i
-  local_line-same i number Forward = λ j. first_line (has_local-same number j) i (length-put j - i)
-
-  label_line-same : (i : ℕ) (label : LabelReference) → label_line put i label ≡ label_line p i label
-  label_line-same i (reference.Symbol name) = λ j. line_of_place (definitions-same j name)
-  label_line-same i (reference.Local number direction) = λ j. ok_or (local_line-same i number direction j) Undefined
-  label_line-same i reference.Here = refl
-
-  address_of_line-same : (base : ℕ) (o : Option ℕ) → address_of_line base put o ≡ address_of_line base p o
-  address_of_line-same base None = refl
-  address_of_line-same base (Some line) = λ j. Ok (pos (address-same base j line))
-
-  local-same : (base i number : ℕ) (direction : Direction) → address_of_line base put (local_line put i number direction) ≡ address_of_line base p (local_line p i number direction)
-  local-same base i number direction =
-      ap (address_of_line base put) (local_line-same i number direction) ∙ address_of_line-same base (local_line p i number direction)
-
-  names_on-same : (base i : ℕ) (symbol symbol' : List ℕ → Entry) (paired paired' : ℕ → Entry) → symbol ≡ symbol' → paired ≡ paired' → names_on base put i symbol paired ≡ names_on base p i symbol' paired'
-  names_on-same base i symbol symbol' paired paired' e f = λ j. record {
-    symbol = e j;
-    local = λ number direction. local-same base i number direction j;
-    here = Ok (pos (address-same base j i));
-    paired_high = λ label. and_then (label_line-same i label j) (f j);
+  -- the other lines stay as they are
+  pub alike-still : (base : ℕ) → IsStill base p put k (λ name. false)
+  alike-still base = record {
+    first = first;
+    last = omega (arith, last, length-put);
+    longer = omega (arith, length-put);
+    behind = λ i past within. absurd (omega (arith, past, within, length-put));
+    statements = λ i other. statement-other i (λ e. other.differs (omega (arith, e, first, other.first)));
+    unused = λ i other. none-of (λ name. false) (names_used (body_at p i)) (λ name. refl);
+    definitions = λ name none. ap (λ f. f name) definitions-same;
+    equs = λ m name within. ap (λ f. is_equ_on m (f name)) definitions-same;
+    no_equ = λ within. no_equ;
+    constants = λ m within. constants-same m;
+    locals = λ number i from to. has_local-same number i;
+    no_local = λ past number. absurd (omega (arith, past, last));
+    high_before = alike.defines.plain_before.high;
+    high = ap (λ s. pcrel_high_of s.body) statement-put ∙ alike.defines.plain_after.high;
+    places = λ i from to. ap (λ f. f i) (place-same base);
   }
-
-  pub equ_values-same : (base m : ℕ) → equ_value base put m ≡ equ_value base p m
-  equ_values-same base zero = refl
-  equ_values-same base (suc m) =
-      let before = equ_values-same base m in
-      let symbols : symbol_through base put m ≡ symbol_through base p m =
-      λ j name. by_definition (address-same base j) m (definitions-same j name) (before j name) in
-      let value = defined-same (suc m) _ _ (names_on-same base (suc m) (symbol_through base put m) (symbol_through base p m) no_pairs no_pairs symbols refl) in
-      λ i name. if is_equ_on (suc m) (definitions-same i name) then value i else before i name
-
-  symbols-same : (base m : ℕ) → symbol_through base put m ≡ symbol_through base p m
-  symbols-same base m = λ j name. by_definition (address-same base j) m (definitions-same j name) (equ_values-same base m j name)
-
-  usable-same : (i : ℕ) → usable_equs put i (body_at put i) ≡ usable_equs p i (body_at p i)
-  usable-same i = at (bodies i)
-    where
-      at : AreLike i → usable_equs put i (body_at put i) ≡ usable_equs p i (body_at p i)
-      at (inl same) = ap (usable_equs put i) same ∙ usable_equs-same p put i (body_at p i) length-put
-      at (inr plain) =
-          usable_equs-plain put i (body_at put i) plain.0.equ ∙ length-put ∙ sym (usable_equs-plain p i (body_at p i) plain.1.equ)
-
-  pub reference-same : (base i : ℕ) → reference_of base put i ≡ reference_of base p i
-  reference-same base i = λ j. symbols-same base (usable-same i j) j
-
-  pub references-same : (base i : ℕ) → references_at base put i ≡ references_at base p i
-  references-same base i =
-      names_on-same base i (reference_of base put i) (reference_of base p i) no_pairs no_pairs (reference-same base i) refl
-
-  -- High halves
-
-  pcrel_high-same : (i : ℕ) → pcrel_high_of (body_at put i) ≡ pcrel_high_of (body_at p i)
-  pcrel_high-same i = at (bodies i)
-    where
-      at : AreLike i → pcrel_high_of (body_at put i) ≡ pcrel_high_of (body_at p i)
-      at (inl same) = ap pcrel_high_of same
-      at (inr plain) = plain.0.high ∙ sym plain.1.high
-
-  pub highs-same : (base : ℕ) → high_at base put ≡ high_at base p
-  highs-same base = λ j i. high_by (references-same base i j) (address-same base j i) (pcrel_high-same i j)
-
-  high_at_line-same : (base : ℕ) (o : Option ℕ) → high_at_line base put o ≡ high_at_line base p o
-  high_at_line-same base None = refl
-  high_at_line-same base (Some line) = λ j. highs-same base j line
-
-  next-same : (section i : ℕ) → next_with_bytes put section i ≡ next_with_bytes p section i
-  next-same section i = λ j. first_line (λ n. section_number (section-same n j) == section && not (size-same n j == 0)) i (length-put j - i)
-
-  pub paired_highs-same : (base : ℕ) → paired_high_of base put ≡ paired_high_of base p
-  paired_highs-same base = fun_ext (λ i.
-      high_at_line-same base (next_with_bytes put (section_number (section_at put i)) (i - 1))
-      ∙ ap (high_at_line base p) (next-same (section_number (section_at put i)) (i - 1)
-      ∙ ap (λ s. next_with_bytes p (section_number s) (i - 1)) (section-same i)))
-
-  pub names-same : (base i : ℕ) → names_at base put i ≡ names_at base p i
-  names-same base i =
-      names_on-same base i (reference_of base put i) (reference_of base p i) (paired_high_of base put) (paired_high_of base p) (reference-same base i) (paired_highs-same base)
-
-  -- Values and codes of the other lines
-
-  values_of-same : (base i : ℕ) (b : Body) → values_of_body base put i b ≡ values_of_body base p i b
-  values_of-same base i (body.Align d) = λ j. Padding (is_code (section-same i j)) (size-same i j)
-  values_of-same base i (body.Equ d) =
-      λ j. if is_equ_on i (definitions-same j d.symbol) then Symbol (defined_value (references-same base i j) (body.Equ d)) else Nothing
-  values_of-same base i b = λ j. Operands (operand_values_of (names-same base i j) (address-same base j i) b)
-
-  pub values-same : (base i : ℕ) → (i - 1 ≡ k - 1 → ⊥) → values_at base put i ≡ values_at base p i
-  values-same base i differs =
-      let here : body_at put i ≡ body_at p i = ap (λ s. s.body) (statement-other i differs) in
-      let values : values_of_body base put i (body_at put i) ≡ values_of_body base p i (body_at p i) =
-      ap (values_of_body base put i) here ∙ values_of-same base i (body_at p i) in
-      λ j. values_by_shape (shape-other i differs j) (values j)
-
-  pub code-same : (base i : ℕ) → (i - 1 ≡ k - 1 → ⊥) → code_at base put i ≡ code_at base p i
-  code-same base i differs =
-      let here : body_at put i ≡ body_at p i = ap (λ s. s.body) (statement-other i differs) in
-      let values = values-same base i differs in
-      λ j. code_by_values (shape-other i differs j) (here j) (values j)

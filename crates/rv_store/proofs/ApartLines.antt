@@ -70,7 +70,7 @@ equ-defines line symbol name false is h = absurd (true≢false (sym h))
 
 -- Texts that use nothing that a line adds
 
-none-of : (test : List ℕ → Bool) (names : List (List ℕ)) → ((name : List ℕ) → test name ≡ false) → list_any test names ≡ false
+pub none-of : (test : List ℕ → Bool) (names : List (List ℕ)) → ((name : List ℕ) → test name ≡ false) → list_any test names ≡ false
 none-of test [] none = refl
 none-of test (n ∷ ns) none = let here = none n in let more = none-of test ns none in λ j. here j || more j
 

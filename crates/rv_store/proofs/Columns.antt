@@ -1,5 +1,5 @@
 -- Edits of a column of lines, and the edits that take them back.
-use Rattle.std.proofs.Common.{◌≡◌, ℕ, zero, suc, ◌<◌, ◌≤◌, List, [], ◌∷◌, length, get_or, None, arith, ap, refl}
+use Rattle.std.proofs.Common.{◌≡◌, ℕ, zero, suc, ◌<◌, ◌≤◌, List, [], ◌∷◌, length, set, get_or, None, arith, ap, refl}
 use Rattle.std.specs.Prelude.{insert, remove}
 use Rattle.rv_store.specs.internal.Column.{HasPlace}
 use Rattle.rv_program.specs.Text.{Edit, Insert, Delete, Replace, refusal_of}
@@ -16,6 +16,12 @@ pub inserted-removed : {A : Type 0} (xs : List A) (i : ℕ) (x : A) → i < leng
 inserted-removed [] i x within is = absurd (let no : i < 0 = within in omega (arith, no))
 inserted-removed (y ∷ xs) zero x within is = ap (λ z. z ∷ xs) is
 inserted-removed (y ∷ xs) (suc i) x within is = ap (λ ys. y ∷ ys) (inserted-removed xs i x (let w : suc i < suc (length xs) = within in omega (arith, w)) is)
+
+-- what was there is put back
+pub set-back : {A : Type 0} (xs : List A) (i : ℕ) (a b : A) → b ≡ get_or xs i b → set (set xs i a) i b ≡ xs
+set-back [] i a b h = refl
+set-back (x ∷ xs) zero a b h = ap (λ y. y ∷ xs) h
+set-back (x ∷ xs) (suc i) a b h = ap (λ ys. x ∷ ys) (set-back xs i a b h)
 
 -- an edit that is not refused has its place
 pub has_place : (lines : List (List ℕ)) (edit : Edit) → refusal_of lines edit ≡ None → HasPlace lines edit

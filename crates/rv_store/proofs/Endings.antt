@@ -1,21 +1,32 @@
 -- A line at the end of some lines: where it lies.
-use Rattle.std.proofs.Common.{◌≡◌, ℕ, suc, ◌+◌, ◌^◌, ◌<◌, ◌≤◌, true, false, List, [], ◌∷◌, ◌++◌, length, take, slice_index, arith, ap, sym, subst, ◌∙◌}
+use Rattle.std.proofs.Common.{◌==◌, nat_lt, insert, Some, None, if◌then◌else◌, ◌≡◌, ℕ, suc, ◌+◌, ◌-◌, ◌^◌, ◌<◌, ◌≤◌, true, false, List, [], ◌∷◌, ◌++◌, length, take, slice_index, arith, ap, sym, subst, ◌∙◌, refl}
+use Rattle.std.proofs.lemmas.Bool.{lt-ltb, le-ltb, eq-eqb}
 use Rattle.std.proofs.lemmas.List.{length-append}
+use Rattle.std.proofs.lemmas.List.Edits.{insert_end}
 use Rattle.std.proofs.Math.Seq.{get_or-append_seam, take-append_seam}
 use Rattle.rv_stmt.specs.declared.statement.Stmt.{Stmt}
+use Rattle.rv_stmt.specs.Statement.{statement_of}
 use Rattle.rv_layout.specs.declared.measured.Measured.{Measured}
 use Rattle.rv_layout.specs.declared.measured.Measured.TheVariants.{Nothing}
 use Rattle.rv_layout.specs.Places.{sum_below, section_base_of, is_base, IsLimited, AreLimited}
 use Rattle.rv_layout.specs.Sections.{sections, section_number}
-use Rattle.rv_store.specs.declared.ending.Ending.{Ending}
 use Rattle.rv_store.specs.declared.ends.Ends.{Ends}
-use Rattle.rv_store.specs.internal.Appended.{adds, IsApart, shape_at_end, IsEnding}
+use Rattle.rv_store.specs.declared.still.Still.{Still}
+use Rattle.rv_store.specs.internal.Appended.{adds, IsApart, shape_at_end, StaySections}
 use Rattle.rv_store.specs.internal.Ends.{ends_of, ends_after, end_in, base_by_ends, next_offset, next_place, place_by_shapes}
-use Rattle.rv_program.specs.Layout.{shape_at, shapes_of}
-use Rattle.rv_program.specs.Program.{program_of}
+use Rattle.rv_program.specs.Layout.{shape_at, shapes_of, place_at}
+use Rattle.rv_program.specs.Program.{Program, program_of}
+use Rattle.rv_program.specs.References.{equ_value}
 use Rattle.rv_program.specs.internal.Rows.{AreShapes}
+use Rattle.rv_program.specs.internal.Still.{set_or_push, IsStill, IsPutEdit}
+use Rattle.rv_store.specs.internal.StillLines.{IsStillLine}
+use Rattle.rv_program.specs.Text.{Insert}
+use Rattle.rv_store.proofs.AppendLaws.{end-still}
 use Rattle.rv_store.proofs.EndBases.{ends-together, base-ends}
-use Rattle.rv_store.proofs.LongerPrograms.{shapes-more}
+use Rattle.rv_store.proofs.LongerPrograms.{more, shape-last, shapes-more}
+use Rattle.rv_store.proofs.LongerTexts.{program-longer}
+use Rattle.rv_store.proofs.StillLaws.{equ_value-still}
+use Rattle.rv_store.proofs.StillTexts.{end-set_or_push}
 use Rattle.rv_program.specs.lemmas.Programs.{length-for_lines, length-program}
 use Rattle.rv_store.proofs.ShapeRows.{limited-push}
 use Rattle.rv_store.proofs.EndLaws.{PlaceFits, take-AreLimited, ends_of-push, bases-AreBases, next-short, next_place-is, next_place-fits}
@@ -62,30 +73,54 @@ module _ (ms : List Measured) (m : Measured) (few : length ms < 16384) (limited 
   together-all after is =
       subst (λ e. sum_below (end_in e) sections ≤ 2 ^ 30) (sym is) (ends-together (ms ++ m ∷ []) limited few-all)
 
--- What the line adds
-
-pub ending-is : (base : ℕ) (lines : List (List ℕ)) (s : Stmt) (shapes : List Measured) (before : Ends) (end : Ending) → AreShapes (program_of lines) shapes → AreLimited shapes → length lines < 16384 → IsApart (program_of lines) s → (end.defines ≡ false → (name : List ℕ) → adds (program_of lines) s name ≡ false)
-    → end.shape ≡ shape_at_end (program_of lines) s → IsLimited end.shape → before ≡ ends_of shapes → end.ends ≡ ends_of (shapes ++ end.shape ∷ [])
-    → ((t : ℕ) → t < sections → base_by_ends base end.ends t ≡ base_by_ends base before t) → end.place ≡ place_by_shapes base (shapes ++ end.shape ∷ []) (suc (length shapes)) → IsEnding base (program_of lines) s end
-ending-is base lines s shapes before end are limited few apart nothing shape limited_end is all stay place =
-    let p = program_of lines in
-    let count : length shapes ≡ length lines = ap length are ∙ length-for_lines (shape_at p) (length p) ∙ length-program lines in
-    let limited_all : AreLimited (shapes ++ end.shape ∷ []) = limited-push shapes end.shape limited limited_end in
-    let few_all : length (shapes ++ end.shape ∷ []) ≤ 16384 = few-all shapes end.shape (omega (arith, count, few)) limited_all in
-    let rows : shapes ++ end.shape ∷ [] ≡ shapes_of (p ++ s ∷ []) = (λ i. are i ++ shape i ∷ []) ∙ sym (shapes-more p s) in
+-- No other line has to do with it, if none uses a name that it adds, and no section moves
+pub ending-line : (base : ℕ) (lines : List (List ℕ)) (line : List ℕ) (shapes : List Measured) (before : Ends) (given : Still) → AreShapes (program_of lines) shapes → AreLimited shapes → length lines < 16384
+    → IsApart (program_of lines) (statement_of line) → (given.defines ≡ false → (name : List ℕ) → adds (program_of lines) (statement_of line) name ≡ false)
+    → given.shape ≡ shape_at_end (program_of lines) (statement_of line) → IsLimited given.shape → before ≡ ends_of shapes → given.ends ≡ ends_of (shapes ++ given.shape ∷ [])
+    → ((t : ℕ) → t < sections → base_by_ends base given.ends t ≡ base_by_ends base before t) → given.place ≡ place_by_shapes base (shapes ++ given.shape ∷ []) (suc (length shapes)) → IsStillLine base lines (length lines + 1) line given
+ending-line base lines line shapes before given are limited few apart nothing shape limited_end is all stay place =
+    let p : Program = program_of lines in
+    let s : Stmt = statement_of line in
+    let from_program : length p ≡ length lines = length-program lines in
+    let count : length shapes ≡ length lines = ap length are ∙ length-for_lines (shape_at p) (length p) ∙ from_program in
+    let limited_all : AreLimited (shapes ++ given.shape ∷ []) = limited-push shapes given.shape limited limited_end in
+    let few_all : length (shapes ++ given.shape ∷ []) ≤ 16384 = few-all shapes given.shape (omega (arith, count, few)) limited_all in
+    let rows : shapes ++ given.shape ∷ [] ≡ shapes_of (more p s) = (λ i. are i ++ shape i ∷ []) ∙ sym (shapes-more p s) in
+    let stays : StaySections base p given.shape = λ t l.
+    ap (λ ms. section_base_of base (ms ++ given.shape ∷ []) t) (sym are)
+    ∙ sym (base-ends base (shapes ++ given.shape ∷ []) t l)
+    ∙ ap (λ e. base_by_ends base e t) (sym all)
+    ∙ stay t l
+    ∙ ap (λ e. base_by_ends base e t) is
+    ∙ base-ends base shapes t l
+    ∙ ap (λ ms. section_base_of base ms t) are in
+    let still = end-still p s apart base (subst (StaySections base p) shape stays) in
+    let number : suc (length p) ≡ length lines + 1 = omega (arith, from_program) in
+    let after : more p s ≡ program_of (set_or_push lines (length lines + 1 - 1) line) =
+    sym (program-longer lines line) ∙ ap program_of (end-set_or_push lines (length lines + 1 - 1) line (omega arith)) in
     record {
-      apart = apart;
-      nothing = nothing;
-      shape = shape;
+      touched = adds p s;
+      still = subst (λ r. IsStill base p r (length lines + 1) (adds p s)) after (subst (λ n. IsStill base p (more p s) n (adds p s)) number still);
+      shape = shape ∙ sym (shape-last p s) ∙ (λ j. shape_at (after j) (number j));
       limited = limited_end;
-      ends = all ∙ ap (λ ms. ends_of (ms ++ end.shape ∷ [])) are;
-      place = place ∙ (λ i. place_by_shapes base (rows i) (suc (length shapes))) ∙ ap (place_by_shapes base (shapes_of (p ++ s ∷ []))) (ap suc (count ∙ sym (length-program lines)));
-      stay = λ t l.
-          ap (λ ms. section_base_of base (ms ++ end.shape ∷ []) t) (sym are)
-          ∙ sym (base-ends base (shapes ++ end.shape ∷ []) t l)
-          ∙ ap (λ e. base_by_ends base e t) (sym all)
-          ∙ stay t l
-          ∙ ap (λ e. base_by_ends base e t) is
-          ∙ base-ends base shapes t l
-          ∙ ap (λ ms. section_base_of base ms t) are;
+      ends = all ∙ ap ends_of rows ∙ ap (λ r. ends_of (shapes_of r)) after;
+      place = place ∙ (λ i. place_by_shapes base (rows i) (suc (length shapes))) ∙ ap (place_by_shapes base (shapes_of (more p s))) (ap suc (count ∙ sym from_program)) ∙ (λ j. place_at base (after j) (number j));
+      nothing = nothing;
+      last = λ defines. (
+        omega arith,
+        record { apart = apart; earlier = ap (λ r. equ_value base r (length lines)) (program-longer lines line) ∙ equ_value-still still (length lines) (omega (arith, from_program)) },
+      );
+    }
+
+-- an edit puts it there
+pub inserted-put : (lines : List (List ℕ)) (k : ℕ) (line : List ℕ) → k ≡ length lines + 1 → IsPutEdit lines (Insert k line) k line
+inserted-put lines k line at_end =
+    let place : k - 1 ≡ length lines = omega (arith, at_end) in
+    let no : nat_lt k k ≡ false = le-ltb k k (omega arith) in
+    let yes : (k == k) ≡ true = eq-eqb k k refl in
+    record {
+      edited = ap (λ i. insert lines i line) place ∙ insert_end lines line ∙ end-set_or_push lines (k - 1) line place;
+      new = λ j. if no j then Some k else (if yes j then None else Some (k - 1));
+      others = λ i to differs.
+          let below : nat_lt i k ≡ true = lt-ltb i k (omega (arith, to, at_end)) in λ j. if below j then Some i else (if i == k then None else Some (i - 1));
     }

@@ -29,7 +29,6 @@ use Rattle.rv_program.specs.Program.{Program, program_of, no_statement, statemen
 use Rattle.rv_program.specs.internal.Rows.{in_row, AreDefinitions}
 use Rattle.rv_program.specs.Text.{Edit, Insert, Delete, Replace, refusal_of, lines_after}
 use Rattle.rv_program.specs.Uses.{is_equ}
-use Rattle.rv_store.proofs.AlikeLaws.{same_number}
 use Rattle.rv_store.proofs.Columns.{has_place}
 use Rattle.rv_program.specs.lemmas.ConstantRows.{constants-kept}
 use Rattle.rv_program.specs.lemmas.DefinitionLaws.{IsWithin, definition-within}
@@ -37,6 +36,7 @@ use Rattle.rv_program.specs.lemmas.DefinitionRows.{nowhere}
 use Rattle.rv_program.specs.lemmas.EarlierLines.{insert_within, delete_within, replace_within, insert_before, delete_before, replace_before}
 use Rattle.rv_program.specs.lemmas.MovedDefinitionLaws.{first-moved, first-append}
 use Rattle.rv_program.specs.lemmas.Programs.{length-program}
+use Rattle.rv_store.proofs.StillLaws.{same_number}
 
 -- Names that a line does not define, and names of no `.equ`
 

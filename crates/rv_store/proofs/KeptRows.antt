@@ -1,5 +1,5 @@
 -- The shapes and the constants of a text after an edit that changes no constant: those before it, with the edit made in them.
-use Rattle.std.proofs.Common.{◌≡◌, ℕ, zero, suc, ◌+◌, ◌-◌, ◌<◌, ◌≤◌, List, [], ◌∷◌, ◌++◌, length, get_or, take, drop, Option, Some, None, false, arith, ap, sym, ◌∙◌, refl}
+use Rattle.std.proofs.Common.{set, ◌≡◌, ℕ, zero, suc, ◌+◌, ◌-◌, ◌<◌, ◌≤◌, List, [], ◌∷◌, ◌++◌, length, get_or, take, drop, Option, Some, None, false, arith, ap, sym, ◌∙◌, refl}
 use Rattle.std.proofs.lemmas.List.{same_lists}
 use Rattle.rv_layout.specs.declared.measured.Measured.{Measured}
 use Rattle.rv_layout.specs.Places.{IsLimited, AreLimited}
@@ -15,7 +15,6 @@ use Rattle.rv_program.specs.internal.NewShapes.{IsNewShape}
 use Rattle.rv_program.specs.Program.{Program, program_of, body_at, for_lines}
 use Rattle.rv_program.specs.internal.Rows.{AreConstants}
 use Rattle.rv_program.specs.Text.{Edit, Insert, Delete, Replace, lines_after}
-use Rattle.rv_store.proofs.AlikeTexts.{limited-set}
 use Rattle.rv_program.specs.lemmas.EarlierLines.{Stood, stood, statement-stood}
 use Rattle.rv_store.proofs.EndLaws.{take-AreLimited}
 use Rattle.rv_store.proofs.FormerShapes.{former, former-length, former-stood, former-here}
@@ -32,6 +31,11 @@ limited-drop : (i : ℕ) (ms : List Measured) → AreLimited ms → AreLimited (
 limited-drop zero ms all = all
 limited-drop (suc i) [] all = tt
 limited-drop (suc i) (m ∷ ms) all = limited-drop i ms all.1
+
+limited-set : (ms : List Measured) (i : ℕ) (m : Measured) → AreLimited ms → IsLimited m → AreLimited (set ms i m)
+limited-set [] i m are is = are
+limited-set (n ∷ ms) zero m are is = (is, are.1)
+limited-set (n ∷ ms) (suc i) m are is = (are.0, limited-set ms i m are.1 is)
 
 pub kept-limited : (ms : List Measured) (edit : Edit) (m : Measured) → AreLimited ms → IsLimited m → AreLimited (former_shapes ms edit m)
 kept-limited ms (Insert place line) m all one =

@@ -17,7 +17,7 @@ use Rattle.rv_fix.specs.Values.{Entry}
 use Rattle.rv_list.specs.declared.view.DefinitionPlace.{DefinitionPlace}
 use Rattle.rv_list.specs.declared.view.DefinitionPlace.TheVariants.{Nowhere, Label as ByLabel, Equ}
 use Rattle.rv_store.specs.declared.survey.Survey.{Survey}
-use Rattle.rv_store.specs.internal.Appended.{adds, IsLast, AreSymbols, is_equ_behind, AreInPart, AreDefinitionsInPart}
+use Rattle.rv_store.specs.internal.Appended.{IsLast, AreSymbols, is_equ_behind, AreInPart, AreDefinitionsInPart}
 use Rattle.rv_program.specs.Constants.{constant_through}
 use Rattle.rv_program.specs.internal.Defining.{Definitions, or_here, also_on, IsOn, Holds, HoldsPart}
 use Rattle.rv_program.specs.Definitions.{defines_symbol, place_among_labels, place_in_body, or_place, place_in_statement, first_place, definition_of, is_defined, is_equ_on}
@@ -27,7 +27,6 @@ use Rattle.rv_program.specs.References.{equ_value}
 use Rattle.rv_program.specs.internal.Rows.{number_of, in_row, Grows, AreDefinitions, AreConstants, AreEquValues}
 use Rattle.rv_program.specs.Text.{Delete}
 use Rattle.rv_program.specs.Uses.{is_equ}
-use Rattle.rv_store.proofs.AppendLaws.{no_equ_after, definition-same}
 use Rattle.rv_program.specs.lemmas.ConstantLaws.{constant-none}
 use Rattle.rv_program.specs.lemmas.ConstantRows.{constant-kept}
 use Rattle.rv_program.specs.lemmas.DefinitionLaws.{IsWithin, statement-within, definition-within}
@@ -38,6 +37,7 @@ use Rattle.rv_store.proofs.LongerPrograms.{constants-same}
 use Rattle.rv_store.proofs.LongerTexts.{count-longer, program-longer, definitions-longer}
 use Rattle.rv_program.specs.lemmas.NameRows.{grows-length, row-grown, row-set, row-at}
 use Rattle.rv_program.specs.lemmas.Programs.{length-program}
+use Rattle.rv_store.proofs.StillLaws.{no_equ_after}
 
 -- A symbol that a text does not define
 
@@ -103,7 +103,7 @@ defined-equ line (Equ l) h = refl
 equ-undefined : (n : ℕ) (earlier here : DefinitionPlace) → IsWithin 1 (1 + n) earlier → is_equ_on (suc n) (or_here (suc n) earlier here) ≡ true → earlier ≡ Nowhere
 equ-undefined n Nowhere here within h = refl
 equ-undefined n (ByLabel l index) here within h = absurd (true≢false (sym h ∙ ap (is_equ_on (suc n)) (behind n (ByLabel l index) here within)))
-equ-undefined n (Equ l) here within h = absurd (true≢false (sym h ∙ ap (is_equ_on (suc n)) (behind n (Equ l) here within) ∙ no_equ_after n (Equ l) within))
+equ-undefined n (Equ l) here within h = absurd (true≢false (sym h ∙ ap (is_equ_on (suc n)) (behind n (Equ l) here within) ∙ no_equ_after n (suc n) (Equ l) (omega arith) within))
 
 -- without what is on the line behind the text
 taken-back : (n : ℕ) (earlier here found : DefinitionPlace) → IsWithin 1 (1 + n) earlier → IsOn (suc n) here → found ≡ Nowhere → place_after (Delete (suc n)) found (or_here (suc n) earlier here) ≡ earlier
@@ -155,7 +155,7 @@ module _ (base : ℕ) (lines : List (List ℕ)) (line : List ℕ) (is : IsLast b
   equ-of_body name h =
       let here : is_equ_on (suc n) (or_place (definition_of p name) (place_in_statement (suc n) s name)) ≡ true =
       ap (is_equ_on (suc n)) (sym (behind n (definition_of p name) (place_in_statement (suc n) s name) (within name)) ∙ ap (λ f. f name) definitions-with) ∙ h in
-      let last = second-equ (suc n) (definition_of p name) (place_in_statement (suc n) s name) (no_equ_after n (definition_of p name) (within name)) here in
+      let last = second-equ (suc n) (definition_of p name) (place_in_statement (suc n) s name) (no_equ_after n (suc n) (definition_of p name) (omega arith) (within name)) here in
       defined-equ (suc n) (place_in_body (suc n) s.body name) (second-equ (suc n) (place_among_labels (suc n) 0 s.labels name) (place_in_body (suc n) s.body name) (labels-no_equ (suc n) (suc n) 0 s.labels name) last)
 
   earlier-constants : constant_through q n ≡ constant_through p n
@@ -218,19 +218,6 @@ module _ (base : ℕ) (lines : List (List ℕ)) (line : List ℕ) (is : IsLast b
           definitions = are.definitions;
           constants = record { each = are.constants.each ∙ sym (fun_ext (λ name. constant-kept q n name (none name))); within = are.constants.within };
           equ_values = record { each = are.equ_values.each ∙ sym (fun_ext (λ name. equ_value-kept base q n name (none name))); within = are.equ_values.within };
-        }
-
-    -- where the line adds no name, the rows are those of the text without it
-    pub symbols-unadded : ((name : List ℕ) → adds p s name ≡ false) → AreSymbols base p n names t → AreSymbols base q (suc n) names t
-    symbols-unadded none are =
-        let same : (name : List ℕ) → definition_of q name ≡ definition_of p name =
-        λ name. ap (λ r. definition_of r name) (program-longer lines line) ∙ definition-same p s is.apart name (none name) in
-        let no_equ : (name : List ℕ) → is_equ_on (suc n) (definition_of q name) ≡ false =
-        λ name. ap (is_equ_on (suc n)) (same name) ∙ no_equ_after n (definition_of p name) (within name) in
-        record {
-          definitions = record { each = are.definitions.each ∙ sym (fun_ext same); within = are.definitions.within };
-          constants = record { each = are.constants.each ∙ sym (fun_ext (λ name. constant-behind name (no_equ name))); within = are.constants.within };
-          equ_values = record { each = are.equ_values.each ∙ sym (fun_ext (λ name. equ_value-behind name (no_equ name))); within = are.equ_values.within };
         }
 
   -- Rows in which definitions are written

@@ -3,7 +3,6 @@ pub mod AlikeLaws
 pub mod AlikeLines
 pub mod AlikeTexts
 pub mod AppendLaws
-pub mod AppendTexts
 pub mod ApartLines
 pub mod Columns
 pub mod CountedEdits
@@ -30,6 +29,9 @@ pub mod RememberedNames
 pub mod Rooms
 pub mod ShapeRows
 pub mod ShownLines
+pub mod StillLaws
+pub mod StillRows
+pub mod StillTexts
 pub mod Stores
 pub mod Surveys
 pub mod SymbolLaws

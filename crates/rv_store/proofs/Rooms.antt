@@ -4,7 +4,7 @@ use Rattle.std.proofs.lemmas.List.{map-append, take-map}
 use Rattle.rv_stmt.specs.declared.section.Sect.{Sect}
 use Rattle.rv_stmt.specs.declared.section.Sect.TheVariants.{Text}
 use Rattle.rv_layout.specs.declared.measured.Measured.{Measured}
-use Rattle.rv_layout.specs.declared.measured.Measured.TheVariants.{Bytes, Align, Switch, Nothing, Faulty}
+use Rattle.rv_layout.specs.declared.measured.Measured.TheVariants.{Nothing, Faulty}
 use Rattle.rv_layout.specs.Places.{section_after, offset_after, section_through, offset_through, section_of, offset_of, section_end_of, base_from, size_at, line_size_of, address_of}
 use Rattle.rv_layout.specs.Sections.{section_number}
 use Rattle.rv_store.specs.internal.Alike.{room_of}
@@ -18,25 +18,16 @@ map-for_lines f g (suc n) = map-append f (for_lines g n) (g (suc n) ∷ []) ∙ 
 -- One line
 
 section_after-room : (s : Sect) (m : Measured) → section_after s (room_of m) ≡ section_after s m
-section_after-room s (Bytes n) = refl
-section_after-room s (Align e) = refl
-section_after-room s (Switch t) = refl
-section_after-room s Nothing = refl
 section_after-room s (Faulty f) = refl
+section_after-room s m = refl
 
 offset_after-room : (x : ℕ) (m : Measured) → offset_after x (room_of m) ≡ offset_after x m
-offset_after-room x (Bytes n) = refl
-offset_after-room x (Align e) = refl
-offset_after-room x (Switch t) = refl
-offset_after-room x Nothing = refl
 offset_after-room x (Faulty f) = refl
+offset_after-room x m = refl
 
 size_at-room : (x : ℕ) (m : Measured) → size_at x (room_of m) ≡ size_at x m
-size_at-room x (Bytes n) = refl
-size_at-room x (Align e) = refl
-size_at-room x (Switch t) = refl
-size_at-room x Nothing = refl
 size_at-room x (Faulty f) = refl
+size_at-room x m = refl
 
 -- Some lines
 

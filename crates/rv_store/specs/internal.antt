@@ -11,5 +11,6 @@ pub mod FormerShapes
 pub mod KeptConstants
 pub mod MovedPlaces
 pub mod Passed
+pub mod StillLines
 pub mod Stored
 pub mod Surveys

@@ -1,11 +1,12 @@
 //! What a line at the end of a text defines, with which no other line has to do: the rows by names get it in place.
 
-ghost use Rattle.std.specs.Prelude.{◌≡◌, ℕ, ◌≤◌, ◌<◌, ◌+◌, ◌-◌, ◌*◌, ◌^◌, List, [], ◌∷◌, ◌++◌, false, length, set, OnOk, OnErr};
+ghost use Rattle.std.specs.Prelude.{◌≡◌, ℕ, true, ◌≤◌, ◌<◌, ◌+◌, ◌-◌, ◌*◌, ◌^◌, List, [], ◌∷◌, ◌++◌, false, length, set, OnOk, OnErr};
 ghost use Rattle.rv_stmt.specs.Statement.{statement_of};
 ghost use Rattle.rv_program.specs.declared.limits.TheConstants.{MAX_LINES};
-ghost use Rattle.rv_store.specs.internal.Appended.{adds, AreSameLines, AreSymbols, HavePlaces, IsUnsettled, AreInPart, AreDefinitionsInPart};
+ghost use Rattle.rv_store.specs.internal.Appended.{AreSameLines, AreSameSymbols, AreSymbols, HavePlaces, IsUnsettled, AreInPart, AreDefinitionsInPart};
 ghost use Rattle.rv_program.specs.Program.{Program, program_of, body_at};
 ghost use Rattle.rv_program.specs.internal.Rows.{Grows, ArePlaces, AreLocals};
+ghost use Rattle.rv_store.specs.internal.StillLines.{MayWait};
 ghost use Rattle.rv_program.specs.internal.Work.{equ_operands};
 
 use crate::survey::Survey;
@@ -125,15 +126,19 @@ impl Survey {
         put_at(&mut self.equ_values, place, Err(ValueFault::LaterEqu));
     }
 
-    /// Takes what the last line defines from the rows by names, which may hold a part of it.
-    pub fn forget_last(&mut self, names: &NameTable, line: &Line)
+    /// Takes what the last line defines from the rows by names, which may hold a part of it, if it defines any.
+    pub fn forget_last(&mut self, names: &NameTable, line: &Line, any: bool)
         requires some { 1 ≤ length self.old.lines.items }
         requires few { length self.old.lines.items ≤ MAX_LINES }
         requires named { length self.old.definitions.items ≤ length names.now }
-        ensures symbols { (base : ℕ) → (lines : List (List ℕ)) → self.old.lines.items ≡ lines ++ line.now ∷ []
+        ensures symbols { any ≡ true → (base : ℕ) → (lines : List (List ℕ)) → self.old.lines.items ≡ lines ++ line.now ∷ []
             → AreInPart base lines names.now (statement_of line.now) self.old → AreSymbols base (program_of lines) (length lines) names.now self.new }
+        ensures none { any ≡ false → AreSameSymbols self.old self.new }
         ensures lines { AreSameLines self.old self.new }
     {
+        if !any {
+            return;
+        }
         let number = self.lines.len() as u32;
         self.forget_equ(names, line, number);
         let (earlier, _) = self.lines.split_at(number as usize - 1);
@@ -141,8 +146,7 @@ impl Survey {
         keep_places(&back, earlier, names, self.definitions.as_mut_slice());
     }
 
-    /// Adds what the last line defines to the rows by names, where the text before it has nothing to do with it, and the line adds a
-    /// name to it or none.
+    /// Adds what the last line defines to the rows by names, if it defines any, where the text before it has nothing to do with it.
     ///
     /// The counter's number of expressions computed rises by at most two, and only for an `.equ`.
     ///
@@ -158,11 +162,12 @@ impl Survey {
         any: bool,
         counter: &mut C,
     ) -> Result<(), AllocError>
-        requires unsettled { (lines : List (List ℕ)) × IsUnsettled base lines names.old line.now self.old
-            × (any ≡ false → (name : List ℕ) → adds (program_of lines) (statement_of line.now) name ≡ false) }
+        requires unsettled { MayWait base names.old line.now any self.old }
         requires count { C.valued_count counter.old < 2 ^ 64 - 2 }
         ensures symbols { OnOk result (AreSymbols base (program_of self.new.lines.items) (length self.new.lines.items) names.new self.new) }
-        ensures part { OnOk result ((lines : List (List ℕ)) → IsUnsettled base lines names.old line.now self.old → AreInPart base lines names.new (statement_of line.now) self.new) }
+        ensures part { OnOk result (any ≡ true → (lines : List (List ℕ)) → IsUnsettled base lines names.old line.now self.old → AreInPart base lines names.new (statement_of line.now) self.new) }
+        ensures none { any ≡ false → (names.new ≡ names.old) × AreSameSymbols self.old self.new }
+        ensures defines { OnErr result (any ≡ true) }
         ensures err { OnErr result ((lines : List (List ℕ)) → IsUnsettled base lines names.old line.now self.old → AreSymbols base (program_of lines) (length lines) names.new self.new) }
         ensures lines { AreSameLines self.old self.new }
         ensures names { Grows names.old names.new }
@@ -178,7 +183,7 @@ impl Survey {
         match self.write_last(alloc, base, names, line, counter) {
             Ok(()) => Ok(()),
             Err(e) => {
-                self.forget_last(names, line);
+                self.forget_last(names, line, true);
                 Err(e)
             }
         }

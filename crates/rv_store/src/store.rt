@@ -3,20 +3,20 @@
 ghost use Rattle.std.specs.Prelude.{◌≡◌, ◌+◌, ◌*◌, ◌-◌, ◌^◌, ◌<◌, ◌≤◌, ◌==◌, [], length, map, None, if◌then◌else◌, IfOk, IfErr, IfSome, OnOk, OnErr, slice_get, true, false, IsTrue};
 ghost use Rattle.std.specs.Option.{option_map};
 ghost use Rattle.rv_stmt.specs.Statement.{statement_of};
-ghost use Rattle.rv_store.specs.internal.Alike.{IsAlike};
 ghost use Rattle.rv_layout.specs.Places.{is_base, IsLimited};
 ghost use Rattle.rv_layout.specs.Shapes.{shape_of, size_operands};
-ghost use Rattle.rv_store.specs.internal.Appended.{IsEnding};
 ghost use Rattle.rv_store.specs.internal.Assembled.{AreCountedAfter};
 ghost use Rattle.rv_program.specs.Changes.{changed_lines, most_values, most_codes};
 ghost use Rattle.rv_program.specs.Codes.{code_at};
 ghost use Rattle.rv_program.specs.Constants.{constant_of};
 ghost use Rattle.rv_program.specs.Counted.{counts_of, lines_read, Counted};
-ghost use Rattle.rv_program.specs.Edits.{edit_of, edit_of_read};
+ghost use Rattle.rv_program.specs.Edits.{edit_of, edit_of_read, place_of_edit};
 ghost use Rattle.rv_program.specs.internal.Former.{AreFormer};
 ghost use Rattle.rv_program.specs.Layout.{address_at};
 ghost use Rattle.rv_program.specs.internal.NewShapes.{IsNewShape, shape_operands};
 ghost use Rattle.rv_program.specs.Program.{program_of};
+ghost use Rattle.rv_program.specs.internal.Still.{IsPutEdit};
+ghost use Rattle.rv_store.specs.internal.StillLines.{IsStillLine};
 ghost use Rattle.rv_store.specs.Symbols.{symbol_of};
 ghost use Rattle.rv_program.specs.Text.{is_line, at_line, Insert, Delete, Replace, refusal_of, lines_after, text_after, Edits};
 
@@ -27,10 +27,10 @@ use crate::alike::are_alike;
 use crate::assembly::assembled;
 use crate::changed::Changed;
 use crate::column::{edit_lines, take_back};
-use crate::ending::{Ending, apart_ending, appended};
+use crate::ending::apart_ending;
 use crate::forgetting::{Remembered, has_many_others};
 use crate::new_shape::new_shape;
-use crate::replacement::item_replaced;
+use crate::still::{Still, put_still};
 use crate::survey::Survey;
 use crate::symbols::SymValue;
 pub use names::NamesOnLine;
@@ -181,29 +181,34 @@ impl Store {
         }
     }
 
-    // Whether a line of this shape can stand in the place of line `k`, and all other lines stay as they are.
-    fn is_alike(&self, k: u32, line: &Line, shape: &Measured) -> bool
-        requires first { 1 ≤ k }
-        requires last { k ≤ length self.now.lines }
-        requires shape { shape.now ≡ shape_of (constant_of (program_of self.now.lines) k) (statement_of line.now).body }
-        ensures { IsTrue result → IsAlike (program_of self.now.lines) k (statement_of line.now) }
+    // What a line of this shape is in the place of line `k`, if it is alike, so that all other lines stay as they are.
+    fn alike(&self, k: u32, line: &Line, shape: Measured) -> Option<Still>
+        requires allowed { refusal_of self.now.lines (Replace k line.now) ≡ None }
+        requires shape { shape ≡ shape_of (constant_of (program_of self.now.lines) k) (statement_of line.now).body }
+        requires limited { IsLimited shape }
+        ensures edit { IfSome result (λ _. IsPutEdit self.now.lines (Replace k line.now) k line.now) }
+        ensures still { IfSome result (IsStillLine self.now.base self.now.lines k line.now) }
     {
+        let survey = &self.survey;
         let place = k as usize - 1;
-        are_alike(
-            &self.survey.lines[place],
-            &self.survey.shapes[place],
-            line,
+        if !are_alike(&survey.lines[place], &survey.shapes[place], line, &shape) {
+            return None;
+        }
+        Some(Still {
             shape,
-        )
+            ends: survey.ends,
+            place: survey.places[place],
+            defines: false,
+        })
     }
 
-    // What a line of this shape adds as line `k`, if that is behind the last one, and no other line has to do with it.
-    fn ending(&self, k: u32, line: &Line, shape: Measured) -> Option<Ending>
+    // What a line of this shape is as line `k`, if that is behind the last one, and no other line has to do with it.
+    fn ending(&self, k: u32, line: &Line, shape: Measured) -> Option<Still>
         requires allowed { refusal_of self.now.lines (Insert k line.now) ≡ None }
         requires shape { shape ≡ shape_of (constant_of (program_of self.now.lines) k) (statement_of line.now).body }
         requires limited { IsLimited shape }
-        ensures end { IfSome result (λ _. k ≡ length self.now.lines + 1) }
-        ensures ending { IfSome result (IsEnding self.now.base (program_of self.now.lines) (statement_of line.now)) }
+        ensures edit { IfSome result (λ _. IsPutEdit self.now.lines (Insert k line.now) k line.now) }
+        ensures still { IfSome result (IsStillLine self.now.base self.now.lines k line.now) }
     {
         if k <= self.items.len() {
             return None;
@@ -218,99 +223,50 @@ impl Store {
         )
     }
 
-    // Puts a line of this shape in the place of line `k`, which it is alike: only this line is made anew. Where there is no memory
-    // for that, the text stays.
+    // Puts in the line of an edit with which no other line has to do: only this line is made. Where there is no memory for that, the
+    // text stays.
     fn put<C: Count>(
         &mut self,
-        k: u32,
+        edit: &LineEdit<'_>,
         line: Line,
-        shape: Measured,
+        still: &Still,
         counter: &mut C,
     ) -> Result<Changed, EditError>
-        requires allowed { refusal_of self.old.lines (Replace k line) ≡ None }
-        requires alike { IsAlike (program_of self.old.lines) k (statement_of line) }
-        requires shape { shape ≡ shape_of (constant_of (program_of self.old.lines) k) (statement_of line).body }
-        requires limited { IsLimited shape }
+        requires allowed { refusal_of self.old.lines (edit_of edit.now) ≡ None }
+        requires edit { IsPutEdit self.old.lines (edit_of edit.now) (place_of_edit (edit_of edit.now)) line }
+        requires still { IsStillLine self.old.base self.old.lines (place_of_edit (edit_of edit.now)) line still.now }
         requires valued { C.valued_count counter.old ≤ 2 ^ 63 + 1 }
         requires encoded { C.encoded_count counter.old ≤ 2 ^ 63 }
-        ensures ok { OnOk result (self.new ≡ text_after self.old (Replace k line)) }
+        ensures ok { OnOk result (self.new ≡ text_after self.old (edit_of edit.now)) }
         ensures err { OnErr result (self.new ≡ self.old) }
-        ensures changed { IfOk result (λ c. c.lines ≡ changed_lines self.old.base self.old.lines (Replace k line)) }
-        ensures memory { IfErr result (λ e. e ≡ EditError.Memory) }
-        ensures parsed { C.parsed_count counter.new ≡ C.parsed_count counter.old }
-        ensures valued { (C.valued_count counter.old ≤ C.valued_count counter.new) × (C.valued_count counter.new ≤ C.valued_count counter.old + 1000) }
-        ensures encoded { (C.encoded_count counter.old ≤ C.encoded_count counter.new) × (C.encoded_count counter.new ≤ C.encoded_count counter.old + 1) }
-        ensures values { C.valued_count counter.new + size_operands (statement_of line).body ≤ C.valued_count counter.old + most_values self.old.base self.old.lines (Replace k line) }
-        ensures codes { C.encoded_count counter.new ≤ C.encoded_count counter.old + most_codes self.old.base self.old.lines (Replace k line) }
-    {
-        let place = k as usize - 1;
-        let former = self.survey.lines[place].share()?;
-        let former_shape = self.survey.shapes[place];
-        self.survey.lines[place] = line;
-        self.survey.shapes[place] = shape;
-        match item_replaced(
-            self.alloc,
-            self.base,
-            &self.names,
-            &self.survey,
-            &self.items,
-            k,
-            counter,
-        ) {
-            Ok((items, changed)) => {
-                self.items = items;
-                Ok(changed)
-            }
-            Err(e) => {
-                self.survey.lines[place] = former;
-                self.survey.shapes[place] = former_shape;
-                Err(e)
-            }
-        }
-    }
-
-    // Puts a line at the end of the text, with which no other line has to do: only this line is made. Where there is no memory
-    // for that, the text stays.
-    fn push<C: Count>(
-        &mut self,
-        k: u32,
-        line: Line,
-        end: &Ending,
-        counter: &mut C,
-    ) -> Result<Changed, EditError>
-        requires allowed { refusal_of self.old.lines (Insert k line) ≡ None }
-        requires end { k ≡ length self.old.lines + 1 }
-        requires ending { IsEnding self.old.base (program_of self.old.lines) (statement_of line) end.now }
-        requires valued { C.valued_count counter.old ≤ 2 ^ 63 + 1 }
-        requires encoded { C.encoded_count counter.old ≤ 2 ^ 63 }
-        ensures ok { OnOk result (self.new ≡ text_after self.old (Insert k line)) }
-        ensures err { OnErr result (self.new ≡ self.old) }
-        ensures changed { IfOk result (λ c. c.lines ≡ changed_lines self.old.base self.old.lines (Insert k line)) }
+        ensures changed { IfOk result (λ c. c.lines ≡ changed_lines self.old.base self.old.lines (edit_of edit.now)) }
         ensures memory { IfErr result (λ e. e ≡ EditError.Memory) }
         ensures parsed { C.parsed_count counter.new ≡ C.parsed_count counter.old }
         ensures valued { (C.valued_count counter.old ≤ C.valued_count counter.new) × (C.valued_count counter.new ≤ C.valued_count counter.old + 1002) }
         ensures encoded { (C.encoded_count counter.old ≤ C.encoded_count counter.new) × (C.encoded_count counter.new ≤ C.encoded_count counter.old + 1) }
-        ensures values { C.valued_count counter.new + size_operands (statement_of line).body ≤ C.valued_count counter.old + most_values self.old.base self.old.lines (Insert k line) }
-        ensures codes { C.encoded_count counter.new ≤ C.encoded_count counter.old + most_codes self.old.base self.old.lines (Insert k line) }
+        ensures values { C.valued_count counter.new + size_operands (statement_of line).body ≤ C.valued_count counter.old + most_values self.old.base self.old.lines (edit_of edit.now) }
+        ensures codes { C.encoded_count counter.new ≤ C.encoded_count counter.old + most_codes self.old.base self.old.lines (edit_of edit.now) }
     {
-        let count = self.len();
-        let ends = self.survey.ends;
-        match appended(
+        let k = edit.place();
+        let former = self.survey.former(k as usize - 1)?;
+        match put_still(
             self.alloc,
             self.base,
             &mut self.names,
             &mut self.survey,
             &self.items,
+            k,
             line,
-            end,
+            still,
             counter,
         ) {
             Ok((items, changed)) => {
                 self.items = items;
+                drop(former);
                 Ok(changed)
             }
             Err(e) => {
-                self.survey.shorten(count, ends);
+                self.survey.take_back(k as usize - 1, former);
                 Err(e)
             }
         }
@@ -458,16 +414,14 @@ impl Store {
         let shape = self.new_shape(&read, counter);
         match &read {
             ReadEdit::Insert(k, line) => match self.ending(*k, line, shape) {
-                Some(end) => self.push(*k, line.share()?, &end, counter),
+                Some(still) => self.put(edit, line.share()?, &still, counter),
                 None => self.rework(edit, read, shape, counter),
             },
             ReadEdit::Delete(_) => self.rework(edit, read, shape, counter),
-            ReadEdit::Replace(k, line) => {
-                if self.is_alike(*k, line, &shape) {
-                    return self.put(*k, line.share()?, shape, counter);
-                }
-                self.rework(edit, read, shape, counter)
-            }
+            ReadEdit::Replace(k, line) => match self.alike(*k, line, shape) {
+                Some(still) => self.put(edit, line.share()?, &still, counter),
+                None => self.rework(edit, read, shape, counter),
+            },
         }
     }
 

@@ -1,9 +1,10 @@
 -- The lines of a text with what is kept of them. The text is the list of its lines.
-use Rattle.std.specs.Prelude.{◌≡◌, ℕ, ◌-◌, List, [], length, map, get_or, set, take, ◌++◌, ◌∷◌}
+use Rattle.std.specs.Prelude.{◌≡◌, ℕ, ◌-◌, List, [], length, map, get_or, take}
 use Rattle.rv_program.specs.declared.item.Item.{Item}
 use Rattle.rv_program.specs.Codes.{values_at, code_at}
 use Rattle.rv_program.specs.Layout.{shape_at}
 use Rattle.rv_program.specs.Program.{program_of, for_lines}
+use Rattle.rv_program.specs.internal.Still.{set_or_push}
 
 -- line i with its shape, its values and its code
 pub record IsItem (base : ℕ) (text : List (List ℕ)) (i : ℕ) (item : Item) : Type 0 where
@@ -26,14 +27,8 @@ pub record AreItems (base : ℕ) (text : List (List ℕ)) (items : List Item) : 
   pub values : map (λ item. item.values.value) items ≡ for_lines (values_at base (program_of text)) (length text)
   pub codes : map (λ item. item.code) items ≡ for_lines (code_at base (program_of text)) (length text)
 
--- the items with that of line k in the place of the one that was there
+-- the items with that of line k in the place of the one that was there, or behind them
 pub record IsItemPut (base : ℕ) (text : List (List ℕ)) (k : ℕ) (before after : List Item) : Type 0 where
   pub item : Item
   pub is : IsItem base text k item
-  pub items : after ≡ set before (k - 1) item
-
--- the items with that of the last line after them
-pub record IsItemAdded (base : ℕ) (text : List (List ℕ)) (before after : List Item) : Type 0 where
-  pub item : Item
-  pub is : IsItem base text (length text) item
-  pub items : after ≡ before ++ item ∷ []
+  pub items : after ≡ set_or_push before (k - 1) item

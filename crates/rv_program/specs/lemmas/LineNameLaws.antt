@@ -47,7 +47,7 @@ high_in-is base program row line are first last =
 
 -- Local labels are on lines of the text
 
-abbrev IsLine : (n : ℕ) → Option ℕ → Type 0
+abbrev pub IsLine : (n : ℕ) → Option ℕ → Type 0
 IsLine n None = Unit {0}
 IsLine n (Some line) = (1 ≤ line) × (line ≤ n)
 
@@ -67,7 +67,7 @@ first_line-is test i (suc count) n l = at (test (suc i)) (first_line-is test (su
     at true w = (omega arith, omega (arith, l))
     at false w = w
 
-local_line-is : (program : Program) (i number : ℕ) (direction : Direction) → i ≤ length program → IsLine (length program) (local_line program i number direction)
+pub local_line-is : (program : Program) (i number : ℕ) (direction : Direction) → i ≤ length program → IsLine (length program) (local_line program i number direction)
 local_line-is program i number Back l = last_line-is (has_local program number) i (length program) l
 local_line-is program i number Forward l = first_line-is (has_local program number) i (length program - i) (length program) (omega (arith, l))
 
@@ -97,11 +97,11 @@ symbol_by-rows text row k usable name are values less =
     ∙ symbol-by text.base (program_in text) text.places.now k usable name are.placed less
 
 -- what `%pcrel_lo` takes by the line of a label
-high-by : (within : Result ℕ ValueFault) (f g : ℕ → Entry) → ((line : ℕ) → within ≡ Ok line → f line ≡ g line) → and_then within f ≡ and_then within g
+pub high-by : (within : Result ℕ ValueFault) (f g : ℕ → Entry) → ((line : ℕ) → within ≡ Ok line → f line ≡ g line) → and_then within f ≡ and_then within g
 high-by (Ok line) f g same = same line refl
 high-by (Err fault) f g same = refl
 
-label_line-within : (program : Program) (i : ℕ) (label : LabelReference) (line : ℕ) → i ≤ length program → label_line program i label ≡ Ok line → (1 ≤ line) × (line ≤ length program)
+pub label_line-within : (program : Program) (i : ℕ) (label : LabelReference) (line : ℕ) → i ≤ length program → label_line program i label ≡ Ok line → (1 ≤ line) × (line ≤ length program)
 label_line-within program i (reference.Symbol name) line l h = at (definition_of program name) (definition-within program name) h
   where
     at : (place : DefinitionPlace) → IsWithin 1 (1 + length program) place → line_of_place place ≡ Ok line → (1 ≤ line) × (line ≤ length program)

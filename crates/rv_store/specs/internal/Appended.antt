@@ -1,23 +1,21 @@
 -- A line at the end of a text. No other line has to do with it where none uses what it defines, and no section moves by it.
-use Rattle.std.specs.Prelude.{◌≡◌, ℕ, suc, ◌<◌, ◌≤◌, Bool, false, not, ◌&&◌, List, [], ◌∷◌, ◌++◌, length, take, None, Err}
+use Rattle.std.specs.Prelude.{◌≡◌, ℕ, suc, ◌<◌, ◌≤◌, Bool, false, not, ◌&&◌, List, [], ◌∷◌, ◌++◌, length, None, Err}
 use Rattle.std.specs.List.{list_any}
 use Rattle.rv_expr.specs.declared.faults.ValueFault.TheVariants.{LaterEqu}
 use Rattle.rv_stmt.specs.declared.statement.Stmt.{Stmt}
 use Rattle.rv_stmt.specs.Statement.{statement_of}
 use Rattle.rv_layout.specs.declared.measured.Measured.{Measured}
-use Rattle.rv_layout.specs.Places.{section_base_of, IsLimited}
+use Rattle.rv_layout.specs.Places.{section_base_of}
 use Rattle.rv_layout.specs.Sections.{sections}
 use Rattle.rv_layout.specs.Shapes.{shape_of}
 use Rattle.rv_list.specs.declared.view.DefinitionPlace.{DefinitionPlace}
 use Rattle.rv_list.specs.declared.view.DefinitionPlace.TheVariants.{Nowhere}
-use Rattle.rv_store.specs.declared.ending.Ending.{Ending}
 use Rattle.rv_program.specs.declared.limits.TheConstants.{MAX_LINES}
 use Rattle.rv_store.specs.declared.survey.Survey.{Survey}
 use Rattle.rv_program.specs.Constants.{constant_through}
 use Rattle.rv_program.specs.internal.Defining.{HoldsPart}
 use Rattle.rv_program.specs.Definitions.{place_in_body, place_in_statement, definition_of, is_defined, is_equ_on}
-use Rattle.rv_store.specs.internal.Ends.{ends_of}
-use Rattle.rv_program.specs.Layout.{shapes_of, place_at}
+use Rattle.rv_program.specs.Layout.{shapes_of}
 use Rattle.rv_program.specs.Pairs.{pcrel_high_of}
 use Rattle.rv_program.specs.Program.{Program, program_of, body_at}
 use Rattle.rv_program.specs.References.{among_local, equ_value}
@@ -48,16 +46,6 @@ abbrev pub StaySections : (base : ℕ) → Program → Measured → Type 0
 StaySections base program shape =
     (t : ℕ) → t < sections → section_base_of base (shapes_of program ++ shape ∷ []) t ≡ section_base_of base (shapes_of program) t
 
--- what the statement adds at the end of the text
-pub record IsEnding (base : ℕ) (program : Program) (s : Stmt) (end : Ending) : Type 0 where
-  pub apart : IsApart program s
-  pub nothing : end.defines ≡ false → (name : List ℕ) → adds program s name ≡ false
-  pub shape : end.shape ≡ shape_at_end program s
-  pub limited : IsLimited end.shape
-  pub ends : end.ends ≡ ends_of (shapes_of program ++ end.shape ∷ [])
-  pub place : end.place ≡ place_at base (program ++ s ∷ []) (suc (length program))
-  pub stay : StaySections base program end.shape
-
 -- Rows
 
 -- the rows by names changed in nothing
@@ -72,25 +60,6 @@ pub record AreSameLines (old new : Survey) : Type 0 where
   pub shapes : new.shapes.items ≡ old.shapes.items
   pub ends : new.ends ≡ old.ends
   pub places : new.places.items ≡ old.places.items
-  pub locals : new.locals ≡ old.locals
-  pub highs : new.highs.items ≡ old.highs.items
-  pub paired_highs : new.paired_highs.items ≡ old.paired_highs.items
-
--- the rows by lines with what a line at the end adds
-pub record AreExtended (line : List ℕ) (end : Ending) (old new : Survey) : Type 0 where
-  pub lines : new.lines.items ≡ old.lines.items ++ line ∷ []
-  pub shapes : new.shapes.items ≡ old.shapes.items ++ end.shape ∷ []
-  pub ends : new.ends ≡ end.ends
-  pub places : new.places.items ≡ old.places.items ++ end.place ∷ []
-  pub locals : new.locals ≡ old.locals
-  pub highs : new.highs.items ≡ old.highs.items
-  pub paired_highs : new.paired_highs.items ≡ old.paired_highs.items
-
--- the rows of the first lines are the old ones
-pub record BeginAs (count : ℕ) (old new : Survey) : Type 0 where
-  pub lines : take count new.lines.items ≡ old.lines.items
-  pub shapes : take count new.shapes.items ≡ old.shapes.items
-  pub places : take count new.places.items ≡ old.places.items
   pub locals : new.locals ≡ old.locals
   pub highs : new.highs.items ≡ old.highs.items
   pub paired_highs : new.paired_highs.items ≡ old.paired_highs.items

@@ -2,8 +2,7 @@ use Rattle.std.proofs.Common.{◌-◌, get_or, arith, ap, sym, subst, ◌∙◌}
 use Rattle.std.specs.Prelude.{remove}
 use Rattle.rv_store.specs.internal.Column.{HasPlace}
 use Rattle.rv_program.specs.Edits.{edit_of_read}
-use Rattle.rv_store.proofs.AlikeTexts.{set-back}
-use Rattle.rv_store.proofs.Columns.{removed-inserted}
+use Rattle.rv_store.proofs.Columns.{removed-inserted, set-back}
 use Rattle.rv_store.proofs.column.edit_lines.Goals as goal
 
 pub returns-in_ok-insert-in-Insert-clause-back : goal.returns-in_ok-insert-in-Insert-clause-back

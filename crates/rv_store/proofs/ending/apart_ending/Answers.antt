@@ -8,7 +8,7 @@ use Rattle.rv_store.specs.internal.Appended.{adds, IsApart}
 use Rattle.rv_store.specs.internal.Ends.{ends_of, IsBehind}
 use Rattle.rv_program.specs.Program.{program_of}
 use Rattle.rv_program.specs.internal.Rows.{AreShapes}
-use Rattle.rv_store.proofs.Endings.{ends-with, together-before, together-all, short-before, ending-is}
+use Rattle.rv_store.proofs.Endings.{ends-with, together-before, together-all, short-before, ending-line}
 use Rattle.rv_store.proofs.ShapeRows.{limited-push}
 use Rattle.rv_store.proofs.Surveys.{length_of_shapes}
 use Rattle.rv_store.proofs.ending.apart_ending.Goals as goal
@@ -51,7 +51,7 @@ pub returns : goal.returns
 returns c =
     let shapes = c.args.survey.now.shapes.items in
     let all = ends-with shapes c.args.shape c.args.survey.now.ends c.advance.new.self c.requires.ends c.advance.ensures in
-    ending-is c.args.base c.args.survey.now.lines.items (statement_of c.args.line.now) shapes c.args.survey.now.ends _ c.requires.shapes c.requires.limited c.requires.few
+    ending-line c.args.base c.args.survey.now.lines.items c.args.line.now shapes c.args.survey.now.ends _ c.requires.shapes c.requires.limited c.requires.few
     (subst (λ ls. IsApart (program_of ls) (statement_of c.args.line.now)) c.deref.ensures.value c.in_ok-defines.ensures.apart)
     (subst (λ ls. c.in_ok-defines.defines ≡ false → (name : List ℕ) → adds (program_of ls) (statement_of c.args.line.now) name ≡ false) c.deref.ensures.value c.in_ok-defines.ensures.nothing)
     c.requires.shape c.requires.limited_shape c.requires.ends all (c.stay_sections.ensures c.if-not-stay_sections.false)

@@ -11,8 +11,8 @@ returns-in_err-share-in-Some-clause-values g c =
     let operands = ap shape_operands c.requires.read in
     omega (arith, c.new_shape-shape.ensures.most, enough, operands)
 
-pub returns-in_err-share-in-Replace-clause-values : goal.returns-in_err-share-in-Replace-clause-values
-returns-in_err-share-in-Replace-clause-values g c =
+pub returns-in_err-share-in-Some-alike-clause-values : goal.returns-in_err-share-in-Some-alike-clause-values
+returns-in_err-share-in-Some-alike-clause-values g c =
     let old = c.args.self.now in
     let enough = nothing-counted old.base old.lines (edit_of c.args.edit.now) c.requires.allowed in
     let operands = ap shape_operands c.requires.read in

@@ -1,179 +1,151 @@
-use Rattle.std.proofs.Common.{◌≡◌, ◌≤◌, ◌-◌, List, [], ℕ, None, length, map, set, get_or, arith, ap, sym, subst, ◌∙◌}
+use Rattle.std.proofs.Common.{◌≡◌, ◌-◌, ◌≤◌, List, [], ◌∷◌, ℕ, None, length, map, arith, ap, sym, subst, ◌∙◌}
 use Rattle.std.specs.List.{AllPass}
-use Rattle.std.proofs.lemmas.List.{get_or-set_same}
-use Rattle.rv_stmt.specs.Statement.{statement_of}
-use Rattle.rv_layout.specs.declared.measured.Measured.{Measured}
-use Rattle.rv_layout.specs.Places.{AreLimited}
-use Rattle.rv_layout.specs.Shapes.{shape_of, size_operands}
-use Rattle.rv_store.specs.internal.Alike.{IsAlike}
-use Rattle.rv_program.specs.Constants.{constant_of}
-use Rattle.rv_store.specs.internal.Ends.{ends_of}
-use Rattle.rv_program.specs.internal.Items.{AreItems}
-use Rattle.rv_program.specs.Program.{program_of, body_at}
+use Rattle.rv_program.specs.declared.item.Item.{Item}
+use Rattle.rv_store.specs.declared.still.Still.{Still}
+use Rattle.rv_store.specs.declared.survey.Survey.{Survey}
+use Rattle.rv_program.specs.Edits.{edit_of, place_of_edit}
+use Rattle.rv_program.specs.internal.Items.{AreItems, IsItemPut}
+use Rattle.rv_program.specs.Program.{program_of}
+use Rattle.rv_program.specs.internal.Still.{set_or_push, IsPutEdit}
+use Rattle.rv_store.specs.internal.StillLines.{IsStillLine}
+use Rattle.rv_store.specs.internal.Stored.{IsStored}
 use Rattle.rv_store.specs.internal.Surveys.{IsSurvey}
-use Rattle.rv_program.specs.Text.{Replace, is_line, refusal_of}
-use Rattle.rv_program.specs.internal.Work.{value_operands}
-use Rattle.rv_store.proofs.AlikeTexts.{set-back, Stays, survey-stays, items-put, one_changed, values-enough, codes-enough}
-use Rattle.rv_program.specs.lemmas.EarlierLines.{replace_within}
+use Rattle.rv_program.specs.Text.{Edit, Text, is_line, refusal_of, lines_after, text_after}
 use Rattle.rv_store.proofs.EditRefusals.{lined_after, few_after}
-use Rattle.rv_store.proofs.FormerItems.{lines-replaced}
-use Rattle.rv_program.specs.lemmas.NewShapeLaws.{replaced}
-use Rattle.rv_program.specs.lemmas.ShapeWork.{nothing-counted}
+use Rattle.rv_program.specs.lemmas.Programs.{length-program}
+use Rattle.rv_store.proofs.StillRows.{symbols-same, survey-back, count-shapes, count-places}
+use Rattle.rv_store.proofs.StillTexts.{within-next, items-still, one_changed, values-enough, codes-enough}
 use Rattle.rv_store.proofs.store.Store.put.Goals as goal
 
-pub item_replaced-requires-clause-survey : goal.item_replaced-requires-clause-survey
-item_replaced-requires-clause-survey g c =
-    let old = c.args.self.now in
-    let k = c.args.k in
-    let survey = c.self.inside.survey in
-    let lines : List (List ℕ) = survey.lines.items in
-    let same : lines ≡ old.lines = c.self.invariant.listed ∙ ap (λ t. t.lines) c.self.view_is in
-    let within = replace_within old.lines k c.args.line c.requires.allowed in
-    let last : k ≤ length lines = rw same within.1 in
-    let alike : IsAlike (program_of lines) k (statement_of c.args.line) = subst (λ ls. IsAlike (program_of ls) k (statement_of c.args.line)) (sym same) c.requires.alike in
-    let surveyed : IsSurvey c.self.inside.base (program_of lines) c.self.inside.names survey =
-    subst (λ ls. IsSurvey c.self.inside.base (program_of ls) c.self.inside.names survey) (sym c.self.invariant.listed) c.self.invariant.surveyed in
-    let shape : c.args.shape ≡ shape_of (constant_of (program_of lines) k) (statement_of c.args.line).body = rw same c.requires.shape in
-    let now = survey-stays c.self.inside.base lines k c.args.line within.0 last alike c.self.inside.names survey c.args.shape surveyed shape c.requires.limited in
-    record {
-      definitions = now.definitions;
-      constants = now.constants;
-      shapes = now.shapes;
-      limited = now.limited;
-      ends = now.ends;
-      places = now.places;
-      locals = now.locals;
-      equ_values = now.equ_values;
-      highs = now.highs;
-      paired_highs = now.paired_highs;
-    }
+module _ (base : ℕ) (lines names : List (List ℕ)) (survey : Survey) (items : List Item) (stored : IsStored base lines names survey items) where
+  abbrev kept : List (List ℕ)
+  kept = survey.lines.items
+
+  surveyed : IsSurvey base (program_of kept) names survey
+  surveyed = subst (λ ls. IsSurvey base (program_of ls) names survey) (sym stored.listed) stored.surveyed
+
+  module _ (old : Text) (view : record { base = base; lines = lines } ≡ old) (edit : Edit) (k : ℕ) (line : List ℕ) (given : Still) (number : k ≡ place_of_edit edit)
+      (allowed : refusal_of old.lines edit ≡ None) (put : IsPutEdit old.lines edit (place_of_edit edit) line) (still : IsStillLine old.base old.lines (place_of_edit edit) line given) where
+    still-kept : IsStillLine base kept k line given
+    still-kept =
+        subst (λ ls. IsStillLine base ls k line given) (sym stored.listed)
+        (subst (λ n. IsStillLine base lines n line given) (sym number) (subst (λ t. IsStillLine t.base t.lines (place_of_edit edit) line given) (sym view) still))
+
+    after : lines_after old.lines edit ≡ set_or_push kept (k - 1) line
+    after = put.edited ∙ (λ j. set_or_push (sym (stored.listed ∙ ap (λ t. t.lines) view) j) (sym number j - 1) line)
+
+    allowed_kept : refusal_of lines edit ≡ None
+    allowed_kept = ap (λ t. refusal_of t.lines edit) view ∙ allowed
+
+    after_kept : lines_after lines edit ≡ set_or_push kept (k - 1) line
+    after_kept = ap (λ t. lines_after t.lines edit) view ∙ after
+
+    few : length (set_or_push kept (k - 1) line) ≤ 16384
+    few = omega (arith, few_after lines edit stored.few allowed_kept, ap length after_kept)
+
+    module _ (items' : List Item) (is : IsItemPut base (set_or_push kept (k - 1) line) k items items') where
+      items-after : AreItems base (set_or_push kept (k - 1) line) items'
+      items-after = items-still kept line still-kept.still items items' (subst (λ ls. AreItems base ls items) (sym stored.listed) stored.assembled) is
+
+      text-is : record { base = base; lines = map (λ i. i.line) items' } ≡ text_after old edit
+      text-is = let lines_are = items-after.lines ∙ sym after in λ i. record { base = (view i).base; lines = lines_are i }
+
+      stored-after : (names' : List (List ℕ)) (new : Survey) → new.lines.items ≡ set_or_push kept (k - 1) line → IsSurvey base (program_of (set_or_push kept (k - 1) line)) names' new → IsStored base (map (λ i. i.line) items') names' new items'
+      stored-after names' new listed now = record {
+        based = stored.based;
+        lined = subst (AllPass is_line) (after_kept ∙ sym items-after.lines) (lined_after lines edit stored.lined allowed_kept);
+        few = omega (arith, few, ap length items-after.lines);
+        listed = listed ∙ sym items-after.lines;
+        surveyed = subst (λ ls. IsSurvey base (program_of ls) names' new) (sym items-after.lines) now;
+        assembled = subst (λ ls. AreItems base ls items') (sym items-after.lines) items-after;
+      }
+
+pub former-requires-clause-lines : goal.former-requires-clause-lines
+former-requires-clause-lines g c =
+    let next = within-next c.requires.still.still in
+    omega (arith, next, length-program c.args.self.now.lines, ap length c.self.invariant.listed, ap (λ t. length t.lines) c.self.view_is, c.place-k.ensures.value)
+
+pub former-requires-clause-shapes : goal.former-requires-clause-shapes
+former-requires-clause-shapes g c =
+    count-shapes c.self.inside.base c.self.inside.survey.lines.items c.self.inside.names c.self.inside.survey (surveyed c.self.inside.base _ c.self.inside.names c.self.inside.survey c.self.inside.items.items c.self.invariant)
+
+pub former-requires-clause-places : goal.former-requires-clause-places
+former-requires-clause-places g c =
+    count-places c.self.inside.base c.self.inside.survey.lines.items c.self.inside.names c.self.inside.survey (surveyed c.self.inside.base _ c.self.inside.names c.self.inside.survey c.self.inside.items.items c.self.invariant)
+
+pub put_still-requires-clause-survey : goal.put_still-requires-clause-survey
+put_still-requires-clause-survey g c = surveyed c.self.inside.base _ c.self.inside.names c.self.inside.survey c.self.inside.items.items c.self.invariant
+
+pub put_still-requires-clause-still : goal.put_still-requires-clause-still
+put_still-requires-clause-still g c =
+    still-kept c.self.inside.base _ c.self.inside.names c.self.inside.survey c.self.inside.items.items c.self.invariant c.args.self.now c.self.view_is
+    (edit_of c.args.edit.now) c.place-k.result c.args.line c.args.still.now c.place-k.ensures.value c.requires.allowed c.requires.edit c.requires.still
+
+pub put_still-requires-clause-few : goal.put_still-requires-clause-few
+put_still-requires-clause-few g c =
+    few c.self.inside.base _ c.self.inside.names c.self.inside.survey c.self.inside.items.items c.self.invariant c.args.self.now c.self.view_is
+    (edit_of c.args.edit.now) c.place-k.result c.args.line c.args.still.now c.place-k.ensures.value c.requires.allowed c.requires.edit c.requires.still
 
 pub invariant_of-self : goal.invariant_of-self
 invariant_of-self g c =
-    let old = c.args.self.now in
-    let k = c.args.k in
-    let survey = c.self.inside.survey in
-    let lines : List (List ℕ) = survey.lines.items in
-    let after : List (List ℕ) = set lines (k - 1) c.args.line in
-    let same : lines ≡ old.lines = c.self.invariant.listed ∙ ap (λ t. t.lines) c.self.view_is in
-    let within = replace_within old.lines k c.args.line c.requires.allowed in
-    let last : k ≤ length lines = rw same within.1 in
-    let allowed : refusal_of lines (Replace k c.args.line) ≡ None = ap (λ ls. refusal_of ls (Replace k c.args.line)) same ∙ c.requires.allowed in
-    let alike : IsAlike (program_of lines) k (statement_of c.args.line) = subst (λ ls. IsAlike (program_of ls) k (statement_of c.args.line)) (sym same) c.requires.alike in
-    let surveyed : IsSurvey c.self.inside.base (program_of lines) c.self.inside.names survey =
-    subst (λ ls. IsSurvey c.self.inside.base (program_of ls) c.self.inside.names survey) (sym c.self.invariant.listed) c.self.invariant.surveyed in
-    let shape : c.args.shape ≡ shape_of (constant_of (program_of lines) k) (statement_of c.args.line).body = rw same c.requires.shape in
-    let stays = survey-stays c.self.inside.base lines k c.args.line within.0 last alike c.self.inside.names survey c.args.shape surveyed shape c.requires.limited in
-    let assembled : AreItems c.self.inside.base lines c.self.inside.items.items = subst (λ ls. AreItems c.self.inside.base ls c.self.inside.items.items) (sym c.self.invariant.listed) c.self.invariant.assembled in
-    let put = c.in-Ok.ensures.items in
-    let made = items-put c.self.inside.base lines k c.args.line within.0 last alike c.self.inside.items.items put.item assembled put.is in
-    let items : AreItems c.self.inside.base after c.in-Ok.items.items = subst (AreItems c.self.inside.base after) (sym put.items) made in
-    let lined : AllPass is_line lines = subst (AllPass is_line) (sym c.self.invariant.listed) c.self.invariant.lined in
-    let few : length lines ≤ 16384 = rw c.self.invariant.listed c.self.invariant.few in
-    let now = subst (λ ls. Stays c.self.inside.base (program_of ls) c.self.inside.names survey (set survey.shapes.items (k - 1) c.args.shape)) (sym items.lines) stays in
-    record {
-      based = c.self.invariant.based;
-      lined = subst (AllPass is_line) (sym items.lines) (lined_after lines (Replace k c.args.line) lined allowed);
-      few = rw items.lines (few_after lines (Replace k c.args.line) few allowed);
-      listed = sym items.lines;
-      surveyed = record {
-        definitions = now.definitions;
-        constants = now.constants;
-        shapes = now.shapes;
-        limited = now.limited;
-        ends = now.ends;
-        places = now.places;
-        locals = now.locals;
-        equ_values = now.equ_values;
-        highs = now.highs;
-        paired_highs = now.paired_highs;
-      };
-      assembled = subst (λ ls. AreItems c.self.inside.base ls c.in-Ok.items.items) (sym items.lines) items;
-    }
+    stored-after c.self.inside.base _ c.self.inside.names c.self.inside.survey c.self.inside.items.items c.self.invariant c.args.self.now c.self.view_is
+    (edit_of c.args.edit.now) c.place-k.result c.args.line c.args.still.now c.place-k.ensures.value c.requires.allowed c.requires.edit c.requires.still
+    c.in-Ok.items.items c.in-Ok.ensures.items c.put_still.new.names c.put_still.new.survey c.in-Ok.ensures.lines c.in-Ok.ensures.survey
 
 pub invariant_of-self-in-Err : goal.invariant_of-self-in-Err
 invariant_of-self-in-Err g c =
-    let now = c.self.invariant.surveyed in
-    let shapes : List Measured = c.self.inside.survey.shapes.items in
-    let back : set (set shapes (c.args.k - 1) c.args.shape) (c.args.k - 1) c.index-former_shape.result.now ≡ shapes =
-    set-back shapes (c.args.k - 1) c.args.shape c.index-former_shape.result.now c.index-former_shape.ensures in
+    let base = c.self.inside.base in
+    let survey = c.self.inside.survey in
+    let lines : List (List ℕ) = survey.lines.items in
+    let whole = surveyed base _ c.self.inside.names survey c.self.inside.items.items c.self.invariant in
+    let back = c.take_back.ensures.lines survey c.in-Err.ensures.err c.in_ok-former.ensures in
+    let symbols = symbols-same base (program_of lines) (length lines) c.put_still.new.names c.put_still.new.survey c.take_back.new.self c.take_back.ensures.symbols c.in-Err.ensures.symbols in
+    let now = survey-back base lines c.self.inside.names c.put_still.new.names survey c.take_back.new.self whole back symbols in
     record {
       based = c.self.invariant.based;
       lined = c.self.invariant.lined;
       few = c.self.invariant.few;
-      listed = set-back c.self.inside.survey.lines.items (c.args.k - 1) c.args.line c.in_ok-former.former (c.in_ok-former.ensures ∙ c.index.ensures ∙ ap (get_or c.self.inside.survey.lines.items (c.args.k - 1)) (sym c.in_ok-former.ensures)) ∙ c.self.invariant.listed;
-      surveyed = record {
-        definitions = now.definitions;
-        constants = now.constants;
-        shapes = back ∙ now.shapes;
-        limited = subst AreLimited (sym back) now.limited;
-        ends = now.ends ∙ ap ends_of (sym back);
-        places = now.places;
-        locals = now.locals;
-        equ_values = now.equ_values;
-        highs = now.highs;
-        paired_highs = now.paired_highs;
-      };
+      listed = back.lines ∙ c.self.invariant.listed;
+      surveyed = subst (λ ls. IsSurvey base (program_of ls) c.put_still.new.names c.take_back.new.self) c.self.invariant.listed now;
       assembled = c.self.invariant.assembled;
     }
 
 pub returns-in-Ok-clause-ok : goal.returns-in-Ok-clause-ok
 returns-in-Ok-clause-ok g c =
-    let k = c.args.k in
-    let same : c.self.inside.survey.lines.items ≡ c.args.self.now.lines = c.self.invariant.listed ∙ ap (λ t. t.lines) c.self.view_is in
-    let put = c.in-Ok.ensures.items in
-    let within = replace_within c.args.self.now.lines k c.args.line c.requires.allowed in
-    let last : k ≤ length c.self.inside.survey.lines.items = rw same within.1 in
-    let named : put.item.line ≡ c.args.line = put.is.line ∙ get_or-set_same c.self.inside.survey.lines.items (k - 1) c.args.line [] (omega (arith, within.0, last)) in
-    let lines = ap (map (λ i. i.line)) put.items ∙ lines-replaced c.self.inside.survey.lines.items k c.args.line c.self.inside.items.items put.item (sym c.self.invariant.listed) named ∙ ap (λ ls. set ls (k - 1) c.args.line) same in
-    λ i. record { base = (c.self.view_is i).base; lines = lines i }
+    text-is c.self.inside.base _ c.self.inside.names c.self.inside.survey c.self.inside.items.items c.self.invariant c.args.self.now c.self.view_is
+    (edit_of c.args.edit.now) c.place-k.result c.args.line c.args.still.now c.place-k.ensures.value c.requires.allowed c.requires.edit c.requires.still
+    c.in-Ok.items.items c.in-Ok.ensures.items
 
 pub returns-in-Ok-clause-changed : goal.returns-in-Ok-clause-changed
 returns-in-Ok-clause-changed g c =
-    let old = c.args.self.now in
-    let within = replace_within old.lines c.args.k c.args.line c.requires.allowed in
-    c.in-Ok.ensures.changed ∙ sym (one_changed old.base old.lines c.args.k c.args.line within.0 within.1 c.requires.alike)
+    c.in-Ok.ensures.changed ∙ ap (λ n. n ∷ []) c.place-k.ensures.value ∙ sym (one_changed c.args.self.now.lines c.args.line c.requires.still.still (edit_of c.args.edit.now) c.requires.edit)
 
 pub returns-in-Ok-clause-values : goal.returns-in-Ok-clause-values
 returns-in-Ok-clause-values g c =
-    let old = c.args.self.now in
-    let same : c.self.inside.survey.lines.items ≡ old.lines = c.self.invariant.listed ∙ ap (λ t. t.lines) c.self.view_is in
-    let within = replace_within old.lines c.args.k c.args.line c.requires.allowed in
-    let enough = values-enough old.base old.lines c.args.k c.args.line within.0 within.1 c.requires.alike in
-    let operands = ap (λ ls. value_operands (body_at (program_of (set ls (c.args.k - 1) c.args.line)) c.args.k)) same in
-    let here = ap (λ s. size_operands s.body) (replaced old.lines c.args.k c.args.line c.requires.allowed) in
-    omega (arith, c.item_replaced.ensures.valued_most, enough, operands, here)
-
-pub returns-in-Ok-clause-codes : goal.returns-in-Ok-clause-codes
-returns-in-Ok-clause-codes g c =
-    let old = c.args.self.now in
-    let within = replace_within old.lines c.args.k c.args.line c.requires.allowed in
-    let enough = codes-enough old.base old.lines c.args.k c.args.line within.0 within.1 c.requires.alike in
-    omega (arith, c.item_replaced.ensures.encoded_most, enough)
+    let enough = values-enough c.args.self.now.lines c.args.line c.requires.still.still (edit_of c.args.edit.now) c.requires.edit in
+    omega (arith, c.put_still.ensures.valued_most, enough)
 
 pub returns-in-Err-clause-values : goal.returns-in-Err-clause-values
 returns-in-Err-clause-values g c =
-    let old = c.args.self.now in
-    let same : c.self.inside.survey.lines.items ≡ old.lines = c.self.invariant.listed ∙ ap (λ t. t.lines) c.self.view_is in
-    let within = replace_within old.lines c.args.k c.args.line c.requires.allowed in
-    let enough = values-enough old.base old.lines c.args.k c.args.line within.0 within.1 c.requires.alike in
-    let operands = ap (λ ls. value_operands (body_at (program_of (set ls (c.args.k - 1) c.args.line)) c.args.k)) same in
-    let here = ap (λ s. size_operands s.body) (replaced old.lines c.args.k c.args.line c.requires.allowed) in
-    omega (arith, c.item_replaced.ensures.valued_most, enough, operands, here)
-
-pub returns-in-Err-clause-codes : goal.returns-in-Err-clause-codes
-returns-in-Err-clause-codes g c =
-    let old = c.args.self.now in
-    let within = replace_within old.lines c.args.k c.args.line c.requires.allowed in
-    let enough = codes-enough old.base old.lines c.args.k c.args.line within.0 within.1 c.requires.alike in
-    omega (arith, c.item_replaced.ensures.encoded_most, enough)
-
-pub returns-in-Ok-clause-parsed : goal.returns-in-Ok-clause-parsed
-returns-in-Ok-clause-parsed g c = c.item_replaced.ensures.parsed
-
-pub returns-in-Err-clause-parsed : goal.returns-in-Err-clause-parsed
-returns-in-Err-clause-parsed g c = c.item_replaced.ensures.parsed
+    let enough = values-enough c.args.self.now.lines c.args.line c.requires.still.still (edit_of c.args.edit.now) c.requires.edit in
+    omega (arith, c.put_still.ensures.valued_most, enough)
 
 pub returns-in_err-former-clause-values : goal.returns-in_err-former-clause-values
 returns-in_err-former-clause-values g c =
-    omega (arith, nothing-counted c.args.self.now.base c.args.self.now.lines (Replace c.args.k c.args.line) c.requires.allowed)
+    let enough = values-enough c.args.self.now.lines c.args.line c.requires.still.still (edit_of c.args.edit.now) c.requires.edit in omega (arith, enough)
+
+pub returns-in-Ok-clause-codes : goal.returns-in-Ok-clause-codes
+returns-in-Ok-clause-codes g c =
+    let enough = codes-enough c.args.self.now.lines c.args.line c.requires.still.still (edit_of c.args.edit.now) c.requires.edit in
+    omega (arith, c.put_still.ensures.encoded_most, enough)
+
+pub returns-in-Err-clause-codes : goal.returns-in-Err-clause-codes
+returns-in-Err-clause-codes g c =
+    let enough = codes-enough c.args.self.now.lines c.args.line c.requires.still.still (edit_of c.args.edit.now) c.requires.edit in
+    omega (arith, c.put_still.ensures.encoded_most, enough)
+
+pub returns-in-Ok-clause-parsed : goal.returns-in-Ok-clause-parsed
+returns-in-Ok-clause-parsed g c = c.put_still.ensures.parsed
+
+pub returns-in-Err-clause-parsed : goal.returns-in-Err-clause-parsed
+returns-in-Err-clause-parsed g c = c.put_still.ensures.parsed

@@ -1,4 +1,4 @@
-use Rattle.std.proofs.Common.{◌≡◌, ◌-◌, suc, [], ◌∷◌, ◌++◌, length, take, drop, vec_len, append-nil, arith, ap, ◌∙◌, refl}
+use Rattle.std.proofs.Common.{◌≡◌, ◌-◌, suc, [], ◌∷◌, ◌++◌, length, take, drop, vec_len, append-nil, true≢false, arith, ap, sym, ◌∙◌, refl}
 use Rattle.std.proofs.Math.ListN.{drop_of_length-le}
 use Rattle.std.proofs.Math.Seq.{take-append_seam}
 use Rattle.std.proofs.lemmas.List.{take_all}
@@ -10,8 +10,11 @@ use Rattle.rv_store.proofs.LastDefinitions.{symbols-forgotten}
 use Rattle.rv_store.proofs.LongerTexts.{count-longer}
 use Rattle.rv_store.proofs.survey.Survey.forget_last.Goals as goal
 
+pub returns-then-not-any-clause-symbols : goal.returns-then-not-any-clause-symbols
+returns-then-not-any-clause-symbols c any base lines listed part = absurd (true≢false (sym any ∙ c.if-not-any.true))
+
 pub returns-clause-symbols : goal.returns-clause-symbols
-returns-clause-symbols c base lines listed part =
+returns-clause-symbols c any base lines listed part =
     let names = c.args.names.now in
     let line = c.args.line.now in
     let all = c.args.self.now.lines in

@@ -1,6 +1,6 @@
-//! Replacing a line by one that it is alike: only that line is made anew.
+//! Lines with all that is kept of them, made one by one.
 
-ghost use Rattle.std.specs.Prelude.{◌≡◌, ◌≤◌, ◌+◌, ◌^◌, [], ◌∷◌, length, IfOk, IfErr};
+ghost use Rattle.std.specs.Prelude.{◌≡◌, ◌≤◌, ◌+◌, ◌^◌, length, IfOk, IfErr};
 ghost use Rattle.rv_program.specs.declared.limits.TheConstants.{MAX_LINES};
 ghost use Rattle.rv_program.specs.internal.Items.{IsItem, IsItemPut};
 ghost use Rattle.rv_program.specs.Program.{program_of, body_at};
@@ -8,15 +8,14 @@ ghost use Rattle.rv_store.specs.internal.Surveys.{IsSurvey};
 ghost use Rattle.rv_program.specs.internal.ValueRows.{AreValueRows, base_of, body_in};
 ghost use Rattle.rv_program.specs.internal.Work.{value_operands};
 
-use crate::changed::Changed;
 use crate::survey::Survey;
 use rv_program::{EditError, Item, Lines, NameTable, ValueRows, operands_are_few_on, shape_on};
 use rv_text::Count;
 use rv_tree::SumTree;
 use std::alloc::Global;
 
-/// A line with all that is kept of it, by the rows of its text.
-pub fn item_of_line<C: Count>(
+// A line with all that is kept of it, by the rows of its text.
+fn item_of_line<C: Count>(
     alloc: Global,
     rows: &ValueRows<'_>,
     line: u32,
@@ -45,7 +44,8 @@ pub fn item_of_line<C: Count>(
     Ok(Item::made(alloc, line, shape, values, code)?)
 }
 
-/// The items of a text with that of line `k` made anew, by the survey of the text, and the report that this line is new.
+/// The items of a text with that of line `k`, which is made by the survey of the text: in the place of the one that was there, or
+/// behind them.
 ///
 /// The counter's number of expressions computed rises by at most the operands of the line, and its number of lines encoded by
 /// at most one, whatever the outcome.
@@ -53,7 +53,7 @@ pub fn item_of_line<C: Count>(
 /// # Errors
 ///
 /// `Memory` if there was no memory for what is kept.
-pub fn item_replaced<C: Count>(
+pub fn item_put<C: Count>(
     alloc: Global,
     base: u32,
     names: &NameTable,
@@ -61,16 +61,15 @@ pub fn item_replaced<C: Count>(
     items: &SumTree<Item>,
     k: u32,
     counter: &mut C,
-) -> Result<(SumTree<Item>, Changed), EditError>
+) -> Result<SumTree<Item>, EditError>
     requires survey { IsSurvey base (program_of survey.now.lines.items) names.now survey.now }
     requires few { length survey.now.lines.items ≤ MAX_LINES }
-    requires count { length items.now.items ≡ length survey.now.lines.items }
     requires first { 1 ≤ k }
     requires last { k ≤ length survey.now.lines.items }
-    requires valued { C.valued_count counter.old ≤ 2 ^ 63 + 1 }
+    requires next { k ≤ length items.now.items + 1 }
+    requires valued { C.valued_count counter.old ≤ 2 ^ 63 + 3 }
     requires encoded { C.encoded_count counter.old ≤ 2 ^ 63 }
-    ensures items { IfOk result (λ r. IsItemPut base survey.now.lines.items k items.now.items r.0.items) }
-    ensures changed { IfOk result (λ r. r.1.lines ≡ k ∷ []) }
+    ensures items { IfOk result (λ t. IsItemPut base survey.now.lines.items k items.now.items t.items) }
     ensures memory { IfErr result (λ e. e ≡ EditError.Memory) }
     ensures parsed { C.parsed_count counter.new ≡ C.parsed_count counter.old }
     ensures valued_least { C.valued_count counter.old ≤ C.valued_count counter.new }
@@ -82,7 +81,8 @@ pub fn item_replaced<C: Count>(
     let lines = Lines::in_column(&survey.lines);
     let rows = survey.rows(&lines, base, names);
     let item = item_of_line(alloc, &rows, k, counter)?;
-    let mut numbers = Vec::new(alloc);
-    numbers.push(k)?;
-    Ok((items.replaced(k, item)?, Changed::of(numbers)))
+    if k <= items.len() {
+        return Ok(items.replaced(k, item)?);
+    }
+    Ok(items.inserted(k, item)?)
 }

@@ -1,7 +1,7 @@
 use Rattle.std.proofs.Common.{◌∙◌, arith}
 use Rattle.rv_program.specs.internal.ValueRows.{body_in}
 use Rattle.rv_program.specs.lemmas.CountedLines.{value_operands-few}
-use Rattle.rv_store.proofs.replacement.item_of_line.Goals as goal
+use Rattle.rv_store.proofs.line_items.item_of_line.Goals as goal
 
 pub returns-in_err-values-clause-valued_few : goal.returns-in_err-values-clause-valued_few
 returns-in_err-values-clause-valued_few g c =

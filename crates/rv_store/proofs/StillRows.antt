@@ -1,0 +1,190 @@
+-- The rows of a text that get a line in place with which no other line has to do, or lose it again.
+use Rattle.std.proofs.Common.{◌≡◌, ℕ, zero, suc, ◌-◌, ◌≤◌, inl, inr, Bool, true, List, [], ◌∷◌, ◌++◌, length, set, take, get_or, Option, Some, None, Result, Ok, Err, arith, ap, sym, subst, ◌∙◌, refl}
+use Rattle.std.specs.Result.{OnErr}
+use Rattle.std.proofs.Math.Seq.{take-append_seam}
+use Rattle.std.proofs.lemmas.List.{take_all}
+use Rattle.rv_layout.specs.declared.measured.Measured.{Measured}
+use Rattle.rv_layout.specs.Places.{IsLimited, AreLimited}
+use Rattle.rv_store.specs.declared.still.Still.{Still}
+use Rattle.rv_store.specs.declared.survey.Survey.{Survey}
+use Rattle.rv_store.specs.internal.Appended.{AreSameSymbols, AreSameLines, AreSymbols, IsUnsettled}
+use Rattle.rv_store.specs.internal.Ends.{ends_of}
+use Rattle.rv_program.specs.Layout.{shape_at, place_at}
+use Rattle.rv_program.specs.Program.{Program, program_of}
+use Rattle.rv_program.specs.internal.Rows.{AreDefinitions, AreConstants, AreEquValues, AreShapes, ArePlaces, AreLocals, AreHighs, ArePairedHighs}
+use Rattle.rv_program.specs.internal.Still.{set_or_push, IsStill}
+use Rattle.rv_store.specs.internal.StillLines.{IsStillLine, AreLinesPut, MayBePut, ArePartlyPut, IsAt, taken_back, MayWait}
+use Rattle.rv_store.specs.internal.Surveys.{IsSurvey}
+use Rattle.rv_store.proofs.Columns.{set-back}
+use Rattle.rv_program.specs.lemmas.Programs.{length-for_lines, length-program}
+use Rattle.rv_store.proofs.StillLaws.{shape-still, locals-still, highs-still, paired_highs-still}
+use Rattle.rv_store.proofs.StillTexts.{set-set_or_push, end-set_or_push, row-still, symbols-still}
+
+-- whatever the error
+pub in_any_error : {X E Q : Type 0} (r : Result X E) → Q → OnErr r Q
+in_any_error (Ok x) q = tt
+in_any_error (Err e) q = q
+
+-- Rows with something in place, and without it
+
+set-same : {A : Type 0} (xs : List A) (i : ℕ) (a : A) → a ≡ get_or xs i a → set xs i a ≡ xs
+set-same [] i a h = refl
+set-same (x ∷ xs) zero a h = ap (λ y. y ∷ xs) h
+set-same (x ∷ xs) (suc i) a h = ap (λ ys. x ∷ ys) (set-same xs i a h)
+
+pub back : {A : Type 0} (old new : List A) (place : ℕ) (former : Option A) → MayBePut place old new → IsAt old place former → taken_back new place former ≡ old
+back old new place None (inl same) end = ap (take place) same ∙ take_all place old (omega (arith, end))
+back old new place None (inr put) end =
+    ap (take place) (put.1 ∙ sym (end-set_or_push old place put.0 (sym end))) ∙ ap (λ n. take n (old ++ put.0 ∷ [])) (sym end) ∙ take-append_seam old (put.0 ∷ [])
+back old new place (Some a) (inl same) stood = ap (λ row. set row place a) same ∙ set-same old place a stood.1
+back old new place (Some a) (inr put) stood =
+    ap (λ row. set row place a) (put.1 ∙ sym (set-set_or_push old place put.0 stood.0)) ∙ set-back old place put.0 a stood.1
+
+pub partly : (place : ℕ) (line : List ℕ) (given : Still) (old new : Survey) → AreLinesPut place line given old new → ArePartlyPut place old new
+partly place line given old new put = record {
+  lines = inr (line, put.lines);
+  shapes = inr (given.shape, put.shapes);
+  places = inr (given.place, put.places);
+  locals = put.locals;
+  highs = put.highs;
+  paired_highs = put.paired_highs;
+}
+
+pub partly-none : (place : ℕ) (s : Survey) → ArePartlyPut place s s
+partly-none place s = record { lines = inl refl; shapes = inl refl; places = inl refl; locals = refl; highs = refl; paired_highs = refl }
+
+-- where the rows by lines change no more
+pub partly-still : (place : ℕ) (old middle new : Survey) → ArePartlyPut place old middle → AreSameLines middle new → ArePartlyPut place old new
+partly-still place old middle new put same = record {
+  lines = subst (MayBePut place old.lines.items) (sym same.lines) put.lines;
+  shapes = subst (MayBePut place old.shapes.items) (sym same.shapes) put.shapes;
+  places = subst (MayBePut place old.places.items) (sym same.places) put.places;
+  locals = same.locals ∙ put.locals;
+  highs = same.highs ∙ put.highs;
+  paired_highs = same.paired_highs ∙ put.paired_highs;
+}
+
+limited-put : (ms : List Measured) (i : ℕ) (m : Measured) → AreLimited ms → IsLimited m → AreLimited (set_or_push ms i m)
+limited-put [] i m are is = (is, tt)
+limited-put (n ∷ ms) zero m are is = (is, are.1)
+limited-put (n ∷ ms) (suc i) m are is = (are.0, limited-put ms i m are.1 is)
+
+-- The rows of a text
+
+module _ (base : ℕ) (lines : List (List ℕ)) (names : List (List ℕ)) (s : Survey) (are : IsSurvey base (program_of lines) names s) where
+  pub count-shapes : length s.shapes.items ≡ length lines
+  count-shapes = ap length are.shapes ∙ length-for_lines (shape_at (program_of lines)) (length (program_of lines)) ∙ length-program lines
+
+  pub count-places : length s.places.items ≡ length lines
+  count-places = ap length are.places ∙ length-for_lines (place_at base (program_of lines)) (length (program_of lines)) ∙ length-program lines
+
+-- rows by lines that are the old ones, and rows by names that hold the same
+pub survey-back : (base : ℕ) (lines names names' : List (List ℕ)) (old new : Survey) → IsSurvey base (program_of lines) names old → AreSameLines old new → AreSymbols base (program_of lines) (length lines) names' new → IsSurvey base (program_of lines) names' new
+survey-back base lines names names' old new are same symbols =
+    let count : length lines ≡ length (program_of lines) = sym (length-program lines) in
+    let constants = subst (λ k. AreConstants (program_of lines) k names' new.constants.items) count symbols.constants in
+    let equ_values = subst (λ k. AreEquValues base (program_of lines) k names' new.equ_values.items) count symbols.equ_values in
+    record {
+      definitions = symbols.definitions;
+      constants = constants;
+      shapes = same.shapes ∙ are.shapes;
+      limited = subst AreLimited (sym same.shapes) are.limited;
+      ends = same.ends ∙ are.ends ∙ ap ends_of (sym same.shapes);
+      places = same.places ∙ are.places;
+      locals = λ number. (λ j. get_or (same.locals j) number []) ∙ are.locals number;
+      equ_values = equ_values;
+      highs = subst (AreHighs base (program_of lines)) (sym same.highs) are.highs;
+      paired_highs = subst (ArePairedHighs base (program_of lines)) (sym same.paired_highs) are.paired_highs;
+    }
+
+-- what a survey holds by names
+pub symbols-of : (base : ℕ) (lines names : List (List ℕ)) (s : Survey) → IsSurvey base (program_of lines) names s → AreSymbols base (program_of lines) (length lines) names s
+symbols-of base lines names s are =
+    let count = length-program lines in
+    record {
+      definitions = are.definitions;
+      constants = subst (λ k. AreConstants (program_of lines) k names s.constants.items) count are.constants;
+      equ_values = subst (λ k. AreEquValues base (program_of lines) k names s.equ_values.items) count are.equ_values;
+    }
+
+-- the same rows
+pub symbols-same : (base : ℕ) (program : Program) (k : ℕ) (names : List (List ℕ)) (old new : Survey) → AreSameSymbols old new → AreSymbols base program k names old → AreSymbols base program k names new
+symbols-same base program k names old new same are = record {
+  definitions = subst (λ v. AreDefinitions program names v.items) (sym same.definitions) are.definitions;
+  constants = subst (λ v. AreConstants program k names v.items) (sym same.constants) are.constants;
+  equ_values = subst (λ v. AreEquValues base program k names v.items) (sym same.equ_values) are.equ_values;
+}
+
+-- the rows by lines are those of a text
+record AreLineRows (base : ℕ) (program : Program) (s : Survey) : Type 0 where
+  pub shapes : AreShapes program s.shapes.items
+  pub limited : AreLimited s.shapes.items
+  pub ends : s.ends ≡ ends_of s.shapes.items
+  pub places : ArePlaces base program s.places.items
+
+module _ {base : ℕ} {p q : Program} {k : ℕ} {touched : List ℕ → Bool} (is : IsStill base p q k touched) where
+  -- the rows of local labels and high halves stay
+  survey-still : (names names' : List (List ℕ)) (old new : Survey) → IsSurvey base p names old → AreSymbols base q (length q) names' new → AreLineRows base q new
+      → new.locals ≡ old.locals → new.highs.items ≡ old.highs.items → new.paired_highs.items ≡ old.paired_highs.items → IsSurvey base q names' new
+  survey-still names names' old new are symbols rows locals highs paired_highs = record {
+    definitions = symbols.definitions;
+    constants = symbols.constants;
+    shapes = rows.shapes;
+    limited = rows.limited;
+    ends = rows.ends;
+    places = rows.places;
+    locals = λ number. (λ j. get_or (locals j) number []) ∙ are.locals number ∙ sym (locals-still is number);
+    equ_values = symbols.equ_values;
+    highs = subst (AreHighs base q) (sym highs) (highs-still is old.highs.items are.highs);
+    paired_highs = subst (ArePairedHighs base q) (sym paired_highs) (paired_highs-still is old.paired_highs.items are.paired_highs);
+  }
+
+module _ {base : ℕ} {lines : List (List ℕ)} {k : ℕ} {line : List ℕ} {given : Still} (is : IsStillLine base lines k line given) where
+  module _ (names : List (List ℕ)) (old new : Survey) (are : IsSurvey base (program_of lines) names old) (put : AreLinesPut (k - 1) line given old new) where
+    shapes-put : AreShapes (program_of (set_or_push lines (k - 1) line)) new.shapes.items
+    shapes-put =
+        put.shapes ∙ (λ j. set_or_push (are.shapes j) (k - 1) (is.shape j)) ∙ row-still is.still (shape_at (program_of lines)) (shape_at (program_of (set_or_push lines (k - 1) line))) (λ i other. sym (shape-still is.still i other))
+
+    places-put : ArePlaces base (program_of (set_or_push lines (k - 1) line)) new.places.items
+    places-put =
+        put.places ∙ (λ j. set_or_push (are.places j) (k - 1) (is.place j))
+        ∙ row-still is.still (place_at base (program_of lines)) (place_at base (program_of (set_or_push lines (k - 1) line))) (λ i other. sym (is.still.places i other.first other.last))
+
+    module _ (last : List ℕ) (named : last ≡ line) (few : length (set_or_push lines (k - 1) line) ≤ 16384) (same : AreSameSymbols old new) (listed : old.lines.items ≡ lines) where
+      now : new.lines.items ≡ set_or_push lines (k - 1) line
+      now = put.lines ∙ ap (λ ls. set_or_push ls (k - 1) line) listed
+
+      -- the rows by names wait for a line that defines a name
+      pub unsettled : given.defines ≡ true → IsUnsettled base lines names last new
+      unsettled defines =
+          let end = is.last defines in
+          subst (λ l. IsUnsettled base lines names l new) (sym named) (record {
+            more = now ∙ sym (end-set_or_push lines (k - 1) line (let number = end.0 in omega (arith, number)));
+            few = rw now few;
+            last = end.1;
+            symbols = symbols-same base (program_of lines) (length lines) names old new same (symbols-of base lines names old are);
+            places = subst (λ ls. ArePlaces base (program_of ls) new.places.items) (sym now) places-put;
+            locals = subst (λ ls. AreLocals (program_of ls) (length (program_of ls)) new.locals) (sym now) (λ number. (λ j. get_or (put.locals j) number []) ∙ are.locals number ∙ sym (locals-still is.still number));
+          })
+
+      pub may-wait : MayWait base names last given.defines new
+      may-wait = record {
+        whole = λ none.
+            let kept = symbols-same base (program_of lines) (length (program_of lines)) names old new same (record { definitions = are.definitions; constants = are.constants; equ_values = are.equ_values }) in
+            subst (λ ls. AreSymbols base (program_of ls) (length ls) names new) (sym now)
+            (subst (λ n. AreSymbols base (program_of (set_or_push lines (k - 1) line)) n names new) (length-program (set_or_push lines (k - 1) line)) (symbols-still is.still names new (is.nothing none) kept));
+        waits = λ defines. (lines, unsettled defines);
+      }
+
+    -- and then have it
+    pub survey-put : (names' : List (List ℕ)) (settled : Survey) → AreSameLines new settled → AreSymbols base (program_of (set_or_push lines (k - 1) line)) (length (set_or_push lines (k - 1) line)) names' settled → IsSurvey base (program_of (set_or_push lines (k - 1) line)) names' settled
+    survey-put names' settled same symbols =
+        let shapes = same.shapes ∙ shapes-put in
+        survey-still is.still names names' old settled are (subst (λ m. AreSymbols base (program_of (set_or_push lines (k - 1) line)) m names' settled) (sym (length-program (set_or_push lines (k - 1) line))) symbols)
+        (record {
+          shapes = shapes;
+          limited = subst AreLimited (sym (same.shapes ∙ put.shapes)) (limited-put old.shapes.items (k - 1) given.shape are.limited is.limited);
+          ends = same.ends ∙ put.ends ∙ is.ends ∙ ap ends_of (sym shapes);
+          places = same.places ∙ places-put;
+        })
+        (same.locals ∙ put.locals) (same.highs ∙ put.highs) (same.paired_highs ∙ put.paired_highs)

@@ -1,0 +1,179 @@
+//! Lines with which no other line has to do: in the place of another one or behind the last one, only that line is made.
+
+ghost use Rattle.std.specs.Prelude.{◌≡◌, ◌≤◌, ◌+◌, ◌-◌, ◌*◌, ◌^◌, [], ◌∷◌, length, IfOk, IfErr, OnOk, OnErr};
+ghost use Rattle.rv_stmt.specs.Statement.{statement_of};
+ghost use Rattle.rv_program.specs.declared.limits.TheConstants.{MAX_LINES};
+ghost use Rattle.rv_store.specs.internal.Appended.{AreSameLines, AreSameSymbols, AreSymbols};
+ghost use Rattle.rv_program.specs.internal.Items.{IsItemPut};
+ghost use Rattle.rv_program.specs.Program.{program_of};
+ghost use Rattle.rv_program.specs.internal.Still.{set_or_push};
+ghost use Rattle.rv_store.specs.internal.StillLines.{IsStillLine, AreLinesPut, ArePartlyPut, IsFormerLine, taken_back};
+ghost use Rattle.rv_store.specs.internal.Surveys.{IsSurvey};
+ghost use Rattle.rv_program.specs.internal.Work.{equ_operands, value_operands};
+
+use crate::changed::Changed;
+use crate::ends::Ends;
+use crate::line_items::item_put;
+use crate::survey::Survey;
+use rv_layout::Measured;
+use rv_list::LinePlace;
+use rv_program::{EditError, Item, Line, NameTable};
+use rv_text::Count;
+use rv_tree::SumTree;
+use std::alloc::{AllocError, Global};
+
+/// What a line is, with which no other line has to do.
+#[derive(Clone, Copy)]
+pub struct Still {
+    /// Its shape.
+    pub shape: Measured,
+    /// Where the sections end, behind all lines.
+    pub ends: Ends,
+    /// Where it lies.
+    pub place: LinePlace,
+    /// It is behind the text, and defines a name that the text does not.
+    pub defines: bool,
+}
+
+/// What the rows by lines hold of a line, or nothing where they end before it.
+#[derive(Drop)]
+pub struct FormerLine {
+    line: Option<Line>,
+    shape: Option<Measured>,
+    place: Option<LinePlace>,
+    ends: Ends,
+}
+
+// Puts a value at a place of a row, or behind its end.
+fn set_or_push<T: Drop>(row: &mut Vec<T>, place: usize, value: T) -> Result<(), AllocError>
+    requires { place ≤ length row.old.items }
+    ensures ok { OnOk result (row.new.items ≡ set_or_push row.old.items place value) }
+    ensures err { OnErr result (row.new.items ≡ row.old.items) }
+{
+    if place < row.len() {
+        row[place] = value;
+        return Ok(());
+    }
+    row.push(value)?;
+    Ok(())
+}
+
+// Takes it back, where this stood there.
+fn put_back<T: Drop>(row: &mut Vec<T>, place: usize, former: Option<T>)
+    ensures { row.new.items ≡ taken_back row.old.items place former }
+{
+    match former {
+        Some(value) if place < row.len() => row[place] = value,
+        Some(_) => {}
+        None => row.truncate(place),
+    }
+}
+
+impl Survey {
+    /// What the rows by lines hold of the line at this place.
+    pub fn former(&self, place: usize) -> Result<FormerLine, AllocError>
+        requires lines { place ≤ length self.now.lines.items }
+        requires shapes { length self.now.shapes.items ≡ length self.now.lines.items }
+        requires places { length self.now.places.items ≡ length self.now.lines.items }
+        ensures { IfOk result (IsFormerLine place self.now) }
+    {
+        let ends = self.ends;
+        if place >= self.lines.len() {
+            return Ok(FormerLine {
+                line: None,
+                shape: None,
+                place: None,
+                ends,
+            });
+        }
+        Ok(FormerLine {
+            line: Some(self.lines[place].share()?),
+            shape: Some(self.shapes[place]),
+            place: Some(self.places[place]),
+            ends,
+        })
+    }
+
+    // Puts a line in the rows by lines, but in those of local labels and high halves, of which it has none. Where there is no memory
+    // for that, some of them may have it.
+    fn put_line(&mut self, place: usize, line: Line, still: &Still) -> Result<(), AllocError>
+        requires lines { place ≤ length self.old.lines.items }
+        requires shapes { length self.old.shapes.items ≡ length self.old.lines.items }
+        requires places { length self.old.places.items ≡ length self.old.lines.items }
+        ensures ok { OnOk result (AreLinesPut place line still.now self.old self.new) }
+        ensures err { OnErr result (ArePartlyPut place self.old self.new) }
+        ensures symbols { AreSameSymbols self.old self.new }
+    {
+        set_or_push(&mut self.lines, place, line)?;
+        set_or_push(&mut self.shapes, place, still.shape)?;
+        set_or_push(&mut self.places, place, still.place)?;
+        self.ends = still.ends;
+        Ok(())
+    }
+
+    /// Takes a line back from the rows by lines that may have it in place, where this stood there.
+    pub fn take_back(&mut self, place: usize, former: FormerLine)
+        ensures lines { (old : Survey) → ArePartlyPut place old self.old → IsFormerLine place old former → AreSameLines old self.new }
+        ensures symbols { AreSameSymbols self.old self.new }
+    {
+        put_back(&mut self.lines, place, former.line);
+        put_back(&mut self.shapes, place, former.shape);
+        put_back(&mut self.places, place, former.place);
+        self.ends = former.ends;
+    }
+}
+
+/// Puts a line in the place of line `k` of a text, or behind the last one, and makes its item, by the survey of the text. The report
+/// is that this line is new. Names that it defines get numbers, also where there is no memory for the rest.
+///
+/// The counter's number of expressions computed rises by at most the operands of the line, two for an `.equ`, and its number of
+/// lines encoded by at most one, whatever the outcome.
+///
+/// # Errors
+///
+/// `Memory` if there was no memory for what is kept; then some of the rows by lines may have the line, and the rows by names hold
+/// what they held.
+pub fn put_still<C: Count>(
+    alloc: Global,
+    base: u32,
+    names: &mut NameTable,
+    survey: &mut Survey,
+    items: &SumTree<Item>,
+    k: u32,
+    line: Line,
+    still: &Still,
+    counter: &mut C,
+) -> Result<(SumTree<Item>, Changed), EditError>
+    requires survey { IsSurvey base (program_of survey.old.lines.items) names.old survey.old }
+    requires still { IsStillLine base survey.old.lines.items k line still.now }
+    requires few { length (set_or_push survey.old.lines.items (k - 1) line) ≤ MAX_LINES }
+    requires count { length items.now.items ≡ length survey.old.lines.items }
+    requires valued { C.valued_count counter.old ≤ 2 ^ 63 + 1 }
+    requires encoded { C.encoded_count counter.old ≤ 2 ^ 63 }
+    ensures lines { OnOk result (survey.new.lines.items ≡ set_or_push survey.old.lines.items (k - 1) line) }
+    ensures survey { OnOk result (IsSurvey base (program_of (set_or_push survey.old.lines.items (k - 1) line)) names.new survey.new) }
+    ensures err { OnErr result (ArePartlyPut (k - 1) survey.old survey.new) }
+    ensures symbols { OnErr result (AreSymbols base (program_of survey.old.lines.items) (length survey.old.lines.items) names.new survey.new) }
+    ensures items { IfOk result (λ r. IsItemPut base (set_or_push survey.old.lines.items (k - 1) line) k items.now.items r.0.items) }
+    ensures changed { IfOk result (λ r. r.1.lines ≡ k ∷ []) }
+    ensures memory { IfErr result (λ e. e ≡ EditError.Memory) }
+    ensures parsed { C.parsed_count counter.new ≡ C.parsed_count counter.old }
+    ensures valued_least { C.valued_count counter.old ≤ C.valued_count counter.new }
+    ensures valued_most { C.valued_count counter.new ≤ C.valued_count counter.old + 2 * equ_operands (statement_of line).body + value_operands (statement_of line).body }
+    ensures valued_few { C.valued_count counter.new ≤ C.valued_count counter.old + 1002 }
+    ensures encoded_least { C.encoded_count counter.old ≤ C.encoded_count counter.new }
+    ensures encoded_most { C.encoded_count counter.new ≤ C.encoded_count counter.old + 1 }
+{
+    let mut numbers = Vec::new(alloc);
+    numbers.push(k)?;
+    let new = line.share()?;
+    survey.put_line(k as usize - 1, line, still)?;
+    survey.define_last(alloc, base, names, &new, still.defines, counter)?;
+    match item_put(alloc, base, names, survey, items, k, counter) {
+        Ok(items) => Ok((items, Changed::of(numbers))),
+        Err(e) => {
+            survey.forget_last(names, &new, still.defines);
+            Err(e)
+        }
+    }
+}
