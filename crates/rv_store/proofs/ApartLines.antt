@@ -1,7 +1,8 @@
 -- Lines with which no line of a text has to do: what they add, and who uses it.
-use Rattle.std.proofs.Common.{◌≡◌, ℕ, zero, suc, ◌+◌, ◌-◌, ◌<◌, ◌⊎◌, inl, inr, Bool, true, false, not, ◌&&◌, ◌||◌, List, [], ◌∷◌, length, get_or, bytes_eq, None, if◌then◌else◌, true≢false, arith, ap, sym, ◌∙◌, refl}
+use Rattle.std.proofs.Common.{◌≡◌, ℕ, zero, suc, ◌+◌, ◌-◌, ◌<◌, ◌⊎◌, inl, inr, Bool, true, false, not, ◌&&◌, ◌||◌, List, [], ◌∷◌, ◌++◌, length, get_or, bytes_eq, None, if◌then◌else◌, true≢false, arith, ap, sym, subst, ◌∙◌, refl}
 use Rattle.std.specs.List.{list_any}
-use Rattle.std.proofs.lemmas.Bool.{or_parts}
+use Rattle.std.proofs.Math.Path.{fun_ext}
+use Rattle.std.proofs.lemmas.Bool.{or_parts, lt-ltb, le-ltb}
 use Rattle.std.proofs.lemmas.List.{get_or-map}
 use Rattle.std.proofs.lemmas.Slice.Eq.{bytes_eq-Decides}
 use Rattle.rv_stmt.specs.declared.statement.Stmt.{Stmt}
@@ -11,14 +12,18 @@ use Rattle.rv_list.specs.declared.view.DefinitionPlace.{DefinitionPlace}
 use Rattle.rv_list.specs.declared.view.DefinitionPlace.TheVariants.{Nowhere, Label as ByLabel, Equ}
 use Rattle.rv_program.specs.declared.name_set.Mark.{Mark}
 use Rattle.rv_program.specs.declared.name_set.Mark.TheVariants.{Unknown, Same, Moved, Changed}
-use Rattle.rv_store.specs.internal.Appended.{adds, adds_by_rows, IsApart}
-use Rattle.rv_program.specs.Definitions.{defines_symbol, place_among_labels, place_in_body, or_place, place_in_statement, is_defined}
+use Rattle.rv_store.specs.internal.Appended.{adds, is_earlier, TellEarlier, adds_by_rows, IsApart}
+use Rattle.rv_program.specs.internal.Defining.{IsOn}
+use Rattle.rv_program.specs.Definitions.{defines_symbol, place_among_labels, place_in_body, or_place, place_in_statement, definition_of, is_defined}
 use Rattle.rv_program.specs.internal.Locals.{has_local_labels}
 use Rattle.rv_program.specs.internal.NameSets.{IsBelow, differs}
 use Rattle.rv_program.specs.Pairs.{pcrel_high_of}
 use Rattle.rv_program.specs.Program.{program_of, no_statement, body_at}
-use Rattle.rv_program.specs.internal.Rows.{AreDefinitions}
+use Rattle.rv_program.specs.internal.Rows.{in_row, AreDefinitions}
 use Rattle.rv_program.specs.Uses.{names_used}
+use Rattle.rv_store.proofs.LongerTexts.{definitions-longer}
+use Rattle.rv_program.specs.lemmas.DefinitionLaws.{IsWithin, statement-within, definition-within}
+use Rattle.rv_program.specs.lemmas.DefinitionParts.{within-on}
 use Rattle.rv_program.specs.lemmas.LocalLines.{none-among}
 use Rattle.rv_program.specs.lemmas.Programs.{length-program}
 
@@ -101,8 +106,47 @@ module _ (lines : List (List ℕ)) (s : Stmt) (local : has_local_labels s.labels
 
 -- What a line adds, by the rows of the text
 
-module _ (lines names : List (List ℕ)) (row : List DefinitionPlace) (s : Stmt) (number : ℕ) (are : AreDefinitions (program_of lines) names row) (behind : number ≡ suc (length lines)) where
+module _ (lines names : List (List ℕ)) (row : List DefinitionPlace) (s : Stmt) (number : ℕ) (tell : TellEarlier lines names row) (behind : number ≡ suc (length lines)) where
   pub adds-same : adds_by_rows names row number s ≡ adds (program_of lines) s
   adds-same =
       let place : number ≡ suc (length (program_of lines)) = behind ∙ ap suc (sym (length-program lines)) in
-      λ i name. not (is_defined (are.each i name)) && is_defined (place_in_statement (place i) s name)
+      fun_ext (λ name.
+      (λ i. not (is_earlier (behind i) (in_row names row Nowhere name)) && is_defined (place_in_statement (place i) s name))
+      ∙ ap (λ b. not b && is_defined (place_in_statement (suc (length (program_of lines))) s name)) (tell name))
+
+-- Rows that say which names a text defines
+
+earlier-within : (n : ℕ) (place : DefinitionPlace) → IsWithin 1 (1 + n) place → is_earlier (suc n) place ≡ is_defined place
+earlier-within n Nowhere within = refl
+earlier-within n (ByLabel l index) within = lt-ltb l (suc n) (omega (arith, within.1))
+earlier-within n (Equ l) within = lt-ltb l (suc n) (omega (arith, within.1))
+
+not_earlier-on : (n : ℕ) (place : DefinitionPlace) → IsOn (suc n) place → is_earlier (suc n) place ≡ false
+not_earlier-on n Nowhere on = refl
+not_earlier-on n (ByLabel l index) on = le-ltb l (suc n) (omega (arith, on))
+not_earlier-on n (Equ l) on = le-ltb l (suc n) (omega (arith, on))
+
+earlier-first : (n : ℕ) (place here : DefinitionPlace) → IsWithin 1 (1 + n) place → IsOn (suc n) here → is_earlier (suc n) (or_place place here) ≡ is_defined place
+earlier-first n Nowhere here within on = not_earlier-on n here on
+earlier-first n (ByLabel l index) here within on = earlier-within n (ByLabel l index) within
+earlier-first n (Equ l) here within on = earlier-within n (Equ l) within
+
+module _ (lines names : List (List ℕ)) (row : List DefinitionPlace) where
+  within-lines : (name : List ℕ) → IsWithin 1 (1 + length lines) (definition_of (program_of lines) name)
+  within-lines name =
+      subst (λ n. IsWithin 1 (1 + n) (definition_of (program_of lines) name)) (length-program lines) (definition-within (program_of lines) name)
+
+  -- its own
+  pub tell-text : AreDefinitions (program_of lines) names row → TellEarlier lines names row
+  tell-text are name =
+      ap (λ f. is_earlier (suc (length lines)) (f name)) are.each ∙ earlier-within (length lines) (definition_of (program_of lines) name) (within-lines name)
+
+  -- that of the text with one more line
+  pub tell-longer : (line : List ℕ) → AreDefinitions (program_of (lines ++ line ∷ [])) names row → TellEarlier lines names row
+  tell-longer line are name =
+      let next : length lines + 1 ≡ suc (length lines) = omega arith in
+      let s = statement_of line in
+      ap (λ f. is_earlier (suc (length lines)) (f name)) (are.each ∙ sym (definitions-longer lines line))
+      ∙ ap (λ k. is_earlier (suc (length lines)) (or_place (definition_of (program_of lines) name) (place_in_statement k s name))) next
+      ∙ earlier-first (length lines) (definition_of (program_of lines) name) (place_in_statement (suc (length lines)) s name) (within-lines name)
+      (within-on (suc (length lines)) (place_in_statement (suc (length lines)) s name) (statement-within (suc (length lines)) s name))

@@ -18,6 +18,7 @@ pub mod ImageExamples
 pub mod KeptConstants
 pub mod KeptRows
 pub mod LastDefinitions
+pub mod LastLines
 pub mod LongerPrograms
 pub mod LongerTexts
 pub mod MovedPlaces

@@ -1,9 +1,9 @@
 -- Where a line is new and no other one has to do with it, all other lines stay as they are.
-use Rattle.std.proofs.Common.{◌≡◌, ℕ, zero, suc, ◌+◌, ◌-◌, ◌<◌, ◌≤◌, ◌⊎◌, inl, inr, nat_le, Bool, true, false, ◌==◌, not, ◌&&◌, List, [], ◌∷◌, ◌++◌, length, get_or, Option, Some, None, Err, Ok, ok_or, pos, if◌then◌else◌, append-nil, arith, ap, sym, ◌∙◌, refl}
+use Rattle.std.proofs.Common.{◌≡◌, ℕ, zero, suc, ◌+◌, ◌-◌, ◌<◌, ◌≤◌, ◌⊎◌, inl, inr, nat_le, Bool, true, false, ◌==◌, not, ◌&&◌, List, [], ◌∷◌, ◌++◌, length, take, get_or, Option, Some, None, Err, Ok, ok_or, pos, if◌then◌else◌, append-nil, arith, ap, sym, ◌∙◌, refl}
 use Rattle.std.specs.List.{list_any}
 use Rattle.std.proofs.Math.Path.{fun_ext}
 use Rattle.std.proofs.lemmas.Bool.{cases_lt, le-leb, ne_eqb, or_parts}
-use Rattle.std.proofs.lemmas.List.{get_or_past}
+use Rattle.std.proofs.lemmas.List.{get_or_past, get_or-take, length-take}
 use Rattle.rv_expr.specs.declared.faults.ValueFault.TheVariants.{NoPartner, Undefined, LaterEqu}
 use Rattle.rv_expr.specs.declared.tree.Direction.{Direction}
 use Rattle.rv_expr.specs.declared.tree.Direction.TheVariants.{Back, Forward}
@@ -119,6 +119,12 @@ holds-still high high' n m row up same none are = record {
     at k below (inl earlier) = are.each k earlier ∙ sym (same (suc k) (omega arith) (omega (arith, earlier)))
     at k below (inr past) =
         get_or_past row k (Err NoPartner) (omega (arith, past, are.within)) ∙ sym (none (suc k) (omega (arith, past)) (omega (arith, below)))
+
+holds-back : (high high' : ℕ → Entry) (n m : ℕ) (row : List Entry) → n ≤ m → ((i : ℕ) → 1 ≤ i → i ≤ n → high' i ≡ high i) → HoldHighs high' m row → HoldHighs high n (take n row)
+holds-back high high' n m row up same are = record {
+  each = λ k below. get_or-take n row k (Err NoPartner) below ∙ are.each k (omega (arith, below, up)) ∙ same (suc k) (omega arith) (omega (arith, below));
+  within = omega (arith, length-take n row);
+}
 
 -- The two texts
 
@@ -283,6 +289,9 @@ module _ {base : ℕ} {p q : Program} {k : ℕ} {touched : List ℕ → Bool} (i
   pub highs-still : (row : List Entry) → HoldHighs (high_at base p) (length p) row → HoldHighs (high_at base q) (length q) row
   highs-still row = holds-still (high_at base p) (high_at base q) (length p) (length q) row is.longer high-still high-behind
 
+  pub highs-back : (row : List Entry) → HoldHighs (high_at base q) (length q) row → HoldHighs (high_at base p) (length p) (take (length p) row)
+  highs-back row = holds-back (high_at base p) (high_at base q) (length p) (length q) row is.longer high-still
+
   has_bytes-still : (section i : ℕ) → 1 ≤ i → i ≤ length p → has_bytes_in q section i ≡ has_bytes_in p section i
   has_bytes-still section i first last =
       let there = section-still i first last in
@@ -322,6 +331,9 @@ module _ {base : ℕ} {p q : Program} {k : ℕ} {touched : List ℕ → Bool} (i
   pub paired_highs-still : (row : List Entry) → HoldHighs (paired_high_of base p) (length p) row → HoldHighs (paired_high_of base q) (length q) row
   paired_highs-still row =
       holds-still (paired_high_of base p) (paired_high_of base q) (length p) (length q) row is.longer paired_high-still paired_high-behind
+
+  pub paired_highs-back : (row : List Entry) → HoldHighs (paired_high_of base q) (length q) row → HoldHighs (paired_high_of base p) (length p) (take (length p) row)
+  paired_highs-back row = holds-back (paired_high_of base p) (paired_high_of base q) (length p) (length q) row is.longer paired_high-still
 
   pair-still : (i : ℕ) (label : LabelReference) → i ≤ length p → NoneIn (names_in (tree_of_label label)) → and_then (label_line q i label) (paired_high_of base q) ≡ and_then (label_line p i label) (paired_high_of base p)
   pair-still i label within none =

@@ -5,12 +5,11 @@ ghost use Rattle.std.specs.List.{list_any};
 ghost use Rattle.rv_stmt.specs.LentLabels.{name_lent};
 ghost use Rattle.rv_stmt.specs.Statement.{statement_of};
 ghost use Rattle.rv_program.specs.declared.limits.TheConstants.{MAX_LINES};
-ghost use Rattle.rv_store.specs.internal.Appended.{adds, adds_by_rows, IsApart};
+ghost use Rattle.rv_store.specs.internal.Appended.{adds, is_earlier, TellEarlier, IsApart};
 ghost use Rattle.rv_store.specs.internal.Apart.{added_by, AreMarked};
 ghost use Rattle.rv_program.specs.Definitions.{defines_symbol, place_in_body, is_defined};
 ghost use Rattle.rv_program.specs.internal.NameSets.{Has};
 ghost use Rattle.rv_program.specs.Program.{program_of};
-ghost use Rattle.rv_program.specs.internal.Rows.{AreDefinitions};
 ghost use Rattle.rv_program.specs.Uses.{names_used};
 
 use rv_list::DefinitionPlace;
@@ -20,6 +19,16 @@ use rv_program::{
 };
 use rv_stmt::{Body, LabelName, LabelSlice};
 use std::alloc::{AllocError, Global};
+
+// Whether a definition is on a line before this one.
+fn is_earlier(line: u32, place: DefinitionPlace) -> bool
+    ensures { result ≡ is_earlier line place }
+{
+    match place {
+        DefinitionPlace::Nowhere => false,
+        DefinitionPlace::Label(defining, _) | DefinitionPlace::Equ(defining) => defining < line,
+    }
+}
 
 // A line behind a text. The names that pass are those that it adds: it defines them, and the text does not.
 #[derive(Drop)]
@@ -37,7 +46,7 @@ impl NameTest for LineBehind<'_> {
 
     fn passes(&self, name: &[u8]) -> bool {
         let place = entry_of(self.names, self.definitions, DefinitionPlace::Nowhere, name);
-        !is_defined(place) && is_defined(place_on(self.line, self.number, name))
+        !is_earlier(self.number, place) && is_defined(place_on(self.line, self.number, name))
     }
 }
 
@@ -106,8 +115,9 @@ impl LineBehind<'_> {
     }
 }
 
-/// Whether a line at the end of a text defines a name that the text does not. `None` if another line may have to do with it: the text
-/// uses such a name, or the line has a local label, or is a high half, or there is no memory to find out.
+/// Whether a line behind a text defines a name that the text does not; `definitions` says where names are defined, with that line or
+/// without it. `None` if another line may have to do with it: the text uses such a name, or the line has a local label, or is a high half,
+/// or there is no memory to find out.
 pub fn adds_apart(
     alloc: Global,
     lines: &[Line],
@@ -115,7 +125,7 @@ pub fn adds_apart(
     definitions: &[DefinitionPlace],
     line: &Line,
 ) -> Option<bool>
-    requires definitions { AreDefinitions (program_of lines.now) names.now definitions.now }
+    requires definitions { TellEarlier lines.now names.now definitions.now }
     requires few { length lines.now ≤ MAX_LINES }
     ensures apart { IfSome result (λ _. IsApart (program_of lines.now) (statement_of line.now)) }
     ensures nothing { IfSome result (λ any. any ≡ false → (name : List ℕ) → adds (program_of lines.now) (statement_of line.now) name ≡ false) }

@@ -2,10 +2,11 @@
 
 ghost use Rattle.std.specs.Prelude.{◌≡◌, ◌≤◌, ◌^◌, []};
 ghost use Rattle.rv_layout.specs.Places.{size_at, IsLimited};
-ghost use Rattle.rv_store.specs.internal.Ends.{ends_of, next_offset, ends_after};
+ghost use Rattle.rv_store.specs.internal.Ends.{ends_of, next_offset, ends_after, ends_before};
 ghost use Rattle.rv_store.specs.internal.MovedPlaces.{ends_moved};
 
 use rv_layout::{Measured, SECTIONS, section_number};
+use rv_list::LinePlace;
 use rv_stmt::Sect;
 use std::array;
 
@@ -62,6 +63,19 @@ impl Ends {
         Ends {
             section: self.section,
             offsets: array::from_fn(|section| self.offsets[section].wrapping_add(by[section])),
+        }
+    }
+
+    /// Those before a line that lies there, where these are behind it.
+    pub fn before(&self, place: &LinePlace) -> Ends
+        ensures { result ≡ ends_before self.now place.now }
+    {
+        let mut offsets = self.offsets;
+        let number = section_number(place.section);
+        offsets[number] = offsets[number].saturating_sub(place.size);
+        Ends {
+            section: place.section,
+            offsets,
         }
     }
 

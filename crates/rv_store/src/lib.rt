@@ -11,6 +11,7 @@ mod ends;
 mod forgetting;
 mod kept_constants;
 mod last_definitions;
+mod last_line;
 mod line_items;
 mod new_shape;
 mod parted_shapes;

@@ -16,7 +16,7 @@ ghost use Rattle.rv_program.specs.Layout.{address_at};
 ghost use Rattle.rv_program.specs.internal.NewShapes.{IsNewShape, shape_operands};
 ghost use Rattle.rv_program.specs.Program.{program_of};
 ghost use Rattle.rv_program.specs.internal.Still.{IsPutEdit};
-ghost use Rattle.rv_store.specs.internal.StillLines.{IsStillLine};
+ghost use Rattle.rv_store.specs.internal.StillLines.{IsStillLine, IsLastLine};
 ghost use Rattle.rv_store.specs.Symbols.{symbol_of};
 ghost use Rattle.rv_program.specs.Text.{is_line, at_line, Insert, Delete, Replace, refusal_of, lines_after, text_after, Edits};
 
@@ -29,6 +29,7 @@ use crate::changed::Changed;
 use crate::column::{edit_lines, take_back};
 use crate::ending::apart_ending;
 use crate::forgetting::{Remembered, has_many_others};
+use crate::last_line::{LastLine, last_line};
 use crate::new_shape::new_shape;
 use crate::still::{Still, put_still};
 use crate::survey::Survey;
@@ -272,6 +273,34 @@ impl Store {
         }
     }
 
+    // What line `k` is, if it is the last one, and no other line has to do with it.
+    fn last_line(&self, k: u32) -> Option<LastLine>
+        ensures place { IfSome result (λ _. k ≡ length self.now.lines) }
+        ensures last { IfSome result (IsLastLine self.now.base self.now.lines) }
+    {
+        if k != self.items.len() {
+            return None;
+        }
+        last_line(self.alloc, self.base, &self.names, &self.survey)
+    }
+
+    // Takes the last line out, with which no other line has to do: nothing is made anew. Where there is no memory for that, the text
+    // stays.
+    fn shorten(&mut self, last: &LastLine) -> Result<Changed, EditError>
+        requires { IsLastLine self.old.base self.old.lines last.now }
+        ensures ok { OnOk result (self.new ≡ text_after self.old (Delete (length self.old.lines))) }
+        ensures err { OnErr result (self.new ≡ self.old) }
+        ensures changed { IfOk result (λ c. c.lines ≡ changed_lines self.old.base self.old.lines (Delete (length self.old.lines))) }
+        ensures memory { IfErr result (λ e. e ≡ EditError.Memory) }
+    {
+        let k = self.items.len();
+        let items = self.items.deleted(k)?;
+        let line = self.survey.lines[k as usize - 1].share()?;
+        self.survey.remove_last(&self.names, &line, last);
+        self.items = items;
+        Ok(Changed::of(Vec::new(self.alloc)))
+    }
+
     // The items of the text after an edit that is not refused: what was kept of each line, and nothing of the line that the
     // edit puts in.
     fn edited(&self, edit: &ReadEdit) -> Result<SumTree<Item>, EditError>
@@ -390,6 +419,18 @@ impl Store {
         self.assemble(edit, read, items, shape, counter)
     }
 
+    // Deletes the last line, with which no other line has to do. Where there is no memory for that, the text stays.
+    fn delete_last(&mut self, last: &LastLine) -> Result<Changed, EditError>
+        requires { IsLastLine self.old.base self.old.lines last.now }
+        ensures ok { OnOk result (self.new ≡ text_after self.old (Delete (length self.old.lines))) }
+        ensures err { OnErr result (self.new ≡ self.old) }
+        ensures changed { IfOk result (λ c. c.lines ≡ changed_lines self.old.base self.old.lines (Delete (length self.old.lines))) }
+        ensures memory { IfErr result (λ e. e ≡ EditError.Memory) }
+    {
+        self.forget_names();
+        self.shorten(last)
+    }
+
     // Makes an edit that is not refused, whose line was read. Where there is no memory for that, the text stays.
     fn make<C: Count>(
         &mut self,
@@ -417,7 +458,10 @@ impl Store {
                 Some(still) => self.put(edit, line.share()?, &still, counter),
                 None => self.rework(edit, read, shape, counter),
             },
-            ReadEdit::Delete(_) => self.rework(edit, read, shape, counter),
+            ReadEdit::Delete(k) => match self.last_line(*k) {
+                Some(last) => self.delete_last(&last),
+                None => self.rework(edit, read, shape, counter),
+            },
             ReadEdit::Replace(k, line) => match self.alike(*k, line, shape) {
                 Some(still) => self.put(edit, line.share()?, &still, counter),
                 None => self.rework(edit, read, shape, counter),

@@ -1,5 +1,5 @@
 -- A line at the end of a text. No other line has to do with it where none uses what it defines, and no section moves by it.
-use Rattle.std.specs.Prelude.{◌≡◌, ℕ, suc, ◌<◌, ◌≤◌, Bool, false, not, ◌&&◌, List, [], ◌∷◌, ◌++◌, length, None, Err}
+use Rattle.std.specs.Prelude.{◌≡◌, ℕ, suc, ◌<◌, ◌≤◌, Bool, false, not, ◌&&◌, nat_lt, List, [], ◌∷◌, ◌++◌, length, None, Err}
 use Rattle.std.specs.List.{list_any}
 use Rattle.rv_expr.specs.declared.faults.ValueFault.TheVariants.{LaterEqu}
 use Rattle.rv_stmt.specs.declared.statement.Stmt.{Stmt}
@@ -9,7 +9,7 @@ use Rattle.rv_layout.specs.Places.{section_base_of}
 use Rattle.rv_layout.specs.Sections.{sections}
 use Rattle.rv_layout.specs.Shapes.{shape_of}
 use Rattle.rv_list.specs.declared.view.DefinitionPlace.{DefinitionPlace}
-use Rattle.rv_list.specs.declared.view.DefinitionPlace.TheVariants.{Nowhere}
+use Rattle.rv_list.specs.declared.view.DefinitionPlace.TheVariants.{Nowhere, Label, Equ}
 use Rattle.rv_program.specs.declared.limits.TheConstants.{MAX_LINES}
 use Rattle.rv_store.specs.declared.survey.Survey.{Survey}
 use Rattle.rv_program.specs.Constants.{constant_through}
@@ -26,9 +26,20 @@ use Rattle.rv_program.specs.Uses.{names_used}
 abbrev pub adds : Program → Stmt → (name : List ℕ) → Bool
 adds program s name = not (is_defined (definition_of program name)) && is_defined (place_in_statement (suc (length program)) s name)
 
+-- a definition is on a line before this one
+abbrev pub is_earlier : (line : ℕ) → DefinitionPlace → Bool
+is_earlier line Nowhere = false
+is_earlier line (Label l index) = nat_lt l line
+is_earlier line (Equ l) = nat_lt l line
+
+-- a row says which names a text defines: its own row does, and that of the text with one more line
+abbrev pub TellEarlier : (lines names : List (List ℕ)) → List DefinitionPlace → Type 0
+TellEarlier lines names row =
+    (name : List ℕ) → is_earlier (suc (length lines)) (in_row names row Nowhere name) ≡ is_defined (definition_of (program_of lines) name)
+
 -- the same by rows that say where names are defined, and the number of its line
 abbrev pub adds_by_rows : (names : List (List ℕ)) → List DefinitionPlace → (line : ℕ) → Stmt → (name : List ℕ) → Bool
-adds_by_rows names row line s name = not (is_defined (in_row names row Nowhere name)) && is_defined (place_in_statement line s name)
+adds_by_rows names row line s name = not (is_earlier line (in_row names row Nowhere name)) && is_defined (place_in_statement line s name)
 
 -- a statement with which no line of a text has to do: the text uses no name that it adds, and it has no local label, and is
 -- no high half

@@ -1,5 +1,5 @@
 -- Where the sections end after some lines, line by line. (docs/LANGUAGE.md, Layout)
-use Rattle.std.specs.Prelude.{◌≡◌, ℕ, ◌+◌, ◌<◌, List, [], ◌∷◌, ◌++◌, length, map, set, slice_index}
+use Rattle.std.specs.Prelude.{◌≡◌, ℕ, ◌+◌, ◌-◌, ◌<◌, List, [], ◌∷◌, ◌++◌, length, map, set, slice_index}
 use Rattle.std.specs.List.{range_with_len}
 use Rattle.rv_stmt.specs.declared.section.Sect.TheVariants.{Text}
 use Rattle.rv_layout.specs.declared.measured.Measured.{Measured}
@@ -34,6 +34,13 @@ abbrev pub ends_after : Ends → Measured → Ends
 ends_after ends m = record {
   section = section_after ends.section m;
   offsets = set ends.offsets (section_number ends.section) (next_offset ends + size_at (next_offset ends) m);
+}
+
+-- before a line that lies there
+abbrev pub ends_before : Ends → LinePlace → Ends
+ends_before ends place = record {
+  section = place.section;
+  offsets = set ends.offsets (section_number place.section) (slice_index ends.offsets (section_number place.section) - place.size);
 }
 
 -- the ends where that of the next line's section stands apart

@@ -1,6 +1,7 @@
 -- A line with which no other line has to do, and the rows of a text that get it in place.
-use Rattle.std.specs.Prelude.{◌≡◌, ℕ, suc, ◌-◌, ◌<◌, ◌⊎◌, Bool, true, false, List, length, get_or, take, set, Option, Some, None}
+use Rattle.std.specs.Prelude.{◌≡◌, ℕ, suc, ◌+◌, ◌-◌, ◌<◌, ◌⊎◌, Bool, true, false, List, [], ◌∷◌, ◌++◌, length, get_or, take, set, Option, Some, None}
 use Rattle.rv_layout.specs.Places.{IsLimited}
+use Rattle.rv_store.specs.declared.last_line.LastLine.{LastLine}
 use Rattle.rv_store.specs.declared.still.FormerLine.{FormerLine}
 use Rattle.rv_store.specs.declared.still.Still.{Still}
 use Rattle.rv_store.specs.declared.survey.Survey.{Survey}
@@ -21,6 +22,16 @@ pub record IsStillLine (base : ℕ) (lines : List (List ℕ)) (k : ℕ) (line : 
   pub place : given.place ≡ place_at base (program_of (set_or_push lines (k - 1) line)) k
   pub nothing : given.defines ≡ false → (name : List ℕ) → touched name ≡ false
   pub last : given.defines ≡ true → (k ≡ suc (length lines)) × IsLast base lines line
+
+-- the last line of a text, if no other line has to do with it
+pub record IsLastLine (base : ℕ) (text : List (List ℕ)) (given : LastLine) : Type 0 where
+  pub lines : List (List ℕ)
+  pub line : List ℕ
+  pub there : Still
+  pub whole : text ≡ lines ++ line ∷ []
+  pub still : IsStillLine base lines (length lines + 1) line there
+  pub before : given.before ≡ ends_of (shapes_of (program_of lines))
+  pub defines : given.defines ≡ there.defines
 
 -- Rows by lines
 

@@ -1,13 +1,14 @@
-use Rattle.std.proofs.Common.{◌≡◌, ℕ, ◌<◌, false, List, [], ◌∷◌, ◌++◌, length, arith, subst}
+use Rattle.std.proofs.Common.{◌≡◌, ℕ, ◌<◌, false, List, [], ◌∷◌, ◌++◌, length, arith, sym, subst}
 use Rattle.rv_stmt.specs.Statement.{statement_of}
 use Rattle.rv_layout.specs.declared.measured.Measured.{Measured}
 use Rattle.rv_layout.specs.Places.{IsLimited, AreLimited}
 use Rattle.rv_store.specs.declared.ends.Ends.{Ends}
 use Rattle.rv_program.specs.declared.limits.TheConstants.{MAX_LINES}
-use Rattle.rv_store.specs.internal.Appended.{adds, IsApart}
+use Rattle.rv_store.specs.internal.Appended.{adds, TellEarlier, IsApart}
 use Rattle.rv_store.specs.internal.Ends.{ends_of, IsBehind}
 use Rattle.rv_program.specs.Program.{program_of}
 use Rattle.rv_program.specs.internal.Rows.{AreShapes}
+use Rattle.rv_store.proofs.ApartLines.{tell-text}
 use Rattle.rv_store.proofs.Endings.{ends-with, together-before, together-all, short-before, ending-line}
 use Rattle.rv_store.proofs.ShapeRows.{limited-push}
 use Rattle.rv_store.proofs.Surveys.{length_of_shapes}
@@ -27,6 +28,12 @@ pub advance-requires-clause-short : goal.advance-requires-clause-short
 advance-requires-clause-short c =
     let count = length_of_shapes c.args.survey.now.lines.items c.args.survey.now.shapes.items c.requires.shapes in
     short-before c.args.survey.now.shapes.items c.args.shape (omega (arith, count, c.requires.few)) (limited-push _ _ c.requires.limited c.requires.limited_shape) c.args.survey.now.ends c.requires.ends
+
+pub adds_apart-requires-clause-definitions : goal.adds_apart-requires-clause-definitions
+adds_apart-requires-clause-definitions c =
+    subst (TellEarlier c.deref.result.now c.args.names.now) (sym c.deref-2.ensures.value)
+    (subst (λ ls. TellEarlier ls c.args.names.now c.args.survey.now.definitions.items) (sym c.deref.ensures.value)
+    (tell-text c.args.survey.now.lines.items c.args.names.now c.args.survey.now.definitions.items c.requires.definitions))
 
 pub stay_sections-requires-clause-ends_before : goal.stay_sections-requires-clause-ends_before
 stay_sections-requires-clause-ends_before c =

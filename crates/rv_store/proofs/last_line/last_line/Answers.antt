@@ -1,0 +1,67 @@
+use Rattle.std.proofs.Common.{◌≡◌, ◌≤◌, ℕ, List, [], ◌∷◌, ◌++◌, length, arith, ap, sym, subst, ◌∙◌}
+use Rattle.rv_program.specs.Program.{program_of}
+use Rattle.rv_store.specs.declared.survey.Survey.{Survey}
+use Rattle.rv_store.specs.internal.Appended.{TellEarlier}
+use Rattle.rv_store.specs.internal.Ends.{ends_of}
+use Rattle.rv_store.specs.internal.Surveys.{IsSurvey}
+use Rattle.rv_store.proofs.ApartLines.{tell-longer}
+use Rattle.rv_store.proofs.Endings.{together-before, together-all}
+use Rattle.rv_store.proofs.LastLines.{shapes, shape, shapes-with, count-shapes, is-last_line, limited-with, few-without, ends-with, ends-first}
+use Rattle.rv_store.proofs.StillRows.{count-places}
+use Rattle.rv_store.proofs.last_line.last_line.Goals as goal
+
+-- the survey is that of the lines before the last one, and that one
+surveyed : (base : ℕ) (lines : List (List ℕ)) (line : List ℕ) (names : List (List ℕ)) (s : Survey) → s.lines.items ≡ lines ++ line ∷ [] → IsSurvey base (program_of s.lines.items) names s → IsSurvey base (program_of (lines ++ line ∷ [])) names s
+surveyed base lines line names s whole are = subst (λ ls. IsSurvey base (program_of ls) names s) whole are
+
+pub index-requires : goal.index-requires
+index-requires c =
+    let s = c.args.survey.now in
+    omega (arith, c.in_ok-line.ensures.cases.1, ap length c.deref.ensures.value, s.places.ok.0, count-places c.args.base s.lines.items c.args.names.now s c.requires.survey)
+
+pub stay_sections-requires-clause-ends_before : goal.stay_sections-requires-clause-ends_before
+stay_sections-requires-clause-ends_before c =
+    let s = c.args.survey.now in
+    let base = c.args.base in
+    let lines = c.in_ok-line.earlier.now in
+    let line = c.in_ok-line.line.now in
+    let whole : s.lines.items ≡ lines ++ line ∷ [] = sym c.deref.ensures.value ∙ c.in_ok-line.ensures.cases.0 in
+    let few : length (lines ++ line ∷ []) ≤ 16384 = omega (arith, c.requires.few, ap length whole) in
+    let are = surveyed base lines line c.args.names.now s whole c.requires.survey in
+    together-before (shapes base lines line) (shape base lines line) (omega (arith, few-without base lines line c.args.names.now s few are, count-shapes base lines line)) (limited-with base lines line c.args.names.now s few are)
+    c.before-before.result (ends-first base lines line c.args.names.now s few are c.index.result.now c.index.ensures c.before-before.result c.before-before.ensures)
+
+pub stay_sections-requires-clause-ends : goal.stay_sections-requires-clause-ends
+stay_sections-requires-clause-ends c =
+    let s = c.args.survey.now in
+    let base = c.args.base in
+    let lines = c.in_ok-line.earlier.now in
+    let line = c.in_ok-line.line.now in
+    let whole : s.lines.items ≡ lines ++ line ∷ [] = sym c.deref.ensures.value ∙ c.in_ok-line.ensures.cases.0 in
+    let few : length (lines ++ line ∷ []) ≤ 16384 = omega (arith, c.requires.few, ap length whole) in
+    let are = surveyed base lines line c.args.names.now s whole c.requires.survey in
+    together-all (shapes base lines line) (shape base lines line) (omega (arith, few-without base lines line c.args.names.now s few are, count-shapes base lines line)) (limited-with base lines line c.args.names.now s few are)
+    s.ends (ends-with base lines line c.args.names.now s few are ∙ ap ends_of (shapes-with base lines line))
+
+pub adds_apart-requires-clause-definitions : goal.adds_apart-requires-clause-definitions
+adds_apart-requires-clause-definitions c =
+    let s = c.args.survey.now in
+    let lines = c.in_ok-line.earlier.now in
+    let line = c.in_ok-line.line.now in
+    let whole : s.lines.items ≡ lines ++ line ∷ [] = sym c.deref.ensures.value ∙ c.in_ok-line.ensures.cases.0 in
+    subst (TellEarlier lines c.args.names.now) (sym c.deref-2.ensures.value)
+    (tell-longer lines c.args.names.now s.definitions.items line (surveyed c.args.base lines line c.args.names.now s whole c.requires.survey).definitions)
+
+pub returns : goal.returns
+returns c =
+    let s = c.args.survey.now in
+    let base = c.args.base in
+    let lines = c.in_ok-line.earlier.now in
+    let line = c.in_ok-line.line.now in
+    let whole : s.lines.items ≡ lines ++ line ∷ [] = sym c.deref.ensures.value ∙ c.in_ok-line.ensures.cases.0 in
+    let few : length (lines ++ line ∷ []) ≤ 16384 = omega (arith, c.requires.few, ap length whole) in
+    let are = surveyed base lines line c.args.names.now s whole c.requires.survey in
+    is-last_line base lines line (limited-with base lines line c.args.names.now s few are) (few-without base lines line c.args.names.now s few are) _ s.ends s.lines.items whole
+    (ends-with base lines line c.args.names.now s few are)
+    (ends-first base lines line c.args.names.now s few are c.index.result.now c.index.ensures c.before-before.result c.before-before.ensures)
+    (c.stay_sections.ensures c.if-not-stay_sections.false) c.in_ok-defines.ensures.apart c.in_ok-defines.ensures.nothing
