@@ -1,9 +1,9 @@
 -- What the changes of a message make of a text, and of its lines.
 -- (LSP 3.17, DidChangeTextDocument Notification)
-use Rattle.std.specs.Prelude.{ℕ, ◌+◌, nat_lt, List, [], ◌∷◌, ◌++◌, length, map, take, drop, max, if◌then◌else◌, Option, Some, None}
+use Rattle.std.specs.Prelude.{ℕ, ◌+◌, List, [], ◌∷◌, ◌++◌, take, drop, max, Option, Some, None}
 use Rattle.rv_doc.specs.declared.encoding.Encoding.{Encoding}
 use Rattle.rv_doc.specs.declared.position.Range.{Range}
-use Rattle.rv_doc.specs.Positions.{lines_of, offset}
+use Rattle.rv_doc.specs.Positions.{offset}
 
 -- a change: another text in the place of a range, or of the whole document where none is named
 pub record Change : Type 0 where
@@ -35,11 +35,3 @@ text_after_all encoding old (change ∷ changes) = text_after_all encoding (text
 -- a list with others in the place of some of its items
 abbrev pub spliced : {A : Type 0} → (old : List A) → (first count : ℕ) → (new : List A) → List A
 spliced old first count new = take first old ++ (new ++ drop (first + count) old)
-
--- a line as it is assembled: nothing of one that is too long
-abbrev pub assembled_line : (line : List ℕ) → List ℕ
-assembled_line line = if nat_lt 1000 (length line) then [] else line
-
--- the lines of a text that are assembled, as many as a text may have
-abbrev pub assembled_lines : (text : List ℕ) → List (List ℕ)
-assembled_lines text = map assembled_line (take 16384 (lines_of text))

@@ -1,3 +1,4 @@
 pub mod Positions
 pub mod Edits
 pub mod Borders
+pub mod LinesLeft

@@ -115,10 +115,6 @@ found_reports style source text symbols number line found is =
 pub as_many : {A : Type 0} (xs : List A) (n left : ℕ) → n ≡ min left (length xs) → take n xs ≡ take left xs
 as_many xs n left is = ap (λ c. take c xs) is ∙ take_min left xs
 
--- the first symbols, of no fewer
-pub first_of_more : {A : Type 0} (most n : ℕ) (all first symbols : List A) → take most all ≡ take most symbols → n ≡ min most (length all) → first ≡ take n all → first ≡ take most symbols
-first_of_more most n all first symbols same count is = is ∙ as_many all n most count ∙ same
-
 -- and so has a text
 pub all_counted : (style : Style) (source : Source) (text : Text) (symbols : List (List ℕ)) → length (all_reports style source text symbols) ≡ report_count text
 all_counted style source text symbols =

@@ -1,5 +1,5 @@
 -- The symbols of a text, each once, in the order of their definitions.
-use Rattle.std.specs.Prelude.{ℕ, ℤ, pos, ◌+◌, List, [], ◌∷◌, ◌++◌, Option, Some, None, if◌then◌else◌}
+use Rattle.std.specs.Prelude.{ℕ, ℤ, pos, ◌+◌, ◌/◌, max, List, [], ◌∷◌, ◌++◌, Option, Some, None, if◌then◌else◌}
 use Rattle.rv_stmt.specs.declared.statement.Body.{Body}
 use Rattle.rv_stmt.specs.declared.statement.Body.TheVariants.{Equ}
 use Rattle.rv_stmt.specs.LabelNames.{Label, LabelName}
@@ -7,6 +7,7 @@ use Rattle.rv_stmt.specs.LabelNames as labels
 use Rattle.rv_layout.specs.Sections.{section_number}
 use Rattle.rv_list.specs.declared.view.LinePlace.{LinePlace}
 use Rattle.rv_list.specs.Shown.{Shown, ShownLine, from_lines, is_label, is_equ}
+use Rattle.rv_files.specs.declared.text_symbols.TheConstants.{COMPARED}
 
 -- a symbol: its name, its value, if it has one, and the number of the section that it belongs to, if it belongs to one
 pub record Symbol : Type 0 where
@@ -46,3 +47,7 @@ symbols_on shown number line =
 
 unfoldable pub symbols_of : Shown → List Symbol
 symbols_of shown = from_lines shown (symbols_on shown)
+
+-- among how many symbols a name is looked for that may be meant, where so many reports are shown
+abbrev pub searched : (shown : ℕ) → ℕ
+searched shown = COMPARED / max 1 shown

@@ -18,7 +18,7 @@ use Rattle.rv_files.specs.declared.report_error.ReportError.{ReportError}
 use Rattle.rv_files.specs.declared.report_error.ReportError.TheVariants.{Write, Memory}
 use Rattle.rv_files.specs.declared.odd_addresses.Reported.{Reported}
 use Rattle.rv_files.specs.OddAddresses.{all_reported, reported_faults}
-use Rattle.rv_files.specs.Symbols.{symbols_of}
+use Rattle.rv_files.specs.Symbols.{searched, symbols_of}
 
 -- a line with what its reports may name
 abbrev pub reported_line : Text → (symbols : List (List ℕ)) → (number : ℕ) → ShownLine → Line
@@ -44,10 +44,6 @@ line_reports style source text symbols number line =
 -- those of a text
 abbrev pub all_reports : Style → Source → Text → (symbols : List (List ℕ)) → List (List ℕ)
 all_reports style source text symbols = from_lines (shown_of text) (line_reports style source text symbols)
-
--- among how many symbols a name is looked for that may be meant, where so many reports are shown
-abbrev pub searched : (shown : ℕ) → ℕ
-searched shown = 50000 / max 1 shown
 
 -- their names, those of the first ones of a text
 abbrev pub searched_symbols : Text → (shown : ℕ) → List (List ℕ)

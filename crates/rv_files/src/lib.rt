@@ -37,4 +37,4 @@ pub use report_error::ReportError;
 pub use reporting::{Wanted, write_reports};
 pub use sections::segments;
 pub use segment::Segment;
-pub use text_symbols::{Symbol, symbols};
+pub use text_symbols::{Symbol, first_names, first_symbols, searched, symbols};

@@ -13,12 +13,12 @@ ghost use Rattle.rv_store.specs.Shown.{shown_of};
 ghost use Rattle.rv_text.specs.Streams.{Writes};
 ghost use Rattle.rv_files.specs.OddAddresses.{one_reported, parities_of, reported_faults};
 ghost use Rattle.rv_files.specs.Symbols.{symbols_of};
-ghost use Rattle.rv_files.specs.TextReports.{all_reports, all_warnings, asked_warnings, failures_by_report, fault_count, line_reports, report_count, reports, searched, text_reports};
+ghost use Rattle.rv_files.specs.TextReports.{all_reports, all_warnings, asked_warnings, failures_by_report, fault_count, line_reports, report_count, reports, text_reports};
 
 use crate::counting::{Counts, count_warnings};
 use crate::odd_addresses::{Parity, Reported, fault_counts, find_reported, parities};
 use crate::report_error::ReportError;
-use crate::text_symbols::{first_symbols, names};
+use crate::text_symbols::{first_names, first_symbols, searched};
 use arrayvec::ArrayVec;
 use rv_expr::Names;
 use rv_fix::operand_values;
@@ -30,16 +30,13 @@ use rv_text::{Sink, Tally, write_all};
 use std::alloc::{AllocError, Global};
 
 /// Which reports of a text are wanted.
-#[derive(Clone, Copy, Debug, PartialEq, Eq)]
+#[derive(Clone, Copy)]
 pub struct Wanted {
     /// How many at most.
     pub most: u32,
     /// Whether those of warnings are.
     pub warnings: bool,
 }
-
-// With how many symbols all the names that are not defined are compared together.
-const COMPARED: u32 = 50_000;
 
 // Appends the reports of some faults of a line.
 fn push_faults<N: Names, V: View>(
@@ -312,10 +309,9 @@ fn write_some<W: Sink>(
     ensures text { Writes (W.taken sink.old) (text_reports page.now.style (source_of page.now) store.now wanted.most wanted.warnings) result (W.taken sink.new) }
     ensures count { W.failures sink.new ≡ failures_by_report (W.failures sink.old) result }
 {
-    let searched = (COMPARED / reported.min(wanted.most).max(1)) as usize;
+    let searched = searched(reported.min(wanted.most) as usize);
     let symbols = first_symbols(alloc, &store, searched)?;
-    let (first, _) = symbols.as_slice().split_at(symbols.len().min(searched));
-    let names = names(alloc, first)?;
+    let names = first_names(alloc, symbols.as_slice(), searched)?;
     write_first(
         sink,
         alloc,

@@ -4,7 +4,7 @@ ghost use Rattle.std.specs.Prelude.{◌≡◌, ◌<◌, ◌≤◌, ◌++◌, ◌
 ghost use Rattle.rv_layout.specs.Sections.{section_number};
 ghost use Rattle.rv_list.specs.Shown.{shown_line};
 ghost use Rattle.rv_stmt.specs.LentLabels.{name_lent};
-ghost use Rattle.rv_files.specs.Symbols.{symbol_of_label, symbols_of_labels, symbol_of_body, symbols_on, symbols_of};
+ghost use Rattle.rv_files.specs.Symbols.{searched, symbol_of_label, symbols_of_labels, symbol_of_body, symbols_on, symbols_of};
 
 use rv_expr::Name;
 use rv_layout::section_number;
@@ -162,6 +162,16 @@ fn push_line<V: View>(
     push_body(symbols, alloc, view, number, &line.stmt.body)
 }
 
+// With how many symbols all the names that are not defined are compared together.
+const COMPARED: usize = 50_000;
+
+/// Among how many symbols a name is looked for that may be meant, where so many reports are shown.
+pub fn searched(shown: usize) -> usize
+    ensures { result ≡ searched shown }
+{
+    COMPARED / shown.max(1)
+}
+
 /// The symbols of a text, each once, in the order of their definitions: the first ones, no fewer than `most` unless these are all.
 ///
 /// # Errors
@@ -200,8 +210,8 @@ pub fn symbols<V: View>(alloc: Global, view: &V) -> Result<Vec<Symbol>, AllocErr
     Ok(symbols)
 }
 
-/// The names of symbols.
-pub fn names<'a>(alloc: Global, mut symbols: &'a [Symbol]) -> Result<Vec<&'a [u8]>, AllocError>
+// The names of symbols.
+fn names<'a>(alloc: Global, mut symbols: &'a [Symbol]) -> Result<Vec<&'a [u8]>, AllocError>
     ensures { IfOk result (λ names. map (λ t. t.now) names.items ≡ map (λ s. s.name) symbols.entry.now) }
 {
     let mut names = Vec::new(alloc);
@@ -210,4 +220,20 @@ pub fn names<'a>(alloc: Global, mut symbols: &'a [Symbol]) -> Result<Vec<&'a [u8
         symbols = later;
     }
     Ok(names)
+}
+
+/// The names of the first of some symbols, at most so many.
+///
+/// # Errors
+///
+/// `AllocError` if there is no memory for the list.
+pub fn first_names<'a>(
+    alloc: Global,
+    symbols: &'a [Symbol],
+    most: usize,
+) -> Result<Vec<&'a [u8]>, AllocError>
+    ensures { IfOk result (λ names. map (λ t. t.now) names.items ≡ map (λ s. s.name) (take most symbols.now)) }
+{
+    let (first, _) = symbols.split_at(symbols.len().min(most));
+    names(alloc, first)
 }

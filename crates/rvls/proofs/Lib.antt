@@ -1,9 +1,1 @@
-pub mod Counts
 pub mod DocumentSymbols
-pub mod LineSplits
-pub mod Pieces
-pub mod Publications
-pub mod SearchedNames
-pub mod ShownRows
-pub mod WindowLaws
-pub mod Written

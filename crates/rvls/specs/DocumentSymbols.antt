@@ -8,7 +8,7 @@ use Rattle.rv_stmt.specs.declared.statement.Body.TheVariants.{Equ}
 use Rattle.rv_stmt.specs.LabelNames.{Label, LabelName, Symbol, Local}
 use Rattle.rv_list.specs.Shown.{Shown, ShownLine, from_lines, is_label, is_equ}
 use Rattle.rv_doc.specs.declared.encoding.Encoding.{Encoding}
-use Rattle.rvls.specs.Json.{number_member, string_member}
+use Rattle.rv_diagnostics.specs.Json.{number_member, string_member}
 use Rattle.rvls.specs.Names.{name_range}
 
 -- a symbol of this kind, by the line that defines it

@@ -1,11 +1,3 @@
-pub mod Assembled
-pub mod Changes
-pub mod Diagnostics
 pub mod DocumentSymbols
 pub mod Frames
-pub mod Json
-pub mod Lines
 pub mod Names
-pub mod Published
-pub mod Symbols
-pub mod Windows

@@ -3,8 +3,8 @@ use Rattle.std.specs.Prelude.{ℕ, ◌-◌, List, [], ◌∷◌, ◌++◌, codes
 use Rattle.json.specs.Token.{Token, begin_object, end_object, key}
 use Rattle.rv_text.specs.declared.lexeme.Span.{Span}
 use Rattle.rv_doc.specs.declared.encoding.Encoding.{Encoding}
-use Rattle.rvls.specs.Diagnostics.{column_at}
-use Rattle.rvls.specs.Json.{string_member, range}
+use Rattle.rv_diagnostics.specs.Diagnostics.{column_at}
+use Rattle.rv_diagnostics.specs.Json.{string_member, range}
 
 -- where a name stands in the line of this number, from 1 on, and of these bytes
 unfoldable pub name_range : Encoding → (number : ℕ) → (text : List ℕ) → Span → List Token

@@ -1,10 +1,9 @@
 //! Where names are defined.
 
-use crate::diagnostics::Context;
 use crate::meaning::{Meaning, Written, as_written};
-use crate::message::Message;
 use crate::names::{NameSpan, Standing, names_defined, text_of};
 use crate::places::{lines_to, put_location};
+use rv_diagnostics::{Context, Message};
 use rv_list::{DefinitionPlace, LineSource, LineView, View};
 use rv_show::part;
 use std::alloc::AllocError;

@@ -5,10 +5,9 @@ ghost use Rattle.rv_list.specs.Shown.{shown_line};
 ghost use Rattle.rv_stmt.specs.LentLabels.{name_lent};
 ghost use Rattle.rvls.specs.DocumentSymbols.{body_symbols, document_symbol, document_symbols, label_symbols, labels_symbols, line_symbols};
 
-use crate::diagnostics::Context;
-use crate::message::Message;
 use crate::names::text_of;
 use crate::places::put_name_range;
+use rv_diagnostics::{Context, Message};
 use rv_list::{LineSource, LineView, View};
 use rv_stmt::{Body, LabelName, LabelSlice};
 use rv_text::Span;

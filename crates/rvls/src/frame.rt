@@ -1,14 +1,12 @@
 //! Frames: a header with the length of the body, an empty line, and the body.
 
-ghost use Rattle.std.specs.Prelude.{◌≡◌, ◌≤◌, length, IfSome, OnOk, ◌++◌};
+ghost use Rattle.std.specs.Prelude.{◌≤◌, length, IfSome};
 ghost use Rattle.rvls.specs.Frames.{IsWithin};
-ghost use Rattle.rvls.specs.Json.{frame};
 
 use memchr::memmem;
-use std::alloc::AllocError;
 
 /// What stands at the front of the bytes that were read.
-#[derive(Clone, Copy, Debug)]
+#[derive(Clone, Copy)]
 pub enum Frame {
     /// Not all of a frame.
     More,
@@ -109,15 +107,4 @@ pub fn frame_at(bytes: &[u8]) -> Frame
     } else {
         Frame::Body(start, start + length)
     }
-}
-
-/// Appends a frame with this body.
-pub fn push_frame(out: &mut Vec<u8>, body: &[u8]) -> Result<(), AllocError>
-    ensures { OnOk result (out.new.items ≡ out.old.items ++ frame body.now) }
-{
-    let mut digits = itoa::Buffer::new();
-    out.extend_from_slice(b"Content-Length: ")?;
-    out.extend_from_slice(digits.format(body.len()).as_bytes())?;
-    out.extend_from_slice(HEADER_END)?;
-    out.extend_from_slice(body)
 }

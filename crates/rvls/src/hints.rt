@@ -2,13 +2,11 @@
 
 ghost use Rattle.std.specs.Prelude.{◌≤◌, length};
 
-use crate::diagnostics::column_at;
 use crate::hover::hint_text;
-use crate::message::Message;
-use crate::writing::put_position;
+use rv_diagnostics::{Message, column_at, put_position};
 use rv_doc::Encoding;
 use rv_list::{LineSource, LineView, View};
-use rv_store::MAX_LINE_LENGTH;
+use rv_text::MAX_LINE_LENGTH;
 use std::alloc::{AllocError, Global};
 
 // The column at the end of a line, before the carriage return that belongs to its end.

@@ -1,9 +1,9 @@
 //! What is shown of a line: its address and bytes, the instructions that it stands for, and the value of a name.
 
-use crate::diagnostics::Context;
 use crate::name_at::meaning_at;
 use crate::places::lines_to;
 use crate::symbol_text::push_meaning;
+use rv_diagnostics::Context;
 use rv_dis::disassemble;
 use rv_doc::Position;
 use rv_fix::Payload;

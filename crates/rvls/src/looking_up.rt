@@ -1,20 +1,19 @@
 //! Requests about the names of a document.
 
 use crate::definition::put_definition;
-use crate::diagnostics::Context;
 use crate::document_symbols::put_document_symbols;
-use crate::message::Message;
 use crate::name_at::meaning_at;
 use crate::places::lines_to;
-use crate::reading::position_of;
 use crate::references::{Wanted, put_references};
+use rv_diagnostics::{Context, Message};
 use rv_doc::Position;
 use rv_list::{LineSource, View};
+use rv_live::position_of;
 use serde_json::Value;
 use std::alloc::AllocError;
 
 /// What is asked about the names of a document.
-#[derive(Clone, Copy, Debug, PartialEq, Eq)]
+#[derive(Clone, Copy)]
 pub enum Question {
     /// Which symbols it has.
     Symbols,

@@ -1,33 +1,21 @@
 //! A language server: messages of an editor come in over standard input, answers and diagnostics go out over standard output.
 #![tactic(auto)]
 
-mod assembly;
-mod counting;
 mod definition;
-mod diagnostics;
 mod document_symbols;
 mod frame;
 mod hints;
 mod hover;
-mod lines;
-mod loading;
 mod looking_up;
 mod meaning;
-mod message;
 mod name_at;
 mod name_uses;
 mod names;
 mod places;
-mod publishing;
-mod reading;
 mod references;
 mod run;
 mod server;
 mod symbol_text;
-mod symbols;
-mod syncing;
-mod told;
-mod window;
 mod writing;
 
 use run::{RunError, run};

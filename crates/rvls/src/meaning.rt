@@ -19,7 +19,7 @@ pub enum Written<'a> {
 
 /// A local label: its number, its line from 1 on, and the lines of the labels of this number before and behind it: 0 and `u32::MAX` where there
 /// are none.
-#[derive(Clone, Copy, Debug, PartialEq, Eq)]
+#[derive(Clone, Copy)]
 pub struct LocalLabel {
     pub number: u16,
     pub line: u32,
@@ -70,7 +70,7 @@ fn has_local(mut labels: LabelSlice<'_>, number: u16) -> bool {
 }
 
 // The lines around a place between two lines that have a certain label: 0 and `u32::MAX` where there are none.
-#[derive(Clone, Copy, Debug, PartialEq, Eq)]
+#[derive(Clone, Copy)]
 struct Around {
     before: u32,
     behind: u32,

@@ -3,7 +3,7 @@
 use rv_text::TokenKind;
 
 /// What may come next in a line.
-#[derive(Clone, Copy, Debug, PartialEq, Eq)]
+#[derive(Clone, Copy)]
 pub enum Expected {
     /// A label, or the name of an instruction or a directive.
     Statement,
@@ -22,8 +22,8 @@ fn after_sign(expected: Expected, sign: &[u8]) -> Expected {
     match sign {
         b":" => Expected::Statement,
         b")" => Expected::Sign,
-        b"(" if expected == Expected::Sign => Expected::Base,
-        b"%" if expected == Expected::Operand => Expected::Modifier,
+        b"(" if matches!(expected, Expected::Sign) => Expected::Base,
+        b"%" if matches!(expected, Expected::Operand) => Expected::Modifier,
         _ => Expected::Operand,
     }
 }
@@ -48,8 +48,8 @@ pub fn expected_after(expected: Expected, kind: TokenKind, text: &[u8]) -> Expec
 /// Whether a token may be the name of a symbol or of a local label.
 pub fn is_name(expected: Expected, kind: TokenKind, text: &[u8]) -> bool {
     match kind {
-        TokenKind::Identifier => expected == Expected::Operand && text != b".".as_slice(),
-        TokenKind::Local => expected == Expected::Operand,
+        TokenKind::Identifier => matches!(expected, Expected::Operand) && text != b".".as_slice(),
+        TokenKind::Local => matches!(expected, Expected::Operand),
         TokenKind::Number | TokenKind::Str | TokenKind::Char | TokenKind::Punctuation => false,
     }
 }

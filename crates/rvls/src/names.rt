@@ -6,12 +6,11 @@ use crate::name_uses::{Expected, expected_after, is_name};
 use rv_list::LineView;
 use rv_show::{first_bytes, part};
 use rv_stmt::{Body, LabelSlice, Operand};
-use rv_store::MAX_LINE_LENGTH;
-use rv_text::{Span, tokens};
+use rv_text::{MAX_LINE_LENGTH, Span, tokens};
 use std::alloc::{AllocError, Global};
 
 /// What a name does in a line.
-#[derive(Clone, Copy, Debug, PartialEq, Eq)]
+#[derive(Clone, Copy)]
 pub enum Standing {
     /// It is the label of this number, from 0 on.
     Label(u32),
@@ -22,7 +21,7 @@ pub enum Standing {
 }
 
 /// A name of a line.
-#[derive(Clone, Copy, Debug, PartialEq, Eq)]
+#[derive(Clone, Copy)]
 pub struct NameSpan {
     pub span: Span,
     pub standing: Standing,

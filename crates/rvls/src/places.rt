@@ -3,9 +3,7 @@
 ghost use Rattle.std.specs.Prelude.{◌≡◌, ◌++◌, ◌≤◌, length, IfSome, OnOk};
 ghost use Rattle.rvls.specs.Names.{location, name_range};
 
-use crate::diagnostics::{Context, column_at};
-use crate::message::Message;
-use crate::writing::put_range;
+use rv_diagnostics::{Context, Message, column_at, put_range};
 use rv_doc::Encoding;
 use rv_list::{LineSource, View};
 use rv_text::Span;

@@ -1,11 +1,10 @@
 //! Where names are used.
 
 use crate::definition::is_definition;
-use crate::diagnostics::Context;
 use crate::meaning::{Meaning, as_written};
-use crate::message::Message;
 use crate::names::{NameSpan, names_in, text_of};
 use crate::places::put_location;
+use rv_diagnostics::{Context, Message};
 use rv_list::{LineSource, LineView, View};
 use rv_show::part;
 use std::alloc::AllocError;

@@ -8,7 +8,7 @@ use rv_text::{Failed, Sink, Source, write_all};
 use std::alloc::{AllocError, Global};
 
 /// Why a session ended early.
-#[derive(Clone, Copy, Debug, PartialEq, Eq)]
+#[derive(Clone, Copy)]
 pub enum RunError {
     Read,
     Write,
@@ -41,9 +41,8 @@ fn answer_frames(
             Frame::Body(start, end) => {
                 let (front, _) = rest.split_at(end);
                 let (_, body) = front.split_at(start);
-                let next = server.answer(body, out)?;
-                if next != Next::Go {
-                    return Ok((at, next));
+                if let Next::Exit(status) = server.answer(body, out)? {
+                    return Ok((at, Next::Exit(status)));
                 }
                 at += end;
             }

@@ -2,21 +2,18 @@
 
 ghost use Rattle.std.specs.Prelude.{◌≡◌, ◌≤◌, ◌<◌, length, IfSome, vec_len};
 
-use crate::assembly::Assembly;
-use crate::diagnostics::Context;
 use crate::hints::put_hints;
 use crate::hover::hover_text;
 use crate::looking_up::{put_answer, question_in};
-use crate::message::Message;
-use crate::publishing::{publish, publish_none};
-use crate::reading::{number_at, position_of, text_at};
 use crate::writing::{Refusal, answer_null, answer_text, begin_result, refuse, show_error};
+use rv_diagnostics::{Context, Message, publish_none};
 use rv_doc::Encoding;
+use rv_live::{Assembly, number_at, position_of, publish, text_at};
 use serde_json::Value;
 use std::alloc::{AllocError, Global};
 
 /// Whether the server goes on.
-#[derive(Clone, Copy, Debug, PartialEq, Eq)]
+#[derive(Clone, Copy)]
 pub enum Next {
     Go,
     /// It ends with this status.
@@ -33,7 +30,7 @@ pub const CUT_OFF: u8 = 1;
 pub const MALFORMED: u8 = 3;
 
 // How far a session is.
-#[derive(Clone, Copy, Debug, PartialEq, Eq)]
+#[derive(Clone, Copy)]
 enum Phase {
     Fresh,
     Running,
@@ -253,8 +250,9 @@ impl Server {
                 Phase::Fresh | Phase::Running => CUT_OFF,
             }));
         }
-        if self.phase != Phase::Running {
-            return Ok(Next::Go);
+        match self.phase {
+            Phase::Running => {}
+            Phase::Fresh | Phase::Down => return Ok(Next::Go),
         }
         match method {
             "textDocument/didOpen" => self.open(message, out),

@@ -1,37 +1,8 @@
 //! What the server writes.
 
-ghost use Rattle.std.specs.Prelude.{◌≡◌, ◌++◌, OnOk};
-ghost use Rattle.rvls.specs.Json.{position, range};
-
-use crate::message::Message;
+use rv_diagnostics::Message;
 use serde_json::Value;
 use std::alloc::{AllocError, Global};
-
-/// Writes a position.
-#[tactic(auto, unfolding(crate::specs::Json::position))]
-pub fn put_position(message: &mut Message, line: u32, character: u32) -> Result<(), AllocError>
-    ensures { OnOk result (message.new ≡ message.old ++ position line character) }
-{
-    message.begin_object()?;
-    message.put_number("line", u64::from(line))?;
-    message.put_number("character", u64::from(character))?;
-    message.end_object()?;
-    Ok(())
-}
-
-/// Writes a range in a line.
-#[tactic(auto, unfolding(crate::specs::Json::range))]
-pub fn put_range(message: &mut Message, line: u32, from: u32, to: u32) -> Result<(), AllocError>
-    ensures { OnOk result (message.new ≡ message.old ++ range line from to) }
-{
-    message.begin_object()?;
-    message.key("start")?;
-    put_position(message, line, from)?;
-    message.key("end")?;
-    put_position(message, line, to)?;
-    message.end_object()?;
-    Ok(())
-}
 
 // Writes which request a message answers: a number or a text, or null where it is neither.
 fn put_id(message: &mut Message, id: Option<&Value>) -> Result<(), AllocError> {
@@ -80,7 +51,7 @@ pub fn answer_text(
 }
 
 /// Why a request is refused. (JSON-RPC 2.0, section 5.1; Language Server Protocol 3.17, Base Protocol)
-#[derive(Clone, Copy, Debug, PartialEq, Eq)]
+#[derive(Clone, Copy)]
 pub enum Refusal {
     NotJson,
     NoRequest,

@@ -1,0 +1,82 @@
+-- Diagnostics as tokens of JSON. (Language Server Protocol 3.17, textDocument/publishDiagnostics)
+use Rattle.std.specs.Prelude.{ℕ, ◌-◌, List, [], ◌∷◌, ◌++◌, take, codes, decimal}
+use Rattle.std.specs.Str.Lossy.{utf8_lossy}
+use Rattle.json.specs.Token.{Token, begin_object, end_object, begin_array, end_array, key, string}
+use Rattle.rv_text.specs.declared.faults.Fault.{Fault}
+use Rattle.rv_text.specs.declared.faults.FaultNumber.{FaultNumber}
+use Rattle.rv_text.specs.declared.faults.FaultNumber.TheVariants.{Duplicate, FaultyEqu}
+use Rattle.rv_text.specs.declared.lexeme.TheConstants.{MAX_LINE_LENGTH}
+use Rattle.rv_expr.specs.Value.{Environment}
+use Rattle.rv_list.specs.declared.view.DefinitionPlace.{DefinitionPlace}
+use Rattle.rv_list.specs.declared.view.DefinitionPlace.TheVariants.{Nowhere, Label, Equ}
+use Rattle.rv_list.specs.Faults.{fault_name}
+use Rattle.rv_list.specs.Shown.{Shown}
+use Rattle.rv_show.specs.Parts.{part}
+use Rattle.rv_report.specs.Lines.{Line}
+use Rattle.rv_report.specs.Messages.{message_of}
+use Rattle.rv_report.specs.Warnings.{Warning, warning_message}
+use Rattle.rv_program.specs.declared.limits.TheConstants.{MAX_LINES}
+use Rattle.rv_doc.specs.declared.encoding.Encoding.{Encoding}
+use Rattle.rv_doc.specs.Positions.{columns}
+use Rattle.rv_diagnostics.specs.Json.{number_member, string_member, range}
+
+-- the column at a place of a line, in bytes
+abbrev pub column_at : Encoding → (line : List ℕ) → (at : ℕ) → ℕ
+column_at encoding line at = columns encoding (take at line)
+
+-- what a diagnostic begins with: where it is, how grave, its code and what it says
+unfoldable pub diagnostic_head : (line from to severity : ℕ) → (code message : List ℕ) → List Token
+diagnostic_head line from to severity code message =
+    begin_object ∷ (key (codes "range") ∷ (range line from to
+    ++ (number_member (codes "severity") severity
+    ++ (string_member (codes "code") code
+    ++ (string_member (codes "source") (codes "rvls") ++ string_member (codes "message") message)))))
+
+-- all of it, with what else belongs to it
+abbrev pub diagnostic : (line from to severity : ℕ) → (code message : List ℕ) → (related : List Token) → List Token
+diagnostic line from to severity code message related =
+    diagnostic_head line from to severity code message ++ (related ++ end_object ∷ [])
+
+-- the line of a definition, from 1 on
+unfoldable pub related_line : (uri : List ℕ) → (line : ℕ) → List Token
+related_line uri line =
+    key (codes "relatedInformation") ∷ (begin_array ∷ (begin_object ∷ (key (codes "location") ∷ (begin_object ∷ (string_member (codes "uri") uri
+    ++ (key (codes "range") ∷ (range (line - 1) 0 0 ++ (end_object ∷ (string_member (codes "message") (codes "the first definition is here") ++ (end_object ∷ (end_array ∷ [])))))))))))
+
+abbrev pub related_place : (uri : List ℕ) → DefinitionPlace → List Token
+related_place uri Nowhere = []
+related_place uri (Label line index) = related_line uri line
+related_place uri (Equ line) = related_line uri line
+
+-- a second definition and the use of a faulty one name the first
+abbrev pub related_of : (uri : List ℕ) → FaultNumber → DefinitionPlace → List Token
+related_of uri Duplicate place = related_place uri place
+related_of uri FaultyEqu place = related_place uri place
+related_of uri number place = []
+
+-- the diagnostic of a fault of a line, which has the number `line.number` from 1 on
+unfoldable pub fault_diagnostic : Encoding → (uri : List ℕ) → Environment → Shown → Line → Fault → List Token
+fault_diagnostic encoding uri given shown line fault =
+    diagnostic (line.number - 1) (column_at encoding line.text fault.span.from) (column_at encoding line.text fault.span.to) 1 (fault_name fault.number)
+    (utf8_lossy (message_of given shown line fault)) (related_of uri fault.number (shown.definition (part line.text fault.span)))
+
+-- the diagnostic of a warning about a line
+unfoldable pub warning_diagnostic : Encoding → (number : ℕ) → (text : List ℕ) → Warning → List Token
+warning_diagnostic encoding number text warning =
+    diagnostic (number - 1) (column_at encoding text warning.span.from) (column_at encoding text warning.span.to) 2 (codes "label-as-register") (utf8_lossy (warning_message warning.label)) []
+
+-- Limits
+
+-- the diagnostic of a line that is too long, by its number from 0 on: at the first byte past the limit
+unfoldable pub long_line : Encoding → (line : ℕ) → (text : List ℕ) → List Token
+long_line encoding line text =
+    diagnostic line (column_at encoding text MAX_LINE_LENGTH) (column_at encoding text MAX_LINE_LENGTH) 1 (codes "line-too-long") (codes "a line has at most 1000 bytes") []
+
+-- the diagnostic of a text with too many lines, at the first line past the limit
+unfoldable pub many_lines : List Token
+many_lines = diagnostic MAX_LINES 0 0 1 (codes "too-many-lines") (codes "a text has at most 16384 lines") []
+
+-- the diagnostic that says how many others are not shown, at a line
+unfoldable pub more_diagnostics : (line more : ℕ) → List Token
+more_diagnostics line more =
+    diagnostic line 0 0 1 (codes "more") (decimal more ++ codes " more faults and warnings are not shown") []

@@ -1,0 +1,4 @@
+pub mod Diagnostics
+pub mod Json
+pub mod Published
+pub mod Windows

@@ -1,0 +1,313 @@
+//! Diagnostics as they are written: faults of lines, warnings about them, and lines past a limit.
+
+ghost use Rattle.std.specs.Prelude.{◌≡◌, ◌≤◌, ◌<◌, ◌^◌, ◌++◌, length, string_bytes, IfOk, OnOk};
+ghost use Rattle.std.specs.List.{flat_map};
+ghost use Rattle.std.specs.Str.Lossy.{utf8_lossy};
+ghost use Rattle.rv_list.specs.Faults.{body_faults, found};
+ghost use Rattle.rv_report.specs.Lines.{line_of};
+ghost use Rattle.rv_report.specs.Messages.{message_of};
+ghost use Rattle.rv_report.specs.Warnings.{warning_message, warning_seen};
+ghost use Rattle.rv_diagnostics.specs.Diagnostics.{column_at, diagnostic_head, fault_diagnostic, long_line, many_lines, more_diagnostics, related_line, related_of, related_place, warning_diagnostic};
+ghost use Rattle.rv_diagnostics.specs.Windows.{passed, windowed};
+
+use crate::message::Message;
+use crate::ranges::put_range;
+use crate::window::Window;
+use rv_doc::{Encoding, column_of};
+use rv_expr::Names;
+use rv_list::{DefinitionPlace, View, fault_name};
+use rv_program::MAX_LINES;
+use rv_report::{FaultyLine, Warning, message};
+use rv_show::{Text, part};
+use rv_text::{Fault, FaultNumber, MAX_LINE_LENGTH};
+use std::alloc::{AllocError, Global};
+
+/// What the diagnostics of a document share.
+#[derive(Clone, Copy)]
+pub struct Context<'a> {
+    pub alloc: Global,
+    pub encoding: Encoding,
+    /// The name of the document.
+    pub uri: &'a str,
+}
+
+// How grave a diagnostic is. (Language Server Protocol 3.17, DiagnosticSeverity)
+const ERROR: u64 = 1;
+
+const WARNING: u64 = 2;
+
+// What a warning says behind the label. `rv_report` says the same.
+const LABEL_AS_REGISTER: &[u8] =
+    b" is a label: its address is taken as the number of the register; .equ gives such a number a name";
+
+// Where a diagnostic is, by a line and columns.
+#[derive(Clone, Copy)]
+struct Place {
+    line: u32,
+    from: u32,
+    to: u32,
+}
+
+/// The column at a place of a line, in bytes.
+pub fn column_at(encoding: Encoding, line: &[u8], at: u32) -> u32
+    requires { length line.now < 2 ^ 31 }
+    ensures { result ≡ column_at encoding line.now at }
+{
+    let (front, _) = line.split_at(line.len().min(at as usize));
+    column_of(encoding, front)
+}
+
+// The column behind as many bytes as a line may have.
+fn limit_column(encoding: Encoding, line: &[u8]) -> u32
+    ensures { result ≡ column_at encoding line.now MAX_LINE_LENGTH }
+{
+    let (front, _) = line.split_at(line.len().min(MAX_LINE_LENGTH));
+    column_of(encoding, front)
+}
+
+// Begins a diagnostic: where it is, how grave, its code and what it says.
+#[tactic(auto, unfolding(crate::specs::Diagnostics::diagnostic_head))]
+fn begin_diagnostic(
+    m: &mut Message,
+    place: Place,
+    severity: u64,
+    code: &str,
+    message: &str,
+) -> Result<(), AllocError>
+    ensures { OnOk result (m.new ≡ m.old ++ diagnostic_head place.line place.from place.to severity code.now message.now) }
+{
+    m.begin_object()?;
+    m.key("range")?;
+    put_range(m, place.line, place.from, place.to)?;
+    m.put_number("severity", severity)?;
+    m.put_string("code", code)?;
+    m.put_string("source", "rvls")?;
+    m.put_string("message", message)?;
+    Ok(())
+}
+
+// Writes the line of a definition, from 1 on.
+#[tactic(auto, unfolding(crate::specs::Diagnostics::related_line))]
+fn put_related_line(m: &mut Message, uri: &str, line: u32) -> Result<(), AllocError>
+    ensures { OnOk result (m.new ≡ m.old ++ related_line uri.now line) }
+{
+    let line = line.saturating_sub(1);
+    m.key("relatedInformation")?;
+    m.begin_array()?;
+    m.begin_object()?;
+    m.key("location")?;
+    m.begin_object()?;
+    m.put_string("uri", uri)?;
+    m.key("range")?;
+    put_range(m, line, 0, 0)?;
+    m.end_object()?;
+    m.put_string("message", "the first definition is here")?;
+    m.end_object()?;
+    m.end_array()?;
+    Ok(())
+}
+
+// Writes where a name is defined, if it is.
+fn put_related_place(m: &mut Message, uri: &str, place: DefinitionPlace) -> Result<(), AllocError>
+    ensures { OnOk result (m.new ≡ m.old ++ related_place uri.now place) }
+{
+    match place {
+        DefinitionPlace::Label(line, _) => put_related_line(m, uri, line),
+        DefinitionPlace::Equ(line) => put_related_line(m, uri, line),
+        DefinitionPlace::Nowhere => Ok(()),
+    }
+}
+
+// Writes where a name of a fault is defined: of a second definition the first, and that of a faulty `.equ`.
+fn put_related(
+    m: &mut Message,
+    uri: &str,
+    number: FaultNumber,
+    place: DefinitionPlace,
+) -> Result<(), AllocError>
+    ensures { OnOk result (m.new ≡ m.old ++ related_of uri.now number place) }
+{
+    match number {
+        FaultNumber::Duplicate | FaultNumber::FaultyEqu => put_related_place(m, uri, place),
+        _ => Ok(()),
+    }
+}
+
+// The message of a fault as a text.
+fn fault_text<N: Names, V: View>(
+    alloc: Global,
+    line: &FaultyLine<'_>,
+    names: &N,
+    view: &V,
+    fault: Fault,
+) -> Result<String, AllocError>
+    requires labels { length line.now.stmt.now.labels ≤ 1000 }
+    requires text { length line.now.text.now ≤ 1000 }
+    ensures { IfOk result (λ s. string_bytes s ≡ utf8_lossy (message_of (N.environment names.now line.now.address) (V.shown view.now) (line_of line.now) fault)) }
+{
+    let mut bytes = Vec::new(alloc);
+    message(&mut bytes, alloc, line, names, view, fault)?;
+    String::from_utf8_lossy(alloc, bytes.as_slice())
+}
+
+// Writes the diagnostic of a fault.
+#[tactic(auto, unfolding(crate::specs::Diagnostics::fault_diagnostic))]
+fn put_fault<N: Names, V: View>(
+    m: &mut Message,
+    context: &Context<'_>,
+    line: &FaultyLine<'_>,
+    names: &N,
+    view: &V,
+    fault: Fault,
+) -> Result<(), AllocError>
+    requires labels { length line.now.stmt.now.labels ≤ 1000 }
+    requires text { length line.now.text.now ≤ 1000 }
+    ensures { OnOk result (m.new ≡ m.old ++ fault_diagnostic context.now.encoding context.now.uri.now (N.environment names.now line.now.address) (V.shown view.now) (line_of line.now) fault) }
+{
+    let said = fault_text(context.alloc, line, names, view, fault)?;
+    let place = Place {
+        line: line.number.saturating_sub(1),
+        from: column_at(context.encoding, line.text, fault.span.from),
+        to: column_at(context.encoding, line.text, fault.span.to),
+    };
+    let code = fault_name(fault.number);
+    begin_diagnostic(m, place, ERROR, code, said.as_str())?;
+    let definition = view.definition(part(line.text, fault.span));
+    put_related(m, context.uri, fault.number, definition)?;
+    m.end_object()?;
+    Ok(())
+}
+
+// Writes the diagnostic of a fault, if there is one and a window shows it.
+fn put_if_shown<N: Names, V: View>(
+    m: &mut Message,
+    window: &mut Window,
+    context: &Context<'_>,
+    line: &FaultyLine<'_>,
+    names: &N,
+    view: &V,
+    fault: Option<Fault>,
+) -> Result<(), AllocError>
+    requires labels { length line.now.stmt.now.labels ≤ 1000 }
+    requires text { length line.now.text.now ≤ 1000 }
+    ensures said { OnOk result (m.new ≡ m.old ++ flat_map (fault_diagnostic context.now.encoding context.now.uri.now (N.environment names.now line.now.address) (V.shown view.now) (line_of line.now)) (windowed window.old (body_faults fault))) }
+    ensures passed { OnOk result (window.new ≡ passed window.old (length (body_faults fault))) }
+{
+    let Some(fault) = fault else {
+        return Ok(());
+    };
+    if window.shows_next() {
+        put_fault(m, context, line, names, view, fault)?;
+    }
+    Ok(())
+}
+
+/// Writes the diagnostics of those faults of a line that a window shows.
+pub fn put_faults<N: Names, V: View>(
+    m: &mut Message,
+    window: &mut Window,
+    context: &Context<'_>,
+    line: &FaultyLine<'_>,
+    names: &N,
+    view: &V,
+    mut faults: &[Option<Fault>],
+) -> Result<(), AllocError>
+    requires labels { length line.now.stmt.now.labels ≤ 1000 }
+    requires text { length line.now.text.now ≤ 1000 }
+    ensures said { OnOk result (m.new ≡ m.old ++ flat_map (fault_diagnostic context.now.encoding context.now.uri.now (N.environment names.now line.now.address) (V.shown view.now) (line_of line.now)) (windowed window.old (found faults.entry.now))) }
+    ensures passed { OnOk result (window.new ≡ passed window.old (length (found faults.entry.now))) }
+{
+    'faults: while let [fault, later @ ..] = faults {
+        put_if_shown(m, window, context, line, names, view, *fault)?;
+        faults = later;
+    }
+    Ok(())
+}
+
+// What a warning says.
+#[tactic(auto, unfolding(rv_report::specs::Warnings::warning_message))]
+fn warning_text(alloc: Global, warning: &Warning<'_>) -> Result<String, AllocError>
+    ensures { IfOk result (λ s. string_bytes s ≡ utf8_lossy (warning_message warning.now.label.now)) }
+{
+    let mut text = Text::new(alloc);
+    text.push_about(b"", warning.label, LABEL_AS_REGISTER)?;
+    String::from_utf8_lossy(alloc, text.bytes())
+}
+
+/// Writes the diagnostic of a warning about a line, by its number from 1 on.
+#[tactic(auto, unfolding(crate::specs::Diagnostics::warning_diagnostic))]
+pub fn put_warning(
+    m: &mut Message,
+    context: &Context<'_>,
+    number: u32,
+    text: &[u8],
+    warning: &Warning<'_>,
+) -> Result<(), AllocError>
+    requires { length text.now ≤ 1000 }
+    ensures { OnOk result (m.new ≡ m.old ++ warning_diagnostic context.now.encoding number text.now (warning_seen warning.now)) }
+{
+    let said = warning_text(context.alloc, warning)?;
+    let place = Place {
+        line: number.saturating_sub(1),
+        from: column_at(context.encoding, text, warning.span.from),
+        to: column_at(context.encoding, text, warning.span.to),
+    };
+    let code = "label-as-register";
+    begin_diagnostic(m, place, WARNING, code, said.as_str())?;
+    m.end_object()?;
+    Ok(())
+}
+
+/// Writes the diagnostic of a line that is too long, by its number from 0 on, at the first byte past the limit.
+#[tactic(auto, unfolding(crate::specs::Diagnostics::long_line))]
+pub fn put_long_line(
+    m: &mut Message,
+    context: &Context<'_>,
+    number: u32,
+    text: &[u8],
+) -> Result<(), AllocError>
+    ensures { OnOk result (m.new ≡ m.old ++ long_line context.now.encoding number text.now) }
+{
+    let column = limit_column(context.encoding, text);
+    let place = Place {
+        line: number,
+        from: column,
+        to: column,
+    };
+    let said = "a line has at most 1000 bytes";
+    begin_diagnostic(m, place, ERROR, "line-too-long", said)?;
+    m.end_object()?;
+    Ok(())
+}
+
+/// Writes the diagnostic of a text with too many lines, at the first line past the limit.
+#[tactic(auto, unfolding(crate::specs::Diagnostics::many_lines))]
+pub fn put_many_lines(m: &mut Message) -> Result<(), AllocError>
+    ensures { OnOk result (m.new ≡ m.old ++ many_lines) }
+{
+    let place = Place {
+        line: MAX_LINES as u32,
+        from: 0,
+        to: 0,
+    };
+    let said = "a text has at most 16384 lines";
+    begin_diagnostic(m, place, ERROR, "too-many-lines", said)?;
+    m.end_object()?;
+    Ok(())
+}
+
+/// Writes the diagnostic that says how many others are not shown, at a line.
+#[tactic(auto, unfolding(crate::specs::Diagnostics::more_diagnostics))]
+pub fn put_more(m: &mut Message, alloc: Global, line: u32, more: usize) -> Result<(), AllocError>
+    ensures { OnOk result (m.new ≡ m.old ++ more_diagnostics line more) }
+{
+    let place = Place {
+        line,
+        from: 0,
+        to: 0,
+    };
+    let said = format!(in alloc; "{more} more faults and warnings are not shown")?;
+    begin_diagnostic(m, place, ERROR, "more", said.as_str())?;
+    m.end_object()?;
+    Ok(())
+}

@@ -1,0 +1,16 @@
+//! The diagnostics of a text as the messages that editors show: of its faults, of warnings about it, and of lines past a limit.
+#![tactic(auto)]
+
+mod counting;
+mod diagnostics;
+mod message;
+mod publishing;
+mod ranges;
+mod told;
+mod window;
+
+pub use diagnostics::{Context, column_at};
+pub use message::Message;
+pub use publishing::{publish_lines, publish_none};
+pub use ranges::{put_position, put_range};
+pub use told::Told;

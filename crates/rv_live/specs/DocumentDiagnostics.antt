@@ -1,0 +1,20 @@
+-- The diagnostics of a document, by its bytes alone.
+use Rattle.std.specs.Prelude.{ℕ, List}
+use Rattle.json.specs.Token.{Token}
+use Rattle.rv_expr.specs.Value.{Environment}
+use Rattle.rv_doc.specs.declared.encoding.Encoding.{Encoding}
+use Rattle.rv_doc.specs.Positions.{lines_of}
+use Rattle.rv_program.specs.Text.{Text}
+use Rattle.rv_store.specs.LinesOfTexts.{names_from}
+use Rattle.rv_store.specs.Shown.{shown_of}
+use Rattle.rv_diagnostics.specs.Published.{diagnostics_of}
+use Rattle.rv_live.specs.Assembled.{assembled}
+
+-- what names give on a line of a text, by its number, where `.` is an address
+abbrev pub names_in : Text → (number here : ℕ) → Environment
+names_in text number = names_from (record { text = text; line = number })
+
+-- what is published of a document, by its bytes
+abbrev pub document_diagnostics : Encoding → (uri document : List ℕ) → (at : ℕ) → List Token
+document_diagnostics encoding uri document at =
+    diagnostics_of encoding uri (names_in (assembled document)) (shown_of (assembled document)) (lines_of document) at

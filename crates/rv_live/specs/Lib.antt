@@ -1,0 +1,3 @@
+pub mod Assembled
+pub mod Changes
+pub mod DocumentDiagnostics

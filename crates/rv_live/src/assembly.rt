@@ -1,0 +1,154 @@
+//! A document with its assembly.
+
+ghost use Rattle.std.specs.Prelude.{◌≡◌, ◌+◌, ◌≤◌, List, length, map, IfOk, Some, None, if◌then◌else◌};
+ghost use Rattle.std.specs.Option.{option_map};
+ghost use Rattle.serde_json.specs.View.{view};
+ghost use Rattle.rv_doc.specs.Edits.{spliced, text_after_all};
+ghost use Rattle.rv_doc.specs.Positions.{lines_of};
+ghost use Rattle.rv_live.specs.Changes.{changes_of};
+ghost use Rattle.rv_live.specs.Assembled.{assembled};
+
+use crate::loading::load;
+use crate::reading::change_in;
+use crate::syncing::put_lines;
+use rv_doc::{Document, Encoding, Lines, Touched, line_count, touched_lines};
+use rv_store::{MAX_LINES, Store};
+use serde_json::Value;
+use std::alloc::{AllocError, Global};
+use std::marker::Model;
+
+/// A document whose lines are in a store. Contracts see its text.
+#[derive(Drop)]
+pub struct Assembly {
+    document: Document,
+    store: Store,
+    edited: u32,
+}
+
+impl Model for Assembly {
+    ghost use Rattle.std.specs.Prelude.{◌≡◌, ℕ, List};
+    ghost use Rattle.rv_live.specs.Assembled.{assembled};
+
+    ghost Value = { List ℕ };
+
+    ghost view = { λ a. a.document };
+
+    ghost invariant = { λ a. a.store ≡ assembled a.document };
+}
+
+// How many lines are edited one by one at most: where more change, the text is put into a new store. That takes about 20
+// microseconds a line; an edit that moves the lines behind it, a tenth of a microsecond for each of them.
+const MOST_EDITS: usize = 128;
+
+// Makes the changes of a message, one after another, and says whether each was well formed.
+fn change_all(
+    document: &mut Document,
+    encoding: Encoding,
+    mut changes: &[Value],
+) -> Result<bool, AllocError>
+    ensures { IfOk result (λ whole. (if whole then Some document.new else None) ≡ option_map (text_after_all encoding document.old) (changes_of (map view changes.entry.now))) }
+{
+    'changes: while let [json, later @ ..] = changes {
+        let Some(change) = change_in(json) else {
+            return Ok(false);
+        };
+        document.change(encoding, change.range, change.text.as_bytes())?;
+        changes = later;
+    }
+    Ok(true)
+}
+
+// The store of a document that has changed, by the store of what it was.
+fn store_after(
+    alloc: Global,
+    mut store: Store,
+    old: &[u8],
+    new: &[u8],
+    touched: &Touched<'_>,
+) -> Result<Store, AllocError>
+    requires store { store ≡ assembled old.now }
+    requires lines { lines_of new.now ≡ spliced (lines_of old.now) touched.now.first touched.now.count (lines_of touched.now.new.now) }
+    requires within { touched.now.first + touched.now.count ≤ length (lines_of old.now) }
+    ensures { IfOk result (λ s. s ≡ assembled new.now) }
+{
+    if line_count(old) > MAX_LINES || line_count(new) > MAX_LINES {
+        return load(alloc, new);
+    }
+    let count = line_count(touched.new);
+    if touched.count.max(count) > MOST_EDITS {
+        return load(alloc, new);
+    }
+    let lines = Lines::new(touched.new);
+    put_lines(&mut store, touched.first, touched.count, lines)?;
+    Ok(store)
+}
+
+impl Assembly {
+    /// A document of this text.
+    ///
+    /// # Errors
+    ///
+    /// `AllocError` if there is no memory for it.
+    pub fn new(alloc: Global, text: &[u8]) -> Result<Assembly, AllocError>
+        ensures { IfOk result (λ a. a ≡ text.now) }
+    {
+        let document = Document::new(alloc, text)?;
+        let store = load(alloc, text)?;
+        Ok(Assembly {
+            document,
+            store,
+            edited: 0,
+        })
+    }
+
+    /// Its text.
+    pub fn text(&self) -> &[u8]
+        ensures { result.now ≡ self.now }
+    {
+        self.document.text()
+    }
+
+    /// The store of its lines.
+    pub fn store(&self) -> &Store
+        ensures { result.now ≡ assembled self.now }
+    {
+        &self.store
+    }
+
+    /// How many lines stand before those that changed last.
+    pub fn edited(&self) -> u32 {
+        self.edited
+    }
+
+    /// The document after the changes of a message, if each is well formed.
+    ///
+    /// # Errors
+    ///
+    /// `AllocError` if there is no memory for it.
+    pub fn changed(
+        self,
+        alloc: Global,
+        encoding: Encoding,
+        changes: &[Value],
+    ) -> Result<Option<Assembly>, AllocError>
+        ensures { IfOk result (λ new. new ≡ option_map (text_after_all encoding self) (changes_of (map view changes.now))) }
+    {
+        let Assembly {
+            mut document,
+            store,
+            ..
+        } = self;
+        let old = Vec::from_slice(alloc, document.text())?;
+        if !change_all(&mut document, encoding, changes)? {
+            return Ok(None);
+        }
+        let touched = touched_lines(old.as_slice(), document.text());
+        let edited = u32::try_from(touched.first).unwrap_or(u32::MAX);
+        let store = store_after(alloc, store, old.as_slice(), document.text(), &touched)?;
+        Ok(Some(Assembly {
+            document,
+            store,
+            edited,
+        }))
+    }
+}

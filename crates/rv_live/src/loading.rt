@@ -1,0 +1,71 @@
+//! Texts that are put into a new store.
+
+ghost use Rattle.std.specs.Prelude.{◌≡◌, ◌+◌, ◌<◌, ◌≤◌, ◌++◌, ◌∷◌, ◌==◌, ℕ, List, [], false, true, not, length, map, take, IfOk, OnOk};
+ghost use Rattle.std.specs.List.{list_any, list_all};
+ghost use Rattle.rv_program.specs.Text.{is_line};
+ghost use Rattle.rv_live.specs.Assembled.{assembled, assembled_line};
+
+use rv_doc::Lines;
+use rv_store::{MAX_LINE_LENGTH, MAX_LINES, Store};
+use rv_text::Tally;
+use std::alloc::{AllocError, Global};
+
+/// Where the first section begins.
+pub const BASE: u32 = 0;
+
+/// A line as it is assembled: nothing of one that is too long.
+pub fn assembled_line(line: &[u8]) -> &[u8]
+    requires { list_any (λ b. b == 10) line.now ≡ false }
+    ensures value { result.now ≡ assembled_line line.entry.now }
+    ensures line { is_line result.now ≡ true }
+{
+    if line.len() > MAX_LINE_LENGTH {
+        &[]
+    } else {
+        line
+    }
+}
+
+// Puts a line at the end of a text.
+fn append(store: &mut Store, line: &[u8]) -> Result<(), AllocError>
+    requires few { length store.old.lines < MAX_LINES }
+    requires unbroken { list_any (λ b. b == 10) line.now ≡ false }
+    ensures { OnOk result (store.new ≡ record { base = store.old.base; lines = store.old.lines ++ assembled_line line.now ∷ [] }) }
+{
+    let number = store.len() as u32 + 1;
+    match store.insert(number, assembled_line(line), &mut Tally::new()) {
+        Ok(_) => Ok(()),
+        Err(_) => Err(AllocError),
+    }
+}
+
+// Puts the first lines of a document at the end of a text, at most so many.
+fn append_first(store: &mut Store, mut lines: Lines<'_>, most: usize) -> Result<(), AllocError>
+    requires { length store.old.lines + most ≤ MAX_LINES }
+    ensures { OnOk result (store.new ≡ record { base = store.old.base; lines = store.old.lines ++ map assembled_line (take most lines.entry) }) }
+{
+    let mut left = most;
+    'lines: while left > 0 {
+        let Some(line) = lines.next_line() else {
+            return Ok(());
+        };
+        append(store, line)?;
+        left -= 1;
+    }
+    Ok(())
+}
+
+/// The text of the lines of a document that are assembled.
+///
+/// # Errors
+///
+/// `AllocError` if there is no memory for it.
+pub fn load(alloc: Global, document: &[u8]) -> Result<Store, AllocError>
+    ensures { IfOk result (λ store. store ≡ assembled document.now) }
+{
+    let Ok(mut store) = Store::new(alloc, BASE) else {
+        unreachable!()
+    };
+    append_first(&mut store, Lines::new(document), MAX_LINES)?;
+    Ok(store)
+}

@@ -1,9 +1,0 @@
-use Rattle.std.proofs.Common.{append_assoc}
-use Rattle.rvls.specs.Published.{publication_head}
-use Rattle.rvls.proofs.publishing.begin_diagnostics.Goals as goal
-
-pub returns : goal.returns
-unfolding publication_head
-returns c =
-    rw (c.in_ok-begin_array.ensures, c.in_ok-key-2.ensures, c.in_ok-put_version.ensures, c.in_ok-put_string-2.ensures, c.in_ok-begin_object.ensures, c.in_ok-key.ensures, c.in_ok-put_string.ensures)
-    (simp append_assoc)
