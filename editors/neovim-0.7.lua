@@ -1,4 +1,5 @@
 -- Neovim 0.7, which Debian 12 has. Put this into init.lua; rvls has to be on the PATH, or RVLS has to name it.
+vim.g.do_filetype_lua = 1
 vim.filetype.add({ extension = { s = 'riscv', S = 'riscv' } })
 
 -- This Neovim knows no hints: they are shown as virtual text.
@@ -18,17 +19,22 @@ local function show_hints(client, buffer)
     vim.api.nvim_buf_clear_namespace(buffer, space, 0, -1)
     for _, hint in ipairs(hints or {}) do
       if hint.position.line < vim.api.nvim_buf_line_count(buffer) then
-        local text = { { hint.label, 'Comment' } }
-        vim.api.nvim_buf_set_extmark(buffer, space, hint.position.line, 0, { virt_text = text, virt_text_win_col = 48 })
+        -- They begin in one column, and diagnostics stand behind them.
+        local line = vim.api.nvim_buf_get_lines(buffer, hint.position.line, hint.position.line + 1, false)[1]
+        local text = string.rep(' ', 36 - vim.fn.strdisplaywidth(line)) .. hint.label
+        vim.api.nvim_buf_set_extmark(buffer, space, hint.position.line, 0, { virt_text = { { text, 'Comment' } }, priority = 1 })
       end
     end
   end, buffer)
 end
 
 local function attached(client, buffer)
-  for keys, action in pairs({ K = vim.lsp.buf.hover, gd = vim.lsp.buf.definition, gr = vim.lsp.buf.references }) do
+  local actions = { K = vim.lsp.buf.hover, gd = vim.lsp.buf.definition, gr = vim.lsp.buf.references, grn = vim.lsp.buf.rename }
+  for keys, action in pairs(actions) do
     vim.keymap.set('n', keys, action, { buffer = buffer })
   end
+  -- Completion by CTRL-X CTRL-O.
+  vim.bo[buffer].omnifunc = 'v:lua.vim.lsp.omnifunc'
   show_hints(client, buffer)
   vim.api.nvim_create_autocmd({ 'TextChanged', 'TextChangedI' }, {
     buffer = buffer,

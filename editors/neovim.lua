@@ -15,10 +15,13 @@ vim.api.nvim_create_autocmd('LspAttach', {
     if not client or client.name ~= 'rvls' then
       return
     end
-    -- Neovim 0.11 has K for hover by itself, and grr for references.
-    for keys, action in pairs({ K = vim.lsp.buf.hover, gd = vim.lsp.buf.definition, gr = vim.lsp.buf.references }) do
+    -- Neovim 0.11 has K for hover by itself, grr for references, and grn for another name.
+    local actions = { K = vim.lsp.buf.hover, gd = vim.lsp.buf.definition, gr = vim.lsp.buf.references, grn = vim.lsp.buf.rename }
+    for keys, action in pairs(actions) do
       vim.keymap.set('n', keys, action, { buffer = args.buf })
     end
+    -- Completion by CTRL-X CTRL-O.
+    vim.bo[args.buf].omnifunc = 'v:lua.vim.lsp.omnifunc'
     -- Hints at the ends of lines, from Neovim 0.10 on.
     if vim.lsp.inlay_hint and client.server_capabilities.inlayHintProvider then
       vim.lsp.inlay_hint.enable(true, { bufnr = args.buf })

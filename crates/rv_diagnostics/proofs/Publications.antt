@@ -52,8 +52,8 @@ diagnostics-are encoding uri given shown lines at long most left faults warnings
 
 -- Messages
 
-pub ended : (m m1 m2 : List Token) → m1 ≡ m ++ end_array ∷ [] → m2 ≡ m1 ++ end_object ∷ [] → m2 ++ end_object ∷ [] ≡ m ++ (end_array ∷ (end_object ∷ (end_object ∷ [])))
-ended m m1 m2 one two = rw (two, one) (simp append_assoc)
+pub ended : (m m1 : List Token) → m1 ≡ m ++ (end_array ∷ (end_object ∷ [])) → m1 ++ end_object ∷ [] ≡ m ++ (end_array ∷ (end_object ∷ (end_object ∷ [])))
+ended m m1 one = rw one (append_assoc m (end_array ∷ (end_object ∷ [])) (end_object ∷ []))
 
-pub published : (head said m0 m1 m2 : List Token) → m0 ≡ begin_object ∷ string_member (codes "jsonrpc") (codes "2.0") → m1 ≡ m0 ++ head → m2 ≡ m1 ++ said → m2 ++ (end_array ∷ (end_object ∷ (end_object ∷ []))) ≡ message (head ++ (said ++ (end_array ∷ (end_object ∷ []))))
-published head said m0 m1 m2 begun one two = rw (two, one, begun) (simp append_assoc)
+pub published : (head said m0 m1 : List Token) → m0 ≡ begin_object ∷ string_member (codes "jsonrpc") (codes "2.0") → m1 ≡ m0 ++ (head ++ said) → m1 ++ (end_array ∷ (end_object ∷ (end_object ∷ []))) ≡ message (head ++ (said ++ (end_array ∷ (end_object ∷ []))))
+published head said m0 m1 begun one = rw (one, begun) (simp append_assoc)

@@ -54,11 +54,16 @@ related_of uri Duplicate place = related_place uri place
 related_of uri FaultyEqu place = related_place uri place
 related_of uri number place = []
 
--- the diagnostic of a fault of a line, which has the number `line.number` from 1 on
+-- the diagnostic of a fault of a line, which has the number `line.number` from 1 on, with this message
+abbrev pub diagnostic_of_fault : Encoding → (uri : List ℕ) → Shown → Line → Fault → (message : List ℕ) → List Token
+diagnostic_of_fault encoding uri shown line fault message =
+    diagnostic (line.number - 1) (column_at encoding line.text fault.span.from) (column_at encoding line.text fault.span.to) 1 (fault_name fault.number)
+    message (related_of uri fault.number (shown.definition (part line.text fault.span)))
+
+-- the diagnostic of a fault of a line
 unfoldable pub fault_diagnostic : Encoding → (uri : List ℕ) → Environment → Shown → Line → Fault → List Token
 fault_diagnostic encoding uri given shown line fault =
-    diagnostic (line.number - 1) (column_at encoding line.text fault.span.from) (column_at encoding line.text fault.span.to) 1 (fault_name fault.number)
-    (utf8_lossy (message_of given shown line fault)) (related_of uri fault.number (shown.definition (part line.text fault.span)))
+    diagnostic_of_fault encoding uri shown line fault (utf8_lossy (message_of given shown line fault))
 
 -- the diagnostic of a warning about a line
 unfoldable pub warning_diagnostic : Encoding → (number : ℕ) → (text : List ℕ) → Warning → List Token

@@ -1,6 +1,22 @@
 -- What the server writes of JSON, as tokens, and the frames of texts. (Language Server Protocol 3.17, Base Protocol)
-use Rattle.std.specs.Prelude.{ℕ, List, [], ◌∷◌, ◌++◌, length, codes, decimal}
-use Rattle.json.specs.Token.{Token, begin_object, end_object, key, string, number}
+use Rattle.std.specs.Prelude.{ℕ, List, [], ◌∷◌, ◌++◌, length, map, codes, decimal}
+use Rattle.json.specs.Token.{Token, begin_object, end_object, begin_array, end_array, key, string, number}
+use Rattle.rv_diagnostics.specs.declared.part.Part.{Part}
+use Rattle.rv_diagnostics.specs.declared.part.Part.TheVariants as part
+
+-- a part of a message as a token
+abbrev pub token_of : Part → Token
+token_of part.BeginObject = begin_object
+token_of part.EndObject = end_object
+token_of part.BeginArray = begin_array
+token_of part.EndArray = end_array
+token_of (part.Key name) = key name.now
+token_of (part.Text text) = string text.now
+token_of (part.Number n) = number (decimal n)
+
+abbrev pub tokens_of : List Part → List Token
+tokens_of [] = []
+tokens_of (p ∷ ps) = token_of p ∷ tokens_of ps
 
 -- a text with its header
 abbrev pub frame : (body : List ℕ) → List ℕ

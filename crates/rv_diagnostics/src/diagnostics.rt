@@ -1,16 +1,17 @@
 //! Diagnostics as they are written: faults of lines, warnings about them, and lines past a limit.
 
-ghost use Rattle.std.specs.Prelude.{◌≡◌, ◌≤◌, ◌<◌, ◌^◌, ◌++◌, length, string_bytes, IfOk, OnOk};
+ghost use Rattle.std.specs.Prelude.{◌≡◌, ◌≤◌, ◌<◌, ◌^◌, ◌++◌, [], length, string_bytes, IfOk, OnOk};
 ghost use Rattle.std.specs.List.{flat_map};
 ghost use Rattle.std.specs.Str.Lossy.{utf8_lossy};
 ghost use Rattle.rv_list.specs.Faults.{body_faults, found};
 ghost use Rattle.rv_report.specs.Lines.{line_of};
 ghost use Rattle.rv_report.specs.Messages.{message_of};
 ghost use Rattle.rv_report.specs.Warnings.{warning_message, warning_seen};
-ghost use Rattle.rv_diagnostics.specs.Diagnostics.{column_at, diagnostic_head, fault_diagnostic, long_line, many_lines, more_diagnostics, related_line, related_of, related_place, warning_diagnostic};
+ghost use Rattle.rv_diagnostics.specs.Diagnostics.{column_at, diagnostic, diagnostic_head, diagnostic_of_fault, fault_diagnostic, long_line, many_lines, more_diagnostics, related_line, related_of, related_place, warning_diagnostic};
 ghost use Rattle.rv_diagnostics.specs.Windows.{passed, windowed};
 
 use crate::message::Message;
+use crate::part::Part;
 use crate::ranges::put_range;
 use crate::window::Window;
 use rv_doc::{Encoding, column_of};
@@ -67,22 +68,42 @@ fn limit_column(encoding: Encoding, line: &[u8]) -> u32
 
 // Begins a diagnostic: where it is, how grave, its code and what it says.
 #[tactic(auto, unfolding(crate::specs::Diagnostics::diagnostic_head))]
-fn begin_diagnostic(
+fn begin_diagnostic<'a>(
+    m: &mut Message,
+    place: Place,
+    severity: u64,
+    code: &'a str,
+    message: &'a str,
+) -> Result<(), AllocError>
+    ensures { OnOk result (m.new ≡ m.old ++ diagnostic_head place.line place.from place.to severity code.now message.now) }
+{
+    m.put_all(&[Part::BeginObject, Part::Key("range")])?;
+    put_range(m, place.line, place.from, place.to)?;
+    m.put_all(&[
+        Part::Key("severity"),
+        Part::Number(severity),
+        Part::Key("code"),
+        Part::Text(code),
+        Part::Key("source"),
+        Part::Text("rvls"),
+        Part::Key("message"),
+        Part::Text(message),
+    ])?;
+    Ok(())
+}
+
+// Writes a diagnostic to which nothing else belongs.
+fn put_diagnostic(
     m: &mut Message,
     place: Place,
     severity: u64,
     code: &str,
     message: &str,
 ) -> Result<(), AllocError>
-    ensures { OnOk result (m.new ≡ m.old ++ diagnostic_head place.line place.from place.to severity code.now message.now) }
+    ensures { OnOk result (m.new ≡ m.old ++ diagnostic place.line place.from place.to severity code.now message.now []) }
 {
-    m.begin_object()?;
-    m.key("range")?;
-    put_range(m, place.line, place.from, place.to)?;
-    m.put_number("severity", severity)?;
-    m.put_string("code", code)?;
-    m.put_string("source", "rvls")?;
-    m.put_string("message", message)?;
+    begin_diagnostic(m, place, severity, code, message)?;
+    m.end_object()?;
     Ok(())
 }
 
@@ -91,19 +112,24 @@ fn begin_diagnostic(
 fn put_related_line(m: &mut Message, uri: &str, line: u32) -> Result<(), AllocError>
     ensures { OnOk result (m.new ≡ m.old ++ related_line uri.now line) }
 {
-    let line = line.saturating_sub(1);
-    m.key("relatedInformation")?;
-    m.begin_array()?;
-    m.begin_object()?;
-    m.key("location")?;
-    m.begin_object()?;
-    m.put_string("uri", uri)?;
-    m.key("range")?;
-    put_range(m, line, 0, 0)?;
-    m.end_object()?;
-    m.put_string("message", "the first definition is here")?;
-    m.end_object()?;
-    m.end_array()?;
+    m.put_all(&[
+        Part::Key("relatedInformation"),
+        Part::BeginArray,
+        Part::BeginObject,
+        Part::Key("location"),
+        Part::BeginObject,
+        Part::Key("uri"),
+        Part::Text(uri),
+        Part::Key("range"),
+    ])?;
+    put_range(m, line.saturating_sub(1), 0, 0)?;
+    m.put_all(&[
+        Part::EndObject,
+        Part::Key("message"),
+        Part::Text("the first definition is here"),
+        Part::EndObject,
+        Part::EndArray,
+    ])?;
     Ok(())
 }
 
@@ -150,6 +176,30 @@ fn fault_text<N: Names, V: View>(
     String::from_utf8_lossy(alloc, bytes.as_slice())
 }
 
+// Writes the diagnostic of a fault, of which this is said.
+fn put_said<V: View>(
+    m: &mut Message,
+    context: &Context<'_>,
+    line: &FaultyLine<'_>,
+    view: &V,
+    fault: Fault,
+    said: &str,
+) -> Result<(), AllocError>
+    requires { length line.now.text.now ≤ 1000 }
+    ensures { OnOk result (m.new ≡ m.old ++ diagnostic_of_fault context.now.encoding context.now.uri.now (V.shown view.now) (line_of line.now) fault said.now) }
+{
+    let place = Place {
+        line: line.number.saturating_sub(1),
+        from: column_at(context.encoding, line.text, fault.span.from),
+        to: column_at(context.encoding, line.text, fault.span.to),
+    };
+    begin_diagnostic(m, place, ERROR, fault_name(fault.number), said)?;
+    let definition = view.definition(part(line.text, fault.span));
+    put_related(m, context.uri, fault.number, definition)?;
+    m.end_object()?;
+    Ok(())
+}
+
 // Writes the diagnostic of a fault.
 #[tactic(auto, unfolding(crate::specs::Diagnostics::fault_diagnostic))]
 fn put_fault<N: Names, V: View>(
@@ -165,16 +215,7 @@ fn put_fault<N: Names, V: View>(
     ensures { OnOk result (m.new ≡ m.old ++ fault_diagnostic context.now.encoding context.now.uri.now (N.environment names.now line.now.address) (V.shown view.now) (line_of line.now) fault) }
 {
     let said = fault_text(context.alloc, line, names, view, fault)?;
-    let place = Place {
-        line: line.number.saturating_sub(1),
-        from: column_at(context.encoding, line.text, fault.span.from),
-        to: column_at(context.encoding, line.text, fault.span.to),
-    };
-    let code = fault_name(fault.number);
-    begin_diagnostic(m, place, ERROR, code, said.as_str())?;
-    let definition = view.definition(part(line.text, fault.span));
-    put_related(m, context.uri, fault.number, definition)?;
-    m.end_object()?;
+    put_said(m, context, line, view, fault, said.as_str())?;
     Ok(())
 }
 
@@ -253,8 +294,7 @@ pub fn put_warning(
         to: column_at(context.encoding, text, warning.span.to),
     };
     let code = "label-as-register";
-    begin_diagnostic(m, place, WARNING, code, said.as_str())?;
-    m.end_object()?;
+    put_diagnostic(m, place, WARNING, code, said.as_str())?;
     Ok(())
 }
 
@@ -275,8 +315,7 @@ pub fn put_long_line(
         to: column,
     };
     let said = "a line has at most 1000 bytes";
-    begin_diagnostic(m, place, ERROR, "line-too-long", said)?;
-    m.end_object()?;
+    put_diagnostic(m, place, ERROR, "line-too-long", said)?;
     Ok(())
 }
 
@@ -291,8 +330,7 @@ pub fn put_many_lines(m: &mut Message) -> Result<(), AllocError>
         to: 0,
     };
     let said = "a text has at most 16384 lines";
-    begin_diagnostic(m, place, ERROR, "too-many-lines", said)?;
-    m.end_object()?;
+    put_diagnostic(m, place, ERROR, "too-many-lines", said)?;
     Ok(())
 }
 
@@ -307,7 +345,6 @@ pub fn put_more(m: &mut Message, alloc: Global, line: u32, more: usize) -> Resul
         to: 0,
     };
     let said = format!(in alloc; "{more} more faults and warnings are not shown")?;
-    begin_diagnostic(m, place, ERROR, "more", said.as_str())?;
-    m.end_object()?;
+    put_diagnostic(m, place, ERROR, "more", said.as_str())?;
     Ok(())
 }

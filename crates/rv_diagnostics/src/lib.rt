@@ -4,6 +4,7 @@
 mod counting;
 mod diagnostics;
 mod message;
+mod part;
 mod publishing;
 mod ranges;
 mod told;
@@ -11,6 +12,7 @@ mod window;
 
 pub use diagnostics::{Context, column_at};
 pub use message::Message;
+pub use part::Part;
 pub use publishing::{publish_lines, publish_none};
 pub use ranges::{put_position, put_range};
 pub use told::Told;

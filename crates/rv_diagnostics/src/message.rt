@@ -4,8 +4,9 @@ ghost use Rattle.std.specs.Prelude.{◌≡◌, ◌∷◌, ◌++◌, [], true, co
 ghost use Rattle.std.specs.Fmt.{signed_decimal};
 ghost use Rattle.json.specs.Print.{print};
 ghost use Rattle.json.specs.Token.{begin_object, end_object, begin_array, end_array, key, string, number, boolean, null};
-ghost use Rattle.rv_diagnostics.specs.Json.{frame, number_member, string_member};
+ghost use Rattle.rv_diagnostics.specs.Json.{frame, number_member, string_member, token_of, tokens_of};
 
+use crate::part::Part;
 use json::Writer;
 use std::alloc::{AllocError, Global};
 use std::marker::Model;
@@ -46,8 +47,7 @@ impl Message {
         let mut message = Message {
             writer: Writer::new(Vec::new(alloc)),
         };
-        message.begin_object()?;
-        message.put_string("jsonrpc", "2.0")?;
+        message.put_all(&[Part::BeginObject, Part::Key("jsonrpc"), Part::Text("2.0")])?;
         Ok(message)
     }
 
@@ -154,6 +154,32 @@ impl Message {
     {
         self.key(name)?;
         self.boolean(true)?;
+        Ok(())
+    }
+
+    // Writes a part.
+    fn put(&mut self, part: Part<'_>) -> Result<(), AllocError>
+        ensures { OnOk result (self.new ≡ self.old ++ token_of part.entry ∷ []) }
+    {
+        match part {
+            Part::BeginObject => self.writer.begin_object(),
+            Part::EndObject => self.writer.end_object(),
+            Part::BeginArray => self.writer.begin_array(),
+            Part::EndArray => self.writer.end_array(),
+            Part::Key(name) => self.writer.key(name),
+            Part::Text(text) => self.writer.string(text),
+            Part::Number(n) => self.writer.u64(n),
+        }
+    }
+
+    /// Writes parts, one after another.
+    pub fn put_all(&mut self, mut parts: &[Part<'_>]) -> Result<(), AllocError>
+        ensures { OnOk result (self.new ≡ self.old ++ tokens_of parts.entry.now) }
+    {
+        'parts: while let [part, later @ ..] = parts {
+            self.put(*part)?;
+            parts = later;
+        }
         Ok(())
     }
 }

@@ -17,6 +17,7 @@ use crate::diagnostics::{
     Context, put_faults, put_long_line, put_many_lines, put_more, put_warning,
 };
 use crate::message::Message;
+use crate::part::Part;
 use crate::told::Told;
 use crate::window::Window;
 use arrayvec::ArrayVec;
@@ -311,6 +312,23 @@ fn put_nearest<T: Told>(
     Ok(())
 }
 
+// Writes all of the message but its beginning and its end.
+fn put_publication<T: Told>(
+    m: &mut Message,
+    context: &Context<'_>,
+    version: Option<i64>,
+    document: &[u8],
+    told: &T,
+    at: u32,
+) -> Result<(), AllocError>
+    ensures { OnOk result (m.new ≡ m.old ++ (publication_head context.now.uri.now version
+        ++ diagnostics_of context.now.encoding context.now.uri.now (T.environments told.now) (T.View.shown told.now) (lines_of document.now) at)) }
+{
+    begin_diagnostics(m, context.uri, version)?;
+    put_nearest(m, context, document, told, at)?;
+    Ok(())
+}
+
 /// Appends the message with the diagnostics of a document, by its bytes and what is shown of it as a text, that are nearest to a line, by
 /// its number from 0 on.
 ///
@@ -329,8 +347,7 @@ pub fn publish_lines<T: Told>(
         ++ publication context.now.uri.now version (diagnostics_of context.now.encoding context.now.uri.now (T.environments told.now) (T.View.shown told.now) (lines_of document.now) at)) }
 {
     let mut m = Message::begin(context.alloc)?;
-    begin_diagnostics(&mut m, context.uri, version)?;
-    put_nearest(&mut m, context, document, told, at)?;
+    put_publication(&mut m, context, version, document, told, at)?;
     end_diagnostics(m, out)?;
     Ok(())
 }
@@ -366,13 +383,16 @@ fn put_version(m: &mut Message, version: Option<i64>) -> Result<(), AllocError>
 fn begin_diagnostics(m: &mut Message, uri: &str, version: Option<i64>) -> Result<(), AllocError>
     ensures { OnOk result (m.new ≡ m.old ++ publication_head uri.now version) }
 {
-    m.put_string("method", "textDocument/publishDiagnostics")?;
-    m.key("params")?;
-    m.begin_object()?;
-    m.put_string("uri", uri)?;
+    m.put_all(&[
+        Part::Key("method"),
+        Part::Text("textDocument/publishDiagnostics"),
+        Part::Key("params"),
+        Part::BeginObject,
+        Part::Key("uri"),
+        Part::Text(uri),
+    ])?;
     put_version(m, version)?;
-    m.key("diagnostics")?;
-    m.begin_array()?;
+    m.put_all(&[Part::Key("diagnostics"), Part::BeginArray])?;
     Ok(())
 }
 
@@ -380,8 +400,7 @@ fn begin_diagnostics(m: &mut Message, uri: &str, version: Option<i64>) -> Result
 fn end_diagnostics(mut m: Message, out: &mut Vec<u8>) -> Result<(), AllocError>
     ensures { OnOk result (out.new.items ≡ out.old.items ++ frame (print (m ++ (end_array ∷ (end_object ∷ (end_object ∷ [])))))) }
 {
-    m.end_array()?;
-    m.end_object()?;
+    m.put_all(&[Part::EndArray, Part::EndObject])?;
     m.end(out)?;
     Ok(())
 }

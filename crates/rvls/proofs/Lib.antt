@@ -1,1 +1,2 @@
 pub mod DocumentSymbols
+pub mod Modifiers

@@ -1,3 +1,4 @@
 pub mod DocumentSymbols
 pub mod Frames
 pub mod Names
+pub mod NewNames

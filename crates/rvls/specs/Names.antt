@@ -14,3 +14,8 @@ name_range encoding number text span = range (number - 1) (column_at encoding te
 unfoldable pub location : Encoding → (uri : List ℕ) → (number : ℕ) → (text : List ℕ) → Span → List Token
 location encoding uri number text span =
     begin_object ∷ (string_member (codes "uri") uri ++ (key (codes "range") ∷ (name_range encoding number text span ++ end_object ∷ [])))
+
+-- an edit that puts another text in its place (Language Server Protocol 3.17, TextEdit)
+unfoldable pub text_edit : Encoding → (number : ℕ) → (text : List ℕ) → Span → (new_text : List ℕ) → List Token
+text_edit encoding number text span new_text =
+    begin_object ∷ (key (codes "range") ∷ (name_range encoding number text span ++ (string_member (codes "newText") new_text ++ end_object ∷ [])))

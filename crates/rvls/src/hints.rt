@@ -1,22 +1,21 @@
 //! Hints beside lines: their addresses and first bytes.
 
-ghost use Rattle.std.specs.Prelude.{◌≤◌, length};
-
+use crate::comments::end_of;
 use crate::hover::hint_text;
+use crate::names::text_of;
 use rv_diagnostics::{Message, column_at, put_position};
 use rv_doc::Encoding;
 use rv_list::{LineSource, LineView, View};
-use rv_text::MAX_LINE_LENGTH;
 use std::alloc::{AllocError, Global};
 
-// The column at the end of a line, before the carriage return that belongs to its end.
-fn end_column(encoding: Encoding, text: &[u8]) -> u32 {
-    let (text, _) = text.split_at(text.len().min(MAX_LINE_LENGTH));
-    let end = match text.split_last() {
-        Some((b'\r', before)) => before.len(),
-        _ => text.len(),
-    };
-    column_at(encoding, text, end as u32)
+// The column at the end of a line.
+fn end_column(encoding: Encoding, line: &LineView<'_>) -> u32 {
+    let text = text_of(line);
+    column_at(
+        encoding,
+        text,
+        u32::try_from(end_of(text)).unwrap_or(u32::MAX),
+    )
 }
 
 // Writes the hint of a line, by its number from 0 on.
@@ -30,7 +29,7 @@ fn put_hint(
     let text = hint_text(alloc, line)?;
     m.begin_object()?;
     m.key("position")?;
-    put_position(m, number, end_column(encoding, line.text))?;
+    put_position(m, number, end_column(encoding, line))?;
     m.put_string("label", text.as_str())?;
     m.put_true("paddingLeft")?;
     m.end_object()

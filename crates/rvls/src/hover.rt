@@ -1,6 +1,6 @@
 //! What is shown of a line: its address and bytes, the instructions that it stands for, and the value of a name.
 
-use crate::name_at::meaning_at;
+use crate::name_at::name_at;
 use crate::places::lines_to;
 use crate::symbol_text::push_meaning;
 use rv_diagnostics::Context;
@@ -99,9 +99,9 @@ fn push_said<V: View>(
     column: u32,
 ) -> Result<(), AllocError> {
     let alloc = context.alloc;
-    let meaning = meaning_at(alloc, context.encoding, view, number, line, column)?;
-    if let Some(meaning) = meaning {
-        push_meaning(text, view, &meaning)?;
+    let name = name_at(alloc, context.encoding, view, number, line, column)?;
+    if let Some(name) = name {
+        push_meaning(text, view, &name.meaning)?;
         if line.place.size > 0 {
             text.push(b"\n")?;
         }

@@ -1,6 +1,8 @@
 //! A language server: messages of an editor come in over standard input, answers and diagnostics go out over standard output.
 #![tactic(auto)]
 
+mod comments;
+mod completion;
 mod definition;
 mod document_symbols;
 mod frame;
@@ -11,11 +13,16 @@ mod meaning;
 mod name_at;
 mod name_uses;
 mod names;
+mod new_names;
+mod operand_lists;
 mod places;
 mod references;
+mod rename;
 mod run;
+mod semantic_tokens;
 mod server;
 mod symbol_text;
+mod typed;
 mod writing;
 
 use run::{RunError, run};

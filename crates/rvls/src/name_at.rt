@@ -1,11 +1,19 @@
 //! The name at a position.
 
-use crate::meaning::{Meaning, as_written, meaning_of};
+use crate::meaning::{Meaning, Written, as_written, meaning_of};
 use crate::names::{NameSpan, names_in, text_of};
 use rv_doc::{Encoding, before_column};
 use rv_list::{LineView, View};
 use rv_show::part;
+use rv_text::Span;
 use std::alloc::{AllocError, Global};
+
+/// A name of a line: what it means, and where it stands, without the letter of a reference to a local label.
+#[derive(Clone, Copy)]
+pub struct Named<'a> {
+    pub meaning: Meaning<'a>,
+    pub span: Span,
+}
 
 // The first name that a place touches: one that ends there counts.
 fn touched(mut names: &[NameSpan], at: usize) -> Option<NameSpan> {
@@ -18,27 +26,42 @@ fn touched(mut names: &[NameSpan], at: usize) -> Option<NameSpan> {
     None
 }
 
-/// What the name at a column of a line means, if there is one and it means something. The line has this number, from 1 on.
+/// Where a name of a line stands without the letter of a reference to a local label.
+pub fn without_letter(text: &[u8], span: Span) -> Span {
+    match as_written(part(text, span)) {
+        Some(Written::Back(_) | Written::Forward(_)) => Span {
+            from: span.from,
+            to: span.to.saturating_sub(1),
+        },
+        _ => span,
+    }
+}
+
+/// The name at a column of a line, if there is one and it means something. The line has this number, from 1 on.
 ///
 /// # Errors
 ///
 /// `AllocError` if there is no memory for the names of the line.
-pub fn meaning_at<'a, V: View>(
+pub fn name_at<'a, V: View>(
     alloc: Global,
     encoding: Encoding,
     view: &V,
     number: u32,
     line: &LineView<'a>,
     column: u32,
-) -> Result<Option<Meaning<'a>>, AllocError> {
+) -> Result<Option<Named<'a>>, AllocError> {
     let text = text_of(line);
     let names = names_in(alloc, line)?;
     let at = before_column(encoding, text, column);
     let Some(name) = touched(names.as_slice(), at) else {
         return Ok(None);
     };
-    let Some(name) = as_written(part(text, name.span)) else {
+    let Some(written) = as_written(part(text, name.span)) else {
         return Ok(None);
     };
-    Ok(meaning_of(view, number, name))
+    let Some(meaning) = meaning_of(view, number, written) else {
+        return Ok(None);
+    };
+    let span = without_letter(text, name.span);
+    Ok(Some(Named { meaning, span }))
 }

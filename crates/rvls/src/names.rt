@@ -6,7 +6,7 @@ use crate::name_uses::{Expected, expected_after, is_name};
 use rv_list::LineView;
 use rv_show::{first_bytes, part};
 use rv_stmt::{Body, LabelSlice, Operand};
-use rv_text::{MAX_LINE_LENGTH, Span, tokens};
+use rv_text::{MAX_LINE_LENGTH, Span, TokenKind, tokens};
 use std::alloc::{AllocError, Global};
 
 /// What a name does in a line.
@@ -85,6 +85,11 @@ fn is_in_operand(body: &Body, span: Span) -> bool {
     }
 }
 
+/// Whether a token is a name in an operand, where that is expected.
+pub fn is_use(expected: Expected, kind: TokenKind, text: &[u8], body: &Body, span: Span) -> bool {
+    is_name(expected, kind, text) && is_in_operand(body, span)
+}
+
 // Adds the names that the operands of a line use.
 fn push_used(
     names: &mut Vec<NameSpan>,
@@ -101,7 +106,7 @@ fn push_used(
     let mut left = found.tokens();
     'tokens: while let [token, later @ ..] = left {
         let bytes = part(text, token.span);
-        if is_name(expected, token.kind, bytes) && is_in_operand(body, token.span) {
+        if is_use(expected, token.kind, bytes, body, token.span) {
             names.push(NameSpan {
                 span: token.span,
                 standing: Standing::Use,

@@ -1,12 +1,18 @@
 //! Where names are used.
 
+ghost use Rattle.std.specs.Prelude.{◌≡◌, ◌++◌, ◌≤◌, length, OnOk};
+ghost use Rattle.rvls.specs.Names.{text_edit};
+
 use crate::definition::is_definition;
 use crate::meaning::{Meaning, as_written};
+use crate::name_at::without_letter;
 use crate::names::{NameSpan, names_in, text_of};
-use crate::places::put_location;
-use rv_diagnostics::{Context, Message};
+use crate::places::{put_location, put_name_range};
+use rv_diagnostics::{Context, Message, Part};
+use rv_doc::Encoding;
 use rv_list::{LineSource, LineView, View};
 use rv_show::part;
+use rv_text::Span;
 use std::alloc::AllocError;
 
 /// Which places of a name are asked for.
@@ -15,6 +21,8 @@ pub struct Wanted<'a> {
     pub meaning: Meaning<'a>,
     /// Whether that of the definition is one of them.
     pub with_definition: bool,
+    /// The text that is put there, if the places are those of edits.
+    pub new_text: Option<&'a str>,
 }
 
 // Whether a name of a line is asked for.
@@ -34,6 +42,44 @@ fn is_wanted<V: View>(
     wanted.with_definition || !is_definition(view, number, name_written, name.standing)
 }
 
+// Writes an edit that puts a text in the place of a name, in a line by its number from 1 on. What refers to a local label keeps its letter.
+#[tactic(auto, unfolding(crate::specs::Names::text_edit))]
+fn put_edit(
+    m: &mut Message,
+    encoding: Encoding,
+    number: u32,
+    text: &[u8],
+    span: Span,
+    new_text: &str,
+) -> Result<(), AllocError>
+    requires { length text.now ≤ 1000 }
+    ensures { OnOk result (m.new ≡ m.old ++ text_edit encoding number text.now span new_text.now) }
+{
+    m.put_all(&[Part::BeginObject, Part::Key("range")])?;
+    put_name_range(m, encoding, number, text, span)?;
+    m.put_all(&[Part::Key("newText"), Part::Text(new_text), Part::EndObject])
+}
+
+// Writes the place of a name in a line, or an edit of it.
+fn put_place(
+    m: &mut Message,
+    context: &Context<'_>,
+    wanted: &Wanted<'_>,
+    number: u32,
+    text: &[u8],
+    span: Span,
+) -> Result<(), AllocError>
+    requires { length text.now ≤ 1000 }
+{
+    match wanted.new_text {
+        Some(new_text) => {
+            let span = without_letter(text, span);
+            put_edit(m, context.encoding, number, text, span, new_text)
+        }
+        None => put_location(m, context, number, text, span),
+    }
+}
+
 // Writes the places in a line.
 fn put_line<V: View>(
     m: &mut Message,
@@ -48,7 +94,7 @@ fn put_line<V: View>(
     let mut left = names.as_slice();
     'names: while let [name, later @ ..] = left {
         if is_wanted(view, wanted, number, text, name) {
-            put_location(m, context, number, text, name.span)?;
+            put_place(m, context, wanted, number, text, name.span)?;
         }
         left = later;
     }

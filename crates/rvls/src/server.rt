@@ -5,8 +5,11 @@ ghost use Rattle.std.specs.Prelude.{◌≡◌, ◌≤◌, ◌<◌, length, IfSom
 use crate::hints::put_hints;
 use crate::hover::hover_text;
 use crate::looking_up::{put_answer, question_in};
-use crate::writing::{Refusal, answer_null, answer_text, begin_result, refuse, show_error};
-use rv_diagnostics::{Context, Message, publish_none};
+use crate::semantic_tokens::TOKEN_TYPES;
+use crate::writing::{
+    Failure, Refusal, answer_null, answer_text, begin_result, refuse, show_error,
+};
+use rv_diagnostics::{Context, Message, Part, publish_none};
 use rv_doc::Encoding;
 use rv_live::{Assembly, number_at, position_of, publish, text_at};
 use serde_json::Value;
@@ -94,8 +97,61 @@ fn encoding_name(encoding: Encoding) -> &'static str {
     }
 }
 
+// Writes that names can be changed, and asked about before: that only where the client does so.
+fn put_rename_provider(m: &mut Message, message: &Value) -> Result<(), AllocError> {
+    let prepares = message.pointer("/params/capabilities/textDocument/rename/prepareSupport");
+    if prepares.and_then(Value::as_bool) != Some(true) {
+        return m.put_true("renameProvider");
+    }
+    m.key("renameProvider")?;
+    m.begin_object()?;
+    m.put_true("prepareProvider")?;
+    m.end_object()
+}
+
+// Writes which characters begin a name that can be completed, beside letters.
+fn put_completion_provider(m: &mut Message) -> Result<(), AllocError> {
+    m.put_all(&[
+        Part::Key("completionProvider"),
+        Part::BeginObject,
+        Part::Key("triggerCharacters"),
+        Part::BeginArray,
+        Part::Text("."),
+        Part::Text("%"),
+        Part::EndArray,
+        Part::EndObject,
+    ])
+}
+
+// Writes what tokens can be.
+fn put_tokens_provider(m: &mut Message) -> Result<(), AllocError> {
+    m.put_all(&[
+        Part::Key("semanticTokensProvider"),
+        Part::BeginObject,
+        Part::Key("legend"),
+        Part::BeginObject,
+        Part::Key("tokenTypes"),
+        Part::BeginArray,
+    ])?;
+    m.put_all(&TOKEN_TYPES)?;
+    m.put_all(&[
+        Part::EndArray,
+        Part::Key("tokenModifiers"),
+        Part::BeginArray,
+        Part::EndArray,
+        Part::EndObject,
+    ])?;
+    m.put_true("full")?;
+    m.put_true("range")?;
+    m.end_object()
+}
+
 // Writes what the server can do.
-fn put_capabilities(m: &mut Message, encoding: Encoding) -> Result<(), AllocError> {
+fn put_capabilities(
+    m: &mut Message,
+    encoding: Encoding,
+    message: &Value,
+) -> Result<(), AllocError> {
     m.key("capabilities")?;
     m.begin_object()?;
     m.put_string("positionEncoding", encoding_name(encoding))?;
@@ -107,6 +163,9 @@ fn put_capabilities(m: &mut Message, encoding: Encoding) -> Result<(), AllocErro
     for provider in &PROVIDERS {
         m.put_true(provider)?;
     }
+    put_rename_provider(m, message)?;
+    put_completion_provider(m)?;
+    put_tokens_provider(m)?;
     m.end_object()
 }
 
@@ -171,7 +230,7 @@ impl Server {
         self.phase = Phase::Running;
         let mut m = begin_result(self.alloc, message.get("id"))?;
         m.begin_object()?;
-        put_capabilities(&mut m, self.encoding)?;
+        put_capabilities(&mut m, self.encoding, message)?;
         put_server(&mut m)?;
         m.end_object()?;
         m.end(out)
@@ -278,8 +337,14 @@ impl Server {
             }
             "textDocument/hover" => self.hover(message, out),
             "textDocument/inlayHint" => self.hints(message, out),
-            "textDocument/definition" | "textDocument/references" | "textDocument/documentSymbol" =>
-                self.look_up(method, message, out),
+            "textDocument/definition"
+            | "textDocument/references"
+            | "textDocument/documentSymbol"
+            | "textDocument/prepareRename"
+            | "textDocument/rename"
+            | "textDocument/completion"
+            | "textDocument/semanticTokens/full"
+            | "textDocument/semanticTokens/range" => self.look_up(method, message, out),
             _ => refuse(self.alloc, id, Refusal::UnknownMethod, out),
         }
     }
@@ -291,7 +356,7 @@ impl Server {
         self.documents.get(at)
     }
 
-    // Answers a question about names.
+    // Answers a question about a document.
     fn look_up(&self, method: &str, message: &Value, out: &mut Vec<u8>) -> Result<(), AllocError> {
         let id = message.get("id");
         let (Some(open), Some(question)) = (self.asked_about(message), question_in(method, message))
@@ -300,8 +365,11 @@ impl Server {
         };
         let context = self.context(open.uri.as_str());
         let mut m = begin_result(self.alloc, id)?;
-        put_answer(&mut m, &context, &open.document.store(), question)?;
-        m.end(out)
+        match put_answer(&mut m, &context, &open.document.store(), question) {
+            Ok(()) => m.end(out),
+            Err(Failure::Refused(refusal)) => refuse(self.alloc, id, refusal, out),
+            Err(Failure::Memory) => Err(AllocError),
+        }
     }
 
     // Says what a name and its line are.

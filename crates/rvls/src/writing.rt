@@ -1,6 +1,6 @@
 //! What the server writes.
 
-use rv_diagnostics::Message;
+use rv_diagnostics::{Message, Part};
 use serde_json::Value;
 use std::alloc::{AllocError, Global};
 
@@ -40,13 +40,17 @@ pub fn answer_text(
     out: &mut Vec<u8>,
 ) -> Result<(), AllocError> {
     let mut message = begin_result(alloc, id)?;
-    message.begin_object()?;
-    message.key("contents")?;
-    message.begin_object()?;
-    message.put_string("kind", "plaintext")?;
-    message.put_string("value", text)?;
-    message.end_object()?;
-    message.end_object()?;
+    message.put_all(&[
+        Part::BeginObject,
+        Part::Key("contents"),
+        Part::BeginObject,
+        Part::Key("kind"),
+        Part::Text("plaintext"),
+        Part::Key("value"),
+        Part::Text(text),
+        Part::EndObject,
+        Part::EndObject,
+    ])?;
     message.end(out)
 }
 
@@ -60,6 +64,28 @@ pub enum Refusal {
     NotInitialized,
     ShutDown,
     InitializedTwice,
+    /// No name stands there that the text defines.
+    NoName,
+    /// The new name cannot be that of a symbol.
+    NoSymbolName,
+    /// The new name cannot be that of a local label.
+    NoLocalName,
+    /// The new name would mean something else as well.
+    NameTaken,
+    /// A line would be too long.
+    LineTooLong,
+}
+
+/// Why a request is not answered.
+pub enum Failure {
+    Refused(Refusal),
+    Memory,
+}
+
+impl From<AllocError> for Failure {
+    fn from(_: AllocError) -> Self {
+        Failure::Memory
+    }
 }
 
 impl Refusal {
@@ -71,6 +97,11 @@ impl Refusal {
             Refusal::UnknownMethod => -32601,
             Refusal::WrongParameters => -32602,
             Refusal::NotInitialized => -32002,
+            Refusal::NoName
+            | Refusal::NoSymbolName
+            | Refusal::NoLocalName
+            | Refusal::NameTaken
+            | Refusal::LineTooLong => -32803,
         }
     }
 
@@ -84,8 +115,30 @@ impl Refusal {
             Refusal::NotInitialized => "'initialize' comes first",
             Refusal::ShutDown => "the server was shut down",
             Refusal::InitializedTwice => "the server is initialized",
+            Refusal::NoName => "there is no name here that the text defines",
+            Refusal::NoSymbolName =>
+                "a symbol has letters, digits, '_', '.' and '$', begins with no digit, and is spelled like no register",
+            Refusal::NoLocalName => "a local label is a number from 0 to 9999",
+            Refusal::NameTaken => "the new name is in use, and would mean something else",
+            Refusal::LineTooLong => "a line would have more than 1000 bytes",
         }
     }
+}
+
+// Writes which request is refused, and why.
+fn put_refusal(
+    message: &mut Message,
+    id: Option<&Value>,
+    refusal: Refusal,
+) -> Result<(), AllocError> {
+    put_id(message, id)?;
+    message.put_all(&[Part::Key("error"), Part::BeginObject, Part::Key("code")])?;
+    message.signed(refusal.code())?;
+    message.put_all(&[
+        Part::Key("message"),
+        Part::Text(refusal.text()),
+        Part::EndObject,
+    ])
 }
 
 /// Refuses a request.
@@ -96,24 +149,23 @@ pub fn refuse(
     out: &mut Vec<u8>,
 ) -> Result<(), AllocError> {
     let mut message = Message::begin(alloc)?;
-    put_id(&mut message, id)?;
-    message.key("error")?;
-    message.begin_object()?;
-    message.key("code")?;
-    message.signed(refusal.code())?;
-    message.put_string("message", refusal.text())?;
-    message.end_object()?;
+    put_refusal(&mut message, id, refusal)?;
     message.end(out)
 }
 
 /// Shows the user that something went wrong.
 pub fn show_error(alloc: Global, text: &str, out: &mut Vec<u8>) -> Result<(), AllocError> {
     let mut message = Message::begin(alloc)?;
-    message.put_string("method", "window/showMessage")?;
-    message.key("params")?;
-    message.begin_object()?;
-    message.put_number("type", 1)?;
-    message.put_string("message", text)?;
-    message.end_object()?;
+    message.put_all(&[
+        Part::Key("method"),
+        Part::Text("window/showMessage"),
+        Part::Key("params"),
+        Part::BeginObject,
+        Part::Key("type"),
+        Part::Number(1),
+        Part::Key("message"),
+        Part::Text(text),
+        Part::EndObject,
+    ])?;
     message.end(out)
 }

@@ -1,4 +1,5 @@
-use Rattle.std.proofs.Common.{append_assoc, ◌++◌, ap, refl, ◌∙◌}
+use Rattle.std.proofs.Common.{◌++◌, ◌∷◌, [], ap, refl, ◌∙◌}
+use Rattle.json.specs.Token.{end_object}
 use Rattle.rv_diagnostics.proofs.Written.{same_head}
 use Rattle.rv_diagnostics.specs.Diagnostics.{more_diagnostics}
 use Rattle.rv_diagnostics.proofs.diagnostics.put_more.Goals as goal
@@ -7,4 +8,4 @@ pub returns : goal.returns
 unfolding more_diagnostics
 returns c =
     let head = same_head _ _ _ _ _ _ 1 _ _ _ _ refl refl refl refl (c.as_str.ensures.value ∙ c.in_ok-said.ensures.ok) in
-    rw (c.in_ok-end_object.ensures, c.in_ok-begin_diagnostic.ensures ∙ ap (λ h. c.args.m.now ++ h) head) (simp append_assoc)
+    c.in_ok-put_diagnostic.ensures ∙ ap (λ h. c.args.m.now ++ (h ++ end_object ∷ [])) head

@@ -7,4 +7,4 @@ use Rattle.rv_diagnostics.proofs.publishing.end_diagnostics.Goals as goal
 pub returns : goal.returns
 returns c =
     c.in_ok-end.ensures
-    ∙ ap (λ t. c.args.out.now.items ++ frame (print t)) (ended _ _ _ c.in_ok-end_array.ensures c.in_ok-end_object.ensures)
+    ∙ ap (λ t. c.args.out.now.items ++ frame (print t)) (ended _ _ c.in_ok-put_all.ensures)

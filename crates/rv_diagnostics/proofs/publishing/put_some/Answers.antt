@@ -17,8 +17,8 @@ returns g c =
     let shown = g.T.View.shown c.args.told.now in
     let context = c.args.context.now in
     let few : c.min.result ≡ min (fault_count shown) MOST = omega (arith, c.min.ensures, c.requires) in
-    let most : c.searched.result ≡ searched (min (fault_count shown) MOST) = c.searched.ensures ∙ ap searched few in
-    let first = ap (take c.searched.result) c.as_slice.ensures.value ∙ c.in_ok-symbols.ensures.first ∙ ap (λ n. take n (symbols_of shown)) most in
+    let most : c.searched-most.result ≡ searched (min (fault_count shown) MOST) = c.searched-most.ensures ∙ ap searched few in
+    let first = ap (take c.searched-most.result) c.as_slice.ensures.value ∙ c.in_ok-symbols.ensures.first ∙ ap (λ n. take n (symbols_of shown)) most in
     let named : map (λ s. s.now) c.as_slice-2.result.now ≡ searched_names shown (fault_count shown) =
     ap (map (λ s. s.now)) c.as_slice-2.ensures.value ∙ c.in_ok-names.ensures ∙ ap (map (λ s. s.name)) first in
     subst (λ (names : List (List ℕ)). OnOk c.put_lines.result (c.put_lines.new.m ≡ c.args.m.now ++ shown_in c.args.window.now (all_diagnostics context.encoding context.uri.now (g.T.Told.environments c.args.told.now) shown names))) named c.put_lines.ensures

@@ -24,8 +24,8 @@ returns-in_err-write_first-clause-text g c =
     let store = c.args.store.now in
     let wanted = c.args.wanted in
     let shown : c.min.result ≡ min (report_count store) wanted.most = omega (arith, c.min.ensures, c.requires.reported) in
-    let count : c.searched.result ≡ searched (min (report_count store) wanted.most) = c.searched.ensures ∙ ap searched shown in
-    let first = ap (λ l. take c.searched.result l) c.as_slice.ensures.value ∙ c.in_ok-symbols.ensures.first ∙ ap (λ n. take n (symbols_of (shown_of store))) count in
+    let count : c.searched-searched.result ≡ searched (min (report_count store) wanted.most) = c.searched-searched.ensures ∙ ap searched shown in
+    let first = ap (λ l. take c.searched-searched.result l) c.as_slice.ensures.value ∙ c.in_ok-symbols.ensures.first ∙ ap (λ n. take n (symbols_of (shown_of store))) count in
     let named : map (λ s. s.now) c.as_slice-2.result.now ≡ searched_symbols store (min (report_count store) wanted.most) =
     ap (map (λ s. s.now)) c.as_slice-2.ensures.value ∙ c.in_ok-names.ensures ∙ ap (map (λ s. s.name)) first in
     let lost = rw named at c.in_err-write_first.ensures.text in
@@ -37,8 +37,8 @@ returns-clause-text g c =
     let store = c.args.store.now in
     let wanted = c.args.wanted in
     let shown : c.min.result ≡ min (report_count store) wanted.most = omega (arith, c.min.ensures, c.requires.reported) in
-    let count : c.searched.result ≡ searched (min (report_count store) wanted.most) = c.searched.ensures ∙ ap searched shown in
-    let first = ap (λ l. take c.searched.result l) c.as_slice.ensures.value ∙ c.in_ok-symbols.ensures.first ∙ ap (λ n. take n (symbols_of (shown_of store))) count in
+    let count : c.searched-searched.result ≡ searched (min (report_count store) wanted.most) = c.searched-searched.ensures ∙ ap searched shown in
+    let first = ap (λ l. take c.searched-searched.result l) c.as_slice.ensures.value ∙ c.in_ok-symbols.ensures.first ∙ ap (λ n. take n (symbols_of (shown_of store))) count in
     let named : map (λ s. s.now) c.as_slice-2.result.now ≡ searched_symbols store (min (report_count store) wanted.most) =
     ap (map (λ s. s.now)) c.as_slice-2.ensures.value ∙ c.in_ok-names.ensures ∙ ap (map (λ s. s.name)) first in
     let reports = rw named at c.in_ok-write_first.ensures.text in

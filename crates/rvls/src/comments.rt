@@ -1,0 +1,29 @@
+//! Where lines end, and their comments.
+
+use rv_show::bytes_from;
+use rv_text::{Span, Tokens};
+
+/// How many bytes stand before the end of a line, and the carriage return that belongs to it.
+pub fn end_of(text: &[u8]) -> usize {
+    match text.split_last() {
+        Some((b'\r', before)) => before.len(),
+        _ => text.len(),
+    }
+}
+
+/// The comment of a line, without the carriage return that belongs to the end of the line.
+pub fn comment_in(text: &[u8], found: &Tokens<'_>) -> Option<Span> {
+    if found.fault().is_some() {
+        return None;
+    }
+    let end = match found.tokens().last() {
+        Some(token) => token.span.to,
+        None => 0,
+    };
+    let rest = bytes_from(text, end as usize);
+    let at = rest.iter().position(|byte| !byte.is_ascii_whitespace())?;
+    Some(Span {
+        from: end.saturating_add(u32::try_from(at).ok()?),
+        to: u32::try_from(end_of(text)).ok()?,
+    })
+}

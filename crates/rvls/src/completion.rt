@@ -1,0 +1,280 @@
+//! Names that may be typed at a place.
+
+use crate::name_uses::Expected;
+use crate::names::text_of;
+use crate::operand_lists::{NameKinds, directive_words, names_taken, slot_words};
+use crate::typed::{Typed, typed_in};
+use rv_diagnostics::{Context, Message, Part, column_at, put_range};
+use rv_doc::{Position, before_column};
+use rv_files::symbols;
+use rv_list::{LineView, View};
+use rv_ops::{CSRS, Reg, TABLE, TableRow, reg_name};
+use rv_show::{first_bytes, part};
+use rv_stmt::{
+    DIRECTIVES, DirectiveForm, DirectiveKind, DirectiveRow, FORMS, FormRow, operand_slots, set_name,
+};
+use rv_text::Span;
+use std::alloc::{AllocError, Global};
+
+// What an item is. (Language Server Protocol 3.17, CompletionItemKind)
+const FUNCTION: u64 = 3;
+
+const VARIABLE: u64 = 6;
+
+const MODULE: u64 = 9;
+
+const KEYWORD: u64 = 14;
+
+const CONSTANT: u64 = 21;
+
+const OPERATOR: u64 = 24;
+
+// The modifiers of the upper part of a value, and of the lower part, with the parenthesis behind them.
+const HIGH_PARTS: [&str; 2] = ["%hi(", "%pcrel_hi("];
+
+const LOW_PARTS: [&str; 2] = ["%lo(", "%pcrel_lo("];
+
+// The word that is being typed: its bytes, its line from 0 on, and its columns.
+#[derive(Clone, Copy)]
+struct Word<'a> {
+    bytes: &'a [u8],
+    line: u32,
+    from: u32,
+    to: u32,
+}
+
+// Whether a name begins with some bytes, in either letter case.
+fn begins_with(name: &str, beginning: &[u8]) -> bool {
+    first_bytes(name.as_bytes(), beginning.len()).eq_ignore_ascii_case(beginning)
+}
+
+// Writes a name that may stand in the place of a word, if it begins with it.
+fn put_item<'a>(
+    m: &mut Message,
+    word: &Word<'_>,
+    name: &'a str,
+    kind: u64,
+    detail: &'a str,
+) -> Result<(), AllocError> {
+    if !begins_with(name, word.bytes) {
+        return Ok(());
+    }
+    m.put_all(&[
+        Part::BeginObject,
+        Part::Key("label"),
+        Part::Text(name),
+        Part::Key("kind"),
+        Part::Number(kind),
+        Part::Key("detail"),
+        Part::Text(detail),
+        Part::Key("textEdit"),
+        Part::BeginObject,
+        Part::Key("range"),
+    ])?;
+    put_range(m, word.line, word.from, word.to)?;
+    m.put_all(&[
+        Part::Key("newText"),
+        Part::Text(name),
+        Part::EndObject,
+        Part::EndObject,
+    ])
+}
+
+// Writes the operations.
+fn put_operations(
+    m: &mut Message,
+    alloc: Global,
+    word: &Word<'_>,
+    mut rows: &[TableRow],
+) -> Result<(), AllocError> {
+    'rows: while let [row, later @ ..] = rows {
+        let words = slot_words(alloc, operand_slots(row.2))?;
+        put_item(m, word, row.1, KEYWORD, words.as_str())?;
+        rows = later;
+    }
+    Ok(())
+}
+
+// Writes the pseudo-instructions, and the further ways to write operations.
+fn put_forms(
+    m: &mut Message,
+    alloc: Global,
+    word: &Word<'_>,
+    mut rows: &[FormRow],
+) -> Result<(), AllocError> {
+    'rows: while let [row, later @ ..] = rows {
+        let words = slot_words(alloc, row.3)?;
+        put_item(m, word, row.0, KEYWORD, words.as_str())?;
+        rows = later;
+    }
+    Ok(())
+}
+
+// Writes the directives, or those alone that are sections.
+fn put_directives(
+    m: &mut Message,
+    word: &Word<'_>,
+    mut rows: &[DirectiveRow],
+    kind: u64,
+) -> Result<(), AllocError> {
+    'rows: while let [row, later @ ..] = rows {
+        let form = DirectiveForm {
+            count: row.1,
+            kind: row.2,
+        };
+        if kind == KEYWORD || matches!(row.2, DirectiveKind::Switch(_)) {
+            put_item(m, word, row.0, kind, directive_words(form))?;
+        }
+        rows = later;
+    }
+    Ok(())
+}
+
+// Writes the registers.
+fn put_registers(m: &mut Message, word: &Word<'_>) -> Result<(), AllocError> {
+    for number in 0..32 {
+        if let Some(register) = Reg::new(number) {
+            put_item(m, word, reg_name(register), VARIABLE, "register")?;
+        }
+    }
+    Ok(())
+}
+
+// Writes the sets of fences.
+fn put_sets(m: &mut Message, word: &Word<'_>) -> Result<(), AllocError> {
+    for number in 0..32 {
+        if let Some(set) = Reg::new(number) {
+            if let Some(name) = set_name(set) {
+                put_item(m, word, name, CONSTANT, "set")?;
+            }
+        }
+    }
+    Ok(())
+}
+
+// Writes the control and status registers.
+fn put_csrs(m: &mut Message, word: &Word<'_>, mut rows: &[(u16, &str)]) -> Result<(), AllocError> {
+    'rows: while let [row, later @ ..] = rows {
+        put_item(m, word, row.1, VARIABLE, "control and status register")?;
+        rows = later;
+    }
+    Ok(())
+}
+
+// Writes modifiers.
+fn put_modifiers(m: &mut Message, word: &Word<'_>, names: &[&str]) -> Result<(), AllocError> {
+    for name in names {
+        put_item(m, word, name, OPERATOR, "modifier")?;
+    }
+    Ok(())
+}
+
+// Writes the symbols of a text. Those of `.equ`s belong to no section.
+fn put_symbols<V: View>(
+    m: &mut Message,
+    alloc: Global,
+    view: &V,
+    word: &Word<'_>,
+) -> Result<(), AllocError> {
+    let symbols = symbols(alloc, view)?;
+    let mut left = symbols.as_slice();
+    'symbols: while let [symbol, later @ ..] = left {
+        if let Ok(name) = str::from_utf8(symbol.name()) {
+            match symbol.section() {
+                Some(_) => put_item(m, word, name, FUNCTION, "label")?,
+                None => put_item(m, word, name, CONSTANT, "constant")?,
+            }
+        }
+        left = later;
+    }
+    Ok(())
+}
+
+// Writes the names of the kinds that an operand takes.
+fn put_names<V: View>(
+    m: &mut Message,
+    alloc: Global,
+    view: &V,
+    word: &Word<'_>,
+    kinds: NameKinds,
+) -> Result<(), AllocError> {
+    if kinds.registers {
+        put_registers(m, word)?;
+    }
+    if kinds.csrs {
+        put_csrs(m, word, &CSRS)?;
+    }
+    if kinds.sets {
+        put_sets(m, word)?;
+    }
+    if kinds.sections {
+        put_directives(m, word, &DIRECTIVES, MODULE)?;
+    }
+    if kinds.high_parts {
+        put_modifiers(m, word, &HIGH_PARTS)?;
+    }
+    if kinds.low_parts {
+        put_modifiers(m, word, &LOW_PARTS)?;
+    }
+    if kinds.symbols {
+        put_symbols(m, alloc, view, word)?;
+    }
+    Ok(())
+}
+
+// Writes the names that may stand where this was typed.
+fn put_expected<V: View>(
+    m: &mut Message,
+    alloc: Global,
+    view: &V,
+    word: &Word<'_>,
+    typed: &Typed<'_>,
+) -> Result<(), AllocError> {
+    match typed.expected {
+        Expected::Statement => {
+            put_operations(m, alloc, word, &TABLE)?;
+            put_forms(m, alloc, word, &FORMS)?;
+            put_directives(m, word, &DIRECTIVES, KEYWORD)
+        }
+        Expected::Operand | Expected::Modifier => {
+            let kinds = names_taken(typed.statement, typed.operand, typed.depth > 0);
+            put_names(m, alloc, view, word, kinds)
+        }
+        Expected::Base => put_registers(m, word),
+        Expected::Sign => Ok(()),
+    }
+}
+
+/// Writes the names that may be typed at a position, which is in this line.
+///
+/// # Errors
+///
+/// `AllocError` if there is no memory for them.
+pub fn put_completions<V: View>(
+    m: &mut Message,
+    context: &Context<'_>,
+    view: &V,
+    line: &LineView<'_>,
+    position: Position,
+) -> Result<(), AllocError> {
+    let text = text_of(line);
+    let at = before_column(context.encoding, text, position.character);
+    let front = first_bytes(text, at);
+    let Some(typed) = typed_in(context.alloc, front)? else {
+        return Ok(());
+    };
+    let to = u32::try_from(at).unwrap_or(u32::MAX);
+    let word = Word {
+        bytes: part(
+            text,
+            Span {
+                from: typed.from,
+                to,
+            },
+        ),
+        line: position.line,
+        from: column_at(context.encoding, text, typed.from),
+        to: column_at(context.encoding, text, to),
+    };
+    put_expected(m, context.alloc, view, &word, &typed)
+}

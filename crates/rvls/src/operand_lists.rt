@@ -1,0 +1,210 @@
+//! What the operands of instructions and directives are, in the words of docs/LANGUAGE.md, and which names they take.
+
+ghost use Rattle.std.specs.Prelude.{◌≡◌};
+ghost use Rattle.rv_stmt.specs.declared.modifiers.Modifier.TheVariants.{High, Low};
+ghost use Rattle.rv_stmt.specs.Values.{takes_modifier};
+
+use rv_ops::{Shape, is_name, op_by_name, shape};
+use rv_stmt::{
+    AlignmentUnit, DirectiveForm, DirectiveKind, FORMS, FormRow, Slot, directive_named,
+    operand_slots,
+};
+use std::alloc::{AllocError, Global};
+
+/// Which names an operand takes.
+#[derive(Clone, Copy)]
+pub struct NameKinds {
+    pub registers: bool,
+    pub symbols: bool,
+    /// `%hi` and `%pcrel_hi`.
+    pub high_parts: bool,
+    /// `%lo` and `%pcrel_lo`.
+    pub low_parts: bool,
+    pub csrs: bool,
+    pub sets: bool,
+    pub sections: bool,
+}
+
+const NONE: NameKinds = NameKinds {
+    registers: false,
+    symbols: false,
+    high_parts: false,
+    low_parts: false,
+    csrs: false,
+    sets: false,
+    sections: false,
+};
+
+impl NameKinds {
+    // Those of either.
+    fn or(self, other: NameKinds) -> NameKinds {
+        NameKinds {
+            registers: self.registers | other.registers,
+            symbols: self.symbols | other.symbols,
+            high_parts: self.high_parts | other.high_parts,
+            low_parts: self.low_parts | other.low_parts,
+            csrs: self.csrs | other.csrs,
+            sets: self.sets | other.sets,
+            sections: self.sections | other.sections,
+        }
+    }
+}
+
+// The word for an operand.
+fn slot_word(slot: Slot) -> &'static str {
+    match slot {
+        Slot::Rd => "rd",
+        Slot::Rs1 => "rs1",
+        Slot::Rs2 => "rs2",
+        Slot::StackPointer => "sp",
+        Slot::Immediate | Slot::SourceImmediate => "immediate",
+        Slot::Target => "target",
+        Slot::Memory | Slot::MemoryOrRegister | Slot::MemoryOrAddress => "offset(rs1)",
+        Slot::StackMemory => "offset(sp)",
+        Slot::Base => "(rs1)",
+        Slot::Address | Slot::AddressThroughRd => "address",
+        Slot::Csr => "csr",
+        Slot::Predecessors | Slot::Successors => "set",
+        Slot::Constant => "constant",
+    }
+}
+
+/// The words for the operands of an instruction.
+///
+/// # Errors
+///
+/// `AllocError` if there is no memory for the text.
+pub fn slot_words(alloc: Global, mut slots: &[Slot]) -> Result<String, AllocError> {
+    let mut words = String::new(alloc);
+    'slots: while let [slot, later @ ..] = slots {
+        words.push_str(slot_word(*slot))?;
+        if !later.is_empty() {
+            words.push_str(", ")?;
+        }
+        slots = later;
+    }
+    Ok(words)
+}
+
+/// The words for the operands of a directive.
+pub fn directive_words(form: DirectiveForm) -> &'static str {
+    match form.kind {
+        DirectiveKind::Data(_) => "expression, ...",
+        DirectiveKind::Strings | DirectiveKind::TerminatedStrings => "string, ...",
+        DirectiveKind::Fill if form.count.takes(2) => "size[, byte]",
+        DirectiveKind::Fill => "size",
+        DirectiveKind::Alignment(AlignmentUnit::Exponent) => "exponent",
+        DirectiveKind::Alignment(AlignmentUnit::Bytes) => "number",
+        DirectiveKind::Section => "name",
+        DirectiveKind::Definition => "symbol, expression",
+        DirectiveKind::Switch(_) | DirectiveKind::Ignored => "",
+    }
+}
+
+// Whether instructions of a shape take the upper part of a value.
+fn takes_high_part(shape: Shape) -> bool
+    ensures { result ≡ takes_modifier shape High }
+{
+    shape == Shape::Upper
+}
+
+// Whether they take the lower part.
+fn takes_low_part(shape: Shape) -> bool
+    ensures { result ≡ takes_modifier shape Low }
+{
+    matches!(
+        shape,
+        Shape::JumpRegister | Shape::Load | Shape::Store | Shape::Immediate
+    )
+}
+
+// Which names an operand of an instruction takes, in parentheses or not.
+fn names_of_slot(shape: Shape, slot: Slot, is_inside: bool) -> NameKinds {
+    let expression = NameKinds {
+        symbols: true,
+        ..NONE
+    };
+    match slot {
+        Slot::Rd | Slot::Rs1 | Slot::Rs2 | Slot::StackPointer | Slot::Base => NameKinds {
+            registers: true,
+            ..NONE
+        },
+        Slot::Immediate => NameKinds {
+            high_parts: !is_inside && takes_high_part(shape),
+            low_parts: !is_inside && takes_low_part(shape),
+            ..expression
+        },
+        Slot::Memory | Slot::StackMemory | Slot::MemoryOrRegister | Slot::MemoryOrAddress =>
+            NameKinds {
+                low_parts: !is_inside && takes_low_part(shape),
+                registers: is_inside,
+                ..expression
+            },
+        Slot::SourceImmediate
+        | Slot::Target
+        | Slot::Address
+        | Slot::AddressThroughRd
+        | Slot::Constant => expression,
+        Slot::Csr => NameKinds {
+            csrs: true,
+            ..expression
+        },
+        Slot::Predecessors | Slot::Successors => NameKinds { sets: true, ..NONE },
+    }
+}
+
+// Which names an operand of a list takes, by its number from 0 on.
+fn names_in_slots(shape: Shape, slots: &[Slot], operand: usize, is_inside: bool) -> NameKinds {
+    match slots.get(operand) {
+        Some(slot) => names_of_slot(shape, *slot, is_inside),
+        None => NONE,
+    }
+}
+
+// Which names an operand of an instruction takes in the further ways to write it.
+fn names_in_forms(mut rows: &[FormRow], name: &[u8], operand: usize, is_inside: bool) -> NameKinds {
+    let mut kinds = NONE;
+    'rows: while let [row, later @ ..] = rows {
+        if is_name(row.0, name) {
+            kinds = kinds.or(names_in_slots(shape(row.1), row.3, operand, is_inside));
+        }
+        rows = later;
+    }
+    kinds
+}
+
+// Which names an operand of a directive takes, by its number from 0 on.
+fn names_in_directive(kind: DirectiveKind, operand: usize) -> NameKinds {
+    match kind {
+        DirectiveKind::Data(_)
+        | DirectiveKind::Fill
+        | DirectiveKind::Alignment(_)
+        | DirectiveKind::Ignored => NameKinds {
+            symbols: true,
+            ..NONE
+        },
+        DirectiveKind::Definition => NameKinds {
+            symbols: operand > 0,
+            ..NONE
+        },
+        DirectiveKind::Section => NameKinds {
+            sections: operand == 0,
+            ..NONE
+        },
+        DirectiveKind::Strings | DirectiveKind::TerminatedStrings | DirectiveKind::Switch(_) =>
+            NONE,
+    }
+}
+
+/// Which names an operand of an instruction or a directive takes, by its number from 0 on, in parentheses or not.
+pub fn names_taken(statement: &[u8], operand: usize, is_inside: bool) -> NameKinds {
+    if let Some(form) = directive_named(statement) {
+        return names_in_directive(form.kind, operand);
+    }
+    let others = names_in_forms(&FORMS, statement, operand, is_inside);
+    let Some(op) = op_by_name(statement) else {
+        return others;
+    };
+    let shape = shape(op);
+    others.or(names_in_slots(shape, operand_slots(shape), operand, is_inside))
+}

@@ -1,0 +1,222 @@
+//! What the tokens of a text are, for an editor that colors them.
+
+ghost use Rattle.std.specs.Prelude.{◌≤◌, length};
+
+use crate::comments::comment_in;
+use crate::name_uses::{Expected, expected_after};
+use crate::names::{is_use, text_of};
+use crate::new_names::is_register;
+use rv_diagnostics::{Context, Message, Part, column_at};
+use rv_doc::Encoding;
+use rv_list::{DefinitionPlace, LineSource, LineView, View};
+use rv_ops::reg_by_name;
+use rv_show::part;
+use rv_stmt::Body;
+use rv_text::{Span, Token, TokenKind, tokens};
+use std::alloc::AllocError;
+
+/// What a token can be. (Language Server Protocol 3.17, SemanticTokenTypes)
+pub const TOKEN_TYPES: [Part<'static>; 9] = [
+    Part::Text("keyword"),
+    Part::Text("macro"),
+    Part::Text("variable"),
+    Part::Text("function"),
+    Part::Text("enumMember"),
+    Part::Text("number"),
+    Part::Text("string"),
+    Part::Text("operator"),
+    Part::Text("comment"),
+];
+
+// The places in that list: of the name of an instruction, and of a directive; of a register; of a label, and of the symbol of an `.equ`; of a
+// number, of a string or a character, of an operator or a modifier, and of a comment.
+const KEYWORD: u64 = 0;
+
+const MACRO: u64 = 1;
+
+const VARIABLE: u64 = 2;
+
+const FUNCTION: u64 = 3;
+
+const CONSTANT: u64 = 4;
+
+const NUMBER: u64 = 5;
+
+const STRING: u64 = 6;
+
+const OPERATOR: u64 = 7;
+
+const COMMENT: u64 = 8;
+
+// Where the token before begins.
+#[derive(Clone, Copy)]
+struct Before {
+    line: u32,
+    column: u32,
+}
+
+// Writes a token of a line, by its number from 0 on: where it begins behind the one before, how long it is, and what it is.
+fn put_token(
+    m: &mut Message,
+    before: &mut Before,
+    encoding: Encoding,
+    line: u32,
+    text: &[u8],
+    span: Span,
+    kind: u64,
+) -> Result<(), AllocError>
+    requires { length text.now ≤ 1000 }
+{
+    let column = column_at(encoding, text, span.from);
+    let end = column_at(encoding, text, span.to);
+    let down = line.saturating_sub(before.line);
+    let across = if down == 0 {
+        column.saturating_sub(before.column)
+    } else {
+        column
+    };
+    *before = Before { line, column };
+    m.put_all(&[
+        Part::Number(u64::from(down)),
+        Part::Number(u64::from(across)),
+        Part::Number(u64::from(end.saturating_sub(column))),
+        Part::Number(kind),
+        Part::Number(0),
+    ])
+}
+
+// What a name in an operand is. Of a wrong line it is not known what is a name.
+fn name_type<V: View>(view: &V, body: &Body, name: &[u8]) -> u64 {
+    if matches!(body, Body::Faulty(_)) && reg_by_name(name).is_some() {
+        return VARIABLE;
+    }
+    match view.definition(name) {
+        DefinitionPlace::Equ(_) => CONSTANT,
+        DefinitionPlace::Label(_, _) | DefinitionPlace::Nowhere => FUNCTION,
+    }
+}
+
+// Whether it is the symbol of an `.equ` that stands there.
+fn is_defined(body: &Body, span: Span) -> bool {
+    match body {
+        Body::Equ(definition) => definition.span.from == span.from,
+        _ => false,
+    }
+}
+
+// What an identifier is that is no name of a symbol.
+fn word_type(expected: Expected, word: &[u8]) -> Option<u64> {
+    match expected {
+        Expected::Statement => Some(if word.starts_with(b".") {
+            MACRO
+        } else {
+            KEYWORD
+        }),
+        Expected::Modifier => Some(OPERATOR),
+        Expected::Operand | Expected::Sign | Expected::Base => {
+            if is_register(word) {
+                Some(VARIABLE)
+            } else {
+                None
+            }
+        }
+    }
+}
+
+// What a token is that belongs to no label.
+fn token_type<V: View>(
+    view: &V,
+    body: &Body,
+    expected: Expected,
+    token: &Token,
+    text: &[u8],
+) -> Option<u64> {
+    match token.kind {
+        TokenKind::Identifier => {
+            if is_use(expected, token.kind, text, body, token.span) {
+                Some(name_type(view, body, text))
+            } else if is_defined(body, token.span) {
+                Some(CONSTANT)
+            } else {
+                word_type(expected, text)
+            }
+        }
+        TokenKind::Number => Some(NUMBER),
+        TokenKind::Local => Some(FUNCTION),
+        TokenKind::Str | TokenKind::Char => Some(STRING),
+        TokenKind::Punctuation => match text {
+            b"," | b":" | b"(" | b")" => None,
+            _ => Some(OPERATOR),
+        },
+    }
+}
+
+// What a token of a label is.
+fn label_type(kind: TokenKind) -> Option<u64> {
+    if kind == TokenKind::Punctuation {
+        None
+    } else {
+        Some(FUNCTION)
+    }
+}
+
+// Writes the tokens of a line, by its number from 0 on.
+fn put_line<V: View>(
+    m: &mut Message,
+    before: &mut Before,
+    context: &Context<'_>,
+    view: &V,
+    number: u32,
+    line: &LineView<'_>,
+) -> Result<(), AllocError> {
+    let encoding = context.encoding;
+    let text = text_of(line);
+    let Ok(found) = tokens(context.alloc, text) else {
+        return Err(AllocError);
+    };
+    let mut labels = line.stmt.labels.len().saturating_mul(2);
+    let mut expected = Expected::Statement;
+    let mut left = found.tokens();
+    'tokens: while let [token, later @ ..] = left {
+        let bytes = part(text, token.span);
+        let kind = if labels > 0 {
+            label_type(token.kind)
+        } else {
+            token_type(view, &line.stmt.body, expected, token, bytes)
+        };
+        if let Some(kind) = kind {
+            put_token(m, before, encoding, number, text, token.span, kind)?;
+        }
+        labels = labels.saturating_sub(1);
+        expected = expected_after(expected, token.kind, bytes);
+        left = later;
+    }
+    if let Some(span) = comment_in(text, &found) {
+        put_token(m, before, encoding, number, text, span, COMMENT)?;
+    }
+    Ok(())
+}
+
+/// Writes the tokens of the lines from number `from` on, up to and with number `to`, both from 0 on.
+///
+/// # Errors
+///
+/// `AllocError` if there is no memory for them.
+pub fn put_semantic_tokens<V: View>(
+    m: &mut Message,
+    context: &Context<'_>,
+    view: &V,
+    from: u32,
+    to: u32,
+) -> Result<(), AllocError> {
+    let mut before = Before { line: 0, column: 0 };
+    m.put_all(&[Part::BeginObject, Part::Key("data"), Part::BeginArray])?;
+    let mut lines = view.lines();
+    for k in 0..view.line_count().min(to.saturating_add(1)) {
+        lines.advance();
+        if k >= from {
+            put_line(m, &mut before, context, view, k, &lines.line())?;
+        }
+    }
+    m.put_all(&[Part::EndArray, Part::EndObject])
+}

@@ -1,0 +1,93 @@
+//! What is being typed in a line: its statement, and which of its operands.
+
+ghost use Rattle.std.specs.Prelude.{◌≤◌, length};
+
+use crate::comments::comment_in;
+use crate::name_uses::{Expected, expected_after};
+use rv_show::part;
+use rv_text::{Token, TokenKind, tokens};
+use std::alloc::{AllocError, Global};
+
+/// What stands before a place in a line.
+#[derive(Clone, Copy)]
+pub struct Typed<'a> {
+    /// What may come there.
+    pub expected: Expected,
+    /// The name of the instruction or the directive, if it stands before.
+    pub statement: &'a [u8],
+    /// The number of the operand, from 0 on.
+    pub operand: usize,
+    /// How many parentheses are open.
+    pub depth: u32,
+    /// Where the word begins that ends at the place; with the `%` of a modifier.
+    pub from: u32,
+}
+
+impl<'a> Typed<'a> {
+    // What stands before the end of a line behind a token more.
+    fn behind(self, token: &Token, text: &'a [u8]) -> Typed<'a> {
+        let mut typed = Typed {
+            expected: expected_after(self.expected, token.kind, text),
+            from: token.span.from,
+            ..self
+        };
+        match text {
+            b"(" => typed.depth = self.depth.saturating_add(1),
+            b")" => typed.depth = self.depth.saturating_sub(1),
+            b"," if self.depth == 0 => typed.operand = self.operand.saturating_add(1),
+            _ => {
+                if self.expected == Expected::Statement {
+                    typed.statement = text;
+                }
+            }
+        }
+        typed
+    }
+
+    // The same with the place where a word begins there.
+    fn with_word(self, from: u32) -> Typed<'a> {
+        let from = if self.expected == Expected::Modifier {
+            self.from
+        } else {
+            from
+        };
+        Typed { from, ..self }
+    }
+}
+
+// What stands before the end of some bytes that have these tokens. An identifier that ends there is the word that is typed.
+fn typed_by<'a>(front: &'a [u8], mut left: &[Token]) -> Typed<'a> {
+    let mut typed = Typed {
+        expected: Expected::Statement,
+        statement: b"",
+        operand: 0,
+        depth: 0,
+        from: 0,
+    };
+    'tokens: while let [token, later @ ..] = left {
+        let is_last = token.span.to as usize == front.len();
+        if is_last && token.kind == TokenKind::Identifier {
+            return typed.with_word(token.span.from);
+        }
+        typed = typed.behind(token, part(front, token.span));
+        left = later;
+    }
+    typed.with_word(u32::try_from(front.len()).unwrap_or(u32::MAX))
+}
+
+/// What stands before the end of the front of a line, if that is in no comment, and behind no lexical fault.
+///
+/// # Errors
+///
+/// `AllocError` if there is no memory for the tokens.
+pub fn typed_in(alloc: Global, front: &[u8]) -> Result<Option<Typed<'_>>, AllocError>
+    requires { length front.now ≤ 1000 }
+{
+    let Ok(found) = tokens(alloc, front) else {
+        return Err(AllocError);
+    };
+    if found.fault().is_some() || comment_in(front, &found).is_some() {
+        return Ok(None);
+    }
+    Ok(Some(typed_by(front, found.tokens())))
+}

@@ -1,0 +1,102 @@
+"""What answers of the language server have to be, by the words of the protocol: edits of a rename, tokens, completions."""
+import os
+import subprocess
+
+from lsp_reports import Wrong, assembled, place_of, position_of, reports_of
+
+# The types of tokens that a name can have, by their numbers: variable, function, enumMember.
+NAME_TYPES = (2, 3, 4)
+
+
+def span_of(text, place, encoding):
+    """Where a range begins and ends in a text, both of which have to be places of one line."""
+    start, end = (place_of(text, place[side], encoding) for side in ("start", "end"))
+    right = place["start"]["line"] == place["end"]["line"] and start <= end
+    if not right or position_of(text, start, encoding) != place["start"] or position_of(text, end, encoding) != place["end"]:
+        raise Wrong(f"no range of a line: {place}")
+    return start, end
+
+
+def text_after_edits(text, edits, encoding):
+    """A text after edits, all of which count in it, and none of which overlap."""
+    spans = sorted((*span_of(text, edit["range"], encoding), edit["newText"]) for edit in edits)
+    after, at = "", 0
+    for start, end, new in spans:
+        if start < at:
+            raise Wrong(f"edits overlap: {edits}")
+        after += text[at:start] + new
+        at = end
+    return after + text[at:]
+
+
+def image_of(rvas, folder, text):
+    """The bytes of a text, also where it has faults."""
+    name = os.path.join(folder, "image.s")
+    with open(name, "wb") as file:
+        file.write(b"\n".join(assembled(text)))
+    return subprocess.run(rvas + ["asm", "--force", "-f", "image", "--no-line-marks", name], capture_output=True, check=False).stdout
+
+
+def check_rename(rvas, folder, text, name, result, encoding):
+    """A rename changes no byte, and leaves each fault and warning where it was."""
+    if list(result["changes"]) != [name]:
+        raise Wrong(f"another document: {result}")
+    after = text_after_edits(text, result["changes"][name], encoding)
+    if image_of(rvas, folder, text) != image_of(rvas, folder, after):
+        raise Wrong(f"the image of {after!r} is another one")
+    found, _ = reports_of(rvas, folder, [text, after], encoding)
+    before, now = ([(item[0], item[3], item[4]) for item in items] for items in found)
+    if before != now:
+        raise Wrong(f"{now}, not {before}, of {after!r}")
+
+
+def check_prepared(text, result, encoding):
+    """What can be renamed is shown as it is."""
+    start, end = span_of(text, result["range"], encoding)
+    if text[start:end] != result["placeholder"] or start == end:
+        raise Wrong(f"{result} of {text[start:end]!r}")
+
+
+def token_spans(text, result, encoding):
+    """The spans of tokens with their types: they are in order, each in its line, and none overlap."""
+    data = result["data"]
+    if len(data) % 5:
+        raise Wrong(f"{len(data)} numbers")
+    spans, line, column, last = {}, 0, 0, 0
+    for k in range(0, len(data), 5):
+        down, across, length, kind, _ = data[k : k + 5]
+        line, column = line + down, across if down else column + across
+        place = {"start": {"line": line, "character": column}, "end": {"line": line, "character": column + length}}
+        start, end = span_of(text, place, encoding)
+        if start < last or start == end:
+            raise Wrong(f"a token at {place} behind one that ends at {last}")
+        spans[start, end] = kind
+        last = end
+    return spans
+
+
+def check_names(text, spans, places, encoding):
+    """Each name that references or symbols know is a token."""
+    for place in places:
+        start, end = span_of(text, place, encoding)
+        if spans.get((start, end)) not in NAME_TYPES:
+            raise Wrong(f"{text[start:end]!r} at {place} is no token of a name")
+
+
+def check_completion(rvas, folder, text, position, items, encoding, random):
+    """Each item goes on with the word before the position; and a name that is put there is known."""
+    at = place_of(text, position, encoding)
+    for item in items:
+        edit = item["textEdit"]
+        start, end = span_of(text, edit["range"], encoding)
+        if end != at or edit["newText"] != item["label"] or not item["label"].lower().startswith(text[start:end].lower()):
+            raise Wrong(f"{item} at {position}")
+    if not items:
+        return
+    item = random.choice(items)
+    start = item["textEdit"]["range"]["start"]
+    after = text_after_edits(text, [item["textEdit"]], encoding)
+    found, _ = reports_of(rvas, folder, [after], encoding)
+    for report in found[0]:
+        if report[:2] == (start["line"], start["character"]) and report[4] in ("UnknownName", "Undefined") and len(item["label"]) == report[2]:
+            raise Wrong(f"{item} at {position}: {report}")
