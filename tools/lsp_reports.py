@@ -167,17 +167,8 @@ def published_of(params, text, encoding):
     return found
 
 
-def without_line(item):
-    """A diagnostic of an `.equ` with a fault, without the line of that: it is published only where the operand is a name alone."""
-    return item[:-1] + (None,) if item[4] == "FaultyEqu" else item
-
-
 def difference(published, reported, hidden):
     """What differs, or nothing. All instructions at odd addresses are published, and only the first of some reported."""
-    for item in published:
-        if item[4] == "FaultyEqu" and item[6] is not None and item not in reported:
-            return (item, reported)
-    published, reported = ([without_line(item) for item in items] for items in (published, reported))
     more = [item for item in published if item[4] == "more"]
     published = collections.Counter(item for item in published if item[4] != "more")
     reported = collections.Counter(reported)

@@ -1,6 +1,6 @@
 -- The diagnostics of a document, part by part.
-use Rattle.std.proofs.Common.{◌≡◌, ℕ, zero, suc, ◌+◌, ◌-◌, ◌≤◌, List, [], ◌∷◌, ◌++◌, length, take, refl, ap, sym, ◌∙◌, arith, append_assoc}
-use Rattle.std.proofs.lemmas.List.{append-nil, length-append, nil_from_length}
+use Rattle.std.proofs.Common.{◌≡◌, ℕ, zero, suc, ◌+◌, ◌-◌, List, [], ◌∷◌, ◌++◌, length, take, refl, ap, ◌∙◌, arith, append_assoc}
+use Rattle.std.proofs.lemmas.List.{length-append, nil_from_length}
 use Rattle.json.specs.Token.{Token, begin_object, end_object, end_array}
 use Rattle.std.specs.Prelude.{codes}
 use Rattle.rv_diagnostics.specs.Json.{message, string_member}

@@ -1,11 +1,14 @@
 -- Diagnostics as tokens of JSON. (Language Server Protocol 3.17, textDocument/publishDiagnostics)
-use Rattle.std.specs.Prelude.{ℕ, ◌-◌, List, [], ◌∷◌, ◌++◌, take, codes, decimal}
+use Rattle.std.specs.Prelude.{ℕ, ◌-◌, List, [], ◌∷◌, ◌++◌, take, codes, decimal, Option, Some}
 use Rattle.std.specs.Str.Lossy.{utf8_lossy}
-use Rattle.json.specs.Token.{Token, begin_object, end_object, begin_array, end_array, key, string}
+use Rattle.json.specs.Token.{Token, begin_object, end_object, begin_array, end_array, key}
 use Rattle.rv_text.specs.declared.faults.Fault.{Fault}
 use Rattle.rv_text.specs.declared.faults.FaultNumber.{FaultNumber}
 use Rattle.rv_text.specs.declared.faults.FaultNumber.TheVariants.{Duplicate, FaultyEqu}
 use Rattle.rv_text.specs.declared.lexeme.TheConstants.{MAX_LINE_LENGTH}
+use Rattle.rv_text.specs.declared.lexeme.Span.{Span}
+use Rattle.rv_expr.specs.declared.tree.LabelReference.{LabelReference}
+use Rattle.rv_expr.specs.declared.tree.LabelReference.TheVariants as label
 use Rattle.rv_expr.specs.Value.{Environment}
 use Rattle.rv_list.specs.declared.view.DefinitionPlace.{DefinitionPlace}
 use Rattle.rv_list.specs.declared.view.DefinitionPlace.TheVariants.{Nowhere, Label, Equ}
@@ -13,7 +16,8 @@ use Rattle.rv_list.specs.Faults.{fault_name}
 use Rattle.rv_list.specs.Shown.{Shown}
 use Rattle.rv_show.specs.Parts.{part}
 use Rattle.rv_report.specs.Lines.{Line}
-use Rattle.rv_report.specs.Messages.{message_of}
+use Rattle.rv_report.specs.FaultyNames.{faulty_name_of}
+use Rattle.rv_report.specs.Messages.{message_of, operand_of_line}
 use Rattle.rv_report.specs.Warnings.{Warning, warning_message}
 use Rattle.rv_program.specs.declared.limits.TheConstants.{MAX_LINES}
 use Rattle.rv_doc.specs.declared.encoding.Encoding.{Encoding}
@@ -54,16 +58,26 @@ related_of uri Duplicate place = related_place uri place
 related_of uri FaultyEqu place = related_place uri place
 related_of uri number place = []
 
--- the diagnostic of a fault of a line, which has the number `line.number` from 1 on, with this message
-abbrev pub diagnostic_of_fault : Encoding → (uri : List ℕ) → Shown → Line → Fault → (message : List ℕ) → List Token
-diagnostic_of_fault encoding uri shown line fault message =
+-- where the name is defined for which an operand has no value
+abbrev pub place_of_name : Shown → Option LabelReference → DefinitionPlace
+place_of_name shown (Some (label.Symbol name)) = shown.definition name
+place_of_name shown name = Nowhere
+
+-- where the name of a fault is defined: that of the `.equ` that is faulty, or what the fault covers
+abbrev pub place_of_fault : Environment → Shown → Line → FaultNumber → Span → DefinitionPlace
+place_of_fault given shown line FaultyEqu span = place_of_name shown (faulty_name_of given (operand_of_line line span))
+place_of_fault given shown line number span = shown.definition (part line.text span)
+
+-- the diagnostic of a fault of a line, which has the number `line.number` from 1 on, with this message, where its name is defined here
+abbrev pub diagnostic_of_fault : Encoding → (uri : List ℕ) → DefinitionPlace → Line → Fault → (message : List ℕ) → List Token
+diagnostic_of_fault encoding uri place line fault message =
     diagnostic (line.number - 1) (column_at encoding line.text fault.span.from) (column_at encoding line.text fault.span.to) 1 (fault_name fault.number)
-    message (related_of uri fault.number (shown.definition (part line.text fault.span)))
+    message (related_of uri fault.number place)
 
 -- the diagnostic of a fault of a line
 unfoldable pub fault_diagnostic : Encoding → (uri : List ℕ) → Environment → Shown → Line → Fault → List Token
 fault_diagnostic encoding uri given shown line fault =
-    diagnostic_of_fault encoding uri shown line fault (utf8_lossy (message_of given shown line fault))
+    diagnostic_of_fault encoding uri (place_of_fault given shown line fault.number fault.span) line fault (utf8_lossy (message_of given shown line fault))
 
 -- the diagnostic of a warning about a line
 unfoldable pub warning_diagnostic : Encoding → (number : ℕ) → (text : List ℕ) → Warning → List Token

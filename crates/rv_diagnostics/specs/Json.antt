@@ -1,5 +1,5 @@
 -- What the server writes of JSON, as tokens, and the frames of texts. (Language Server Protocol 3.17, Base Protocol)
-use Rattle.std.specs.Prelude.{ℕ, List, [], ◌∷◌, ◌++◌, length, map, codes, decimal}
+use Rattle.std.specs.Prelude.{ℕ, List, [], ◌∷◌, ◌++◌, length, codes, decimal}
 use Rattle.json.specs.Token.{Token, begin_object, end_object, begin_array, end_array, key, string, number}
 use Rattle.rv_diagnostics.specs.declared.part.Part.{Part}
 use Rattle.rv_diagnostics.specs.declared.part.Part.TheVariants as part

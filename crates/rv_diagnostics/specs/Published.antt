@@ -5,7 +5,6 @@ use Rattle.std.specs.List.{flat_map}
 use Rattle.std.specs.Fmt.{signed_decimal}
 use Rattle.json.specs.Print.{print}
 use Rattle.json.specs.Token.{Token, begin_object, end_object, begin_array, end_array, key, number as number_token}
-use Rattle.rv_text.specs.declared.faults.Fault.{Fault}
 use Rattle.rv_text.specs.declared.lexeme.TheConstants.{MAX_LINE_LENGTH}
 use Rattle.rv_expr.specs.Value.{Environment}
 use Rattle.rv_fix.specs.Values.{operand_values_of}

@@ -1,5 +1,5 @@
 -- Which rows are shown where not all are.
-use Rattle.std.specs.Prelude.{ℕ, ◌+◌, ◌-◌, ◌/◌, ◌==◌, ◌&&◌, nat_lt, min, Bool, List, length, take, drop}
+use Rattle.std.specs.Prelude.{ℕ, ◌-◌, ◌/◌, ◌==◌, ◌&&◌, nat_lt, min, Bool, List, take, drop}
 use Rattle.rv_diagnostics.specs.declared.window.Window.{Window}
 
 -- the rows behind those that are skipped, up to so many

@@ -1,13 +1,14 @@
 //! Diagnostics as they are written: faults of lines, warnings about them, and lines past a limit.
 
-ghost use Rattle.std.specs.Prelude.{◌≡◌, ◌≤◌, ◌<◌, ◌^◌, ◌++◌, [], length, string_bytes, IfOk, OnOk};
+ghost use Rattle.std.specs.Prelude.{◌≡◌, ◌≤◌, ◌<◌, ◌^◌, ◌++◌, [], length, option_map, string_bytes, IfOk, OnOk};
 ghost use Rattle.std.specs.List.{flat_map};
 ghost use Rattle.std.specs.Str.Lossy.{utf8_lossy};
 ghost use Rattle.rv_list.specs.Faults.{body_faults, found};
+ghost use Rattle.rv_report.specs.FaultyNames.{name_used};
 ghost use Rattle.rv_report.specs.Lines.{line_of};
 ghost use Rattle.rv_report.specs.Messages.{message_of};
 ghost use Rattle.rv_report.specs.Warnings.{warning_message, warning_seen};
-ghost use Rattle.rv_diagnostics.specs.Diagnostics.{column_at, diagnostic, diagnostic_head, diagnostic_of_fault, fault_diagnostic, long_line, many_lines, more_diagnostics, related_line, related_of, related_place, warning_diagnostic};
+ghost use Rattle.rv_diagnostics.specs.Diagnostics.{column_at, diagnostic, diagnostic_head, diagnostic_of_fault, fault_diagnostic, long_line, many_lines, more_diagnostics, place_of_fault, place_of_name, related_line, related_of, related_place, warning_diagnostic};
 ghost use Rattle.rv_diagnostics.specs.Windows.{passed, windowed};
 
 use crate::message::Message;
@@ -18,7 +19,7 @@ use rv_doc::{Encoding, column_of};
 use rv_expr::Names;
 use rv_list::{DefinitionPlace, View, fault_name};
 use rv_program::MAX_LINES;
-use rv_report::{FaultyLine, Warning, message};
+use rv_report::{FaultyLine, UsedName, Warning, faulty_name_at, message};
 use rv_show::{Text, part};
 use rv_text::{Fault, FaultNumber, MAX_LINE_LENGTH};
 use std::alloc::{AllocError, Global};
@@ -176,17 +177,44 @@ fn fault_text<N: Names, V: View>(
     String::from_utf8_lossy(alloc, bytes.as_slice())
 }
 
-// Writes the diagnostic of a fault, of which this is said.
-fn put_said<V: View>(
+// Where a name is defined for which an operand has no value.
+fn place_of_name<V: View>(view: &V, name: Option<UsedName<'_>>) -> DefinitionPlace
+    ensures { result ≡ place_of_name (V.shown view.now) (option_map name_used name.entry) }
+{
+    match name {
+        Some(UsedName::Symbol(symbol)) => view.definition(symbol),
+        Some(UsedName::Local(_, _)) => DefinitionPlace::Nowhere,
+        Some(UsedName::Here) => DefinitionPlace::Nowhere,
+        None => DefinitionPlace::Nowhere,
+    }
+}
+
+// Where the name of a fault is defined.
+fn place_of_fault<N: Names, V: View>(
+    line: &FaultyLine<'_>,
+    names: &N,
+    view: &V,
+    fault: Fault,
+) -> DefinitionPlace
+    ensures { result ≡ place_of_fault (N.environment names.now line.now.address) (V.shown view.now) (line_of line.now) fault.number fault.span }
+{
+    match fault.number {
+        FaultNumber::FaultyEqu => place_of_name(view, faulty_name_at(line, names, fault.span)),
+        _ => view.definition(part(line.text, fault.span)),
+    }
+}
+
+// Writes the diagnostic of a fault, of which this is said, and whose name is defined here.
+fn put_said(
     m: &mut Message,
     context: &Context<'_>,
     line: &FaultyLine<'_>,
-    view: &V,
+    definition: DefinitionPlace,
     fault: Fault,
     said: &str,
 ) -> Result<(), AllocError>
     requires { length line.now.text.now ≤ 1000 }
-    ensures { OnOk result (m.new ≡ m.old ++ diagnostic_of_fault context.now.encoding context.now.uri.now (V.shown view.now) (line_of line.now) fault said.now) }
+    ensures { OnOk result (m.new ≡ m.old ++ diagnostic_of_fault context.now.encoding context.now.uri.now definition (line_of line.now) fault said.now) }
 {
     let place = Place {
         line: line.number.saturating_sub(1),
@@ -194,7 +222,6 @@ fn put_said<V: View>(
         to: column_at(context.encoding, line.text, fault.span.to),
     };
     begin_diagnostic(m, place, ERROR, fault_name(fault.number), said)?;
-    let definition = view.definition(part(line.text, fault.span));
     put_related(m, context.uri, fault.number, definition)?;
     m.end_object()?;
     Ok(())
@@ -215,7 +242,8 @@ fn put_fault<N: Names, V: View>(
     ensures { OnOk result (m.new ≡ m.old ++ fault_diagnostic context.now.encoding context.now.uri.now (N.environment names.now line.now.address) (V.shown view.now) (line_of line.now) fault) }
 {
     let said = fault_text(context.alloc, line, names, view, fault)?;
-    put_said(m, context, line, view, fault, said.as_str())?;
+    let definition = place_of_fault(line, names, view, fault);
+    put_said(m, context, line, definition, fault, said.as_str())?;
     Ok(())
 }
 

@@ -27,7 +27,9 @@ mod wanted;
 mod warnings;
 
 pub use faulty_line::FaultyLine;
+pub use faulty_names::UsedName;
 pub use laws::limits_are_those_of_range;
 pub use messages::message;
+pub use name_messages::faulty_name_at;
 pub use reports::{report, report_warning};
 pub use warnings::{Warning, find_warning};

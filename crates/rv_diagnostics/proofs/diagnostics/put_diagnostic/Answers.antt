@@ -1,4 +1,3 @@
-use Rattle.std.proofs.Common.{[]}
 use Rattle.rv_diagnostics.proofs.Written.{two_parts}
 use Rattle.rv_diagnostics.proofs.diagnostics.put_diagnostic.Goals as goal
 

@@ -1,12 +1,8 @@
 use Rattle.std.proofs.Common.{◌++◌, ap, refl, ◌∙◌}
-use Rattle.rv_diagnostics.specs.Diagnostics.{related_of}
 use Rattle.rv_diagnostics.proofs.Written.{same_head, three_parts}
 use Rattle.rv_diagnostics.proofs.diagnostics.put_said.Goals as goal
 
 pub returns : goal.returns
-returns g c =
+returns c =
     let head = same_head _ _ _ _ _ _ 1 _ _ _ _ c.saturating_sub.ensures c.column_at.ensures c.column_at-2.ensures c.fault_name.ensures.name refl in
-    let place = c.definition-definition.ensures ∙ ap (g.V.View.shown c.args.view.now).definition c.part.ensures in
-    let related = ap (λ p. c.begin_diagnostic.new.m ++ related_of c.args.context.now.uri.now c.args.fault.number p) place in
-    let all = three_parts _ _ _ _ _ _ _ (c.in_ok-begin_diagnostic.ensures ∙ ap (λ h. c.args.m.now ++ h) head) (c.in_ok-put_related.ensures ∙ related) c.in_ok-end_object.ensures in
-    all
+    three_parts _ _ _ _ _ _ _ (c.in_ok-begin_diagnostic.ensures ∙ ap (λ h. c.args.m.now ++ h) head) c.in_ok-put_related.ensures c.in_ok-end_object.ensures
