@@ -8,7 +8,7 @@ use Rattle.rv_program.specs.Text.{Text}
 use Rattle.rv_store.specs.LinesOfTexts.{names_from}
 use Rattle.rv_store.specs.Shown.{shown_of}
 use Rattle.rv_diagnostics.specs.Published.{diagnostics_of}
-use Rattle.rv_live.specs.Assembled.{assembled}
+use Rattle.rv_changes.specs.Assembled.{assembled}
 
 -- what names give on a line of a text, by its number, where `.` is an address
 abbrev pub names_in : Text → (number here : ℕ) → Environment

@@ -1,3 +1,1 @@
-pub mod Assembled
-pub mod Changes
 pub mod DocumentDiagnostics

@@ -5,12 +5,11 @@ ghost use Rattle.std.specs.Option.{option_map};
 ghost use Rattle.serde_json.specs.View.{view};
 ghost use Rattle.rv_doc.specs.Edits.{spliced, text_after_all};
 ghost use Rattle.rv_doc.specs.Positions.{lines_of};
-ghost use Rattle.rv_live.specs.Changes.{changes_of};
-ghost use Rattle.rv_live.specs.Assembled.{assembled};
+ghost use Rattle.rv_changes.specs.Changes.{changes_of};
+ghost use Rattle.rv_changes.specs.Assembled.{assembled};
 
 use crate::loading::load;
-use crate::reading::change_in;
-use crate::syncing::put_lines;
+use rv_changes::{change_all, put_lines};
 use rv_doc::{Document, Encoding, Lines, Touched, line_count, touched_lines};
 use rv_store::{MAX_LINES, Store};
 use serde_json::Value;
@@ -27,7 +26,7 @@ pub struct Assembly {
 
 impl Model for Assembly {
     ghost use Rattle.std.specs.Prelude.{◌≡◌, ℕ, List};
-    ghost use Rattle.rv_live.specs.Assembled.{assembled};
+    ghost use Rattle.rv_changes.specs.Assembled.{assembled};
 
     ghost Value = { List ℕ };
 
@@ -39,24 +38,6 @@ impl Model for Assembly {
 // How many lines are edited one by one at most: where more change, the text is put into a new store. That takes about 20
 // microseconds a line; an edit that moves the lines behind it, a tenth of a microsecond for each of them.
 const MOST_EDITS: usize = 128;
-
-// Makes the changes of a message, one after another, and says whether each was well formed.
-fn change_all(
-    document: &mut Document,
-    encoding: Encoding,
-    mut changes: &[Value],
-) -> Result<bool, AllocError>
-    ensures { IfOk result (λ whole. (if whole then Some document.new else None) ≡ option_map (text_after_all encoding document.old) (changes_of (map view changes.entry.now))) }
-{
-    'changes: while let [json, later @ ..] = changes {
-        let Some(change) = change_in(json) else {
-            return Ok(false);
-        };
-        document.change(encoding, change.range, change.text.as_bytes())?;
-        changes = later;
-    }
-    Ok(true)
-}
 
 // The store of a document that has changed, by the store of what it was.
 fn store_after(

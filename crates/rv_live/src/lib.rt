@@ -4,10 +4,8 @@
 mod assembly;
 mod loading;
 mod publishing;
-mod reading;
 mod stored;
-mod syncing;
 
 pub use assembly::Assembly;
 pub use publishing::publish;
-pub use reading::{number_at, position_of, text_at};
+pub use rv_changes::{number_at, position_of, text_at};

@@ -2,29 +2,16 @@
 
 ghost use Rattle.std.specs.Prelude.{◌≡◌, ◌+◌, ◌<◌, ◌≤◌, ◌++◌, ◌∷◌, ◌==◌, ℕ, List, [], false, true, not, length, map, take, IfOk, OnOk};
 ghost use Rattle.std.specs.List.{list_any, list_all};
-ghost use Rattle.rv_program.specs.Text.{is_line};
-ghost use Rattle.rv_live.specs.Assembled.{assembled, assembled_line};
+ghost use Rattle.rv_changes.specs.Assembled.{assembled, assembled_line};
 
+use rv_changes::assembled_line;
 use rv_doc::Lines;
-use rv_store::{MAX_LINE_LENGTH, MAX_LINES, Store};
+use rv_store::{MAX_LINES, Store};
 use rv_text::Tally;
 use std::alloc::{AllocError, Global};
 
 /// Where the first section begins.
 pub const BASE: u32 = 0;
-
-/// A line as it is assembled: nothing of one that is too long.
-pub fn assembled_line(line: &[u8]) -> &[u8]
-    requires { list_any (λ b. b == 10) line.now ≡ false }
-    ensures value { result.now ≡ assembled_line line.entry.now }
-    ensures line { is_line result.now ≡ true }
-{
-    if line.len() > MAX_LINE_LENGTH {
-        &[]
-    } else {
-        line
-    }
-}
 
 // Puts a line at the end of a text.
 fn append(store: &mut Store, line: &[u8]) -> Result<(), AllocError>

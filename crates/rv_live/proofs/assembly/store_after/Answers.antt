@@ -2,7 +2,7 @@ use Rattle.std.proofs.Common.{◌≤◌, length, map, ap, ◌∙◌, arith}
 use Rattle.std.proofs.lemmas.List.{length-map}
 use Rattle.rv_program.specs.Text.{Text}
 use Rattle.rv_doc.specs.Edits.{spliced}
-use Rattle.rv_live.specs.Assembled.{assembled_line, assembled_lines}
+use Rattle.rv_changes.specs.Assembled.{assembled_line, assembled_lines}
 use Rattle.rv_doc.specs.Positions.{lines_of}
 use Rattle.rv_live.proofs.Pieces.{all_assembled, assembled_after, spliced_count}
 use Rattle.rv_live.proofs.assembly.store_after.Goals as goal

@@ -1,6 +1,6 @@
 use Rattle.std.proofs.Common.{◌++◌, ◌-◌, ◌∷◌, [], length, map, take, ap, ◌∙◌, arith, length-append}
 use Rattle.rv_program.specs.Text.{Text}
-use Rattle.rv_live.specs.Assembled.{assembled_line}
+use Rattle.rv_changes.specs.Assembled.{assembled_line}
 use Rattle.rv_live.proofs.Pieces.{appended_more}
 use Rattle.rv_live.proofs.loading.append_first.Goals as goal
 

@@ -1,6 +1,6 @@
 use Rattle.std.proofs.Common.{◌≡◌, ◌+◌, ◌≤◌, ◌++◌, length, take, map}
 use Rattle.rv_program.specs.declared.limits.TheConstants.{MAX_LINES}
-use Rattle.rv_live.specs.Assembled.{assembled_line}
+use Rattle.rv_changes.specs.Assembled.{assembled_line}
 use Rattle.rv_live.proofs.loading.append_first.Given as goal
 
 -- the lines so far are in the text, and so many of the others belong there

@@ -1,7 +1,7 @@
 use Rattle.std.proofs.Common.{◌≤◌, length, ap, arith}
 use Rattle.rv_program.specs.Text.{Text}
-use Rattle.rv_live.proofs.Pieces.{put_insert}
-use Rattle.rv_live.proofs.syncing.put_line.Goals as goal
+use Rattle.rv_changes.proofs.Pieces.{put_insert}
+use Rattle.rv_changes.proofs.syncing.put_line.Goals as goal
 
 pub returns-then-left-eq0-clause-lines : goal.returns-then-left-eq0-clause-lines
 returns-then-left-eq0-clause-lines c later =

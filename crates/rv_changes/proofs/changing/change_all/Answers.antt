@@ -1,8 +1,8 @@
 use Rattle.std.proofs.Common.{ap, ◌∙◌}
 use Rattle.serde_json.specs.View.{view}
-use Rattle.rv_live.specs.Changes.{change_of}
-use Rattle.rv_live.proofs.ChangedTexts.{next_change}
-use Rattle.rv_live.proofs.assembly.change_all.Goals as goal
+use Rattle.rv_changes.specs.Changes.{change_of}
+use Rattle.rv_changes.proofs.ChangedTexts.{next_change}
+use Rattle.rv_changes.proofs.changing.change_all.Goals as goal
 
 pub changes-preserved : goal.changes-preserved
 changes-preserved c =

@@ -3,9 +3,9 @@
 ghost use Rattle.std.specs.Prelude.{◌≡◌, ◌+◌, ◌-◌, ◌<◌, ◌≤◌, ◌++◌, ◌∷◌, ◌==◌, ℕ, List, [], false, true, length, map, insert, remove, set, OnOk};
 ghost use Rattle.std.specs.List.{list_any};
 ghost use Rattle.rv_doc.specs.Edits.{spliced};
-ghost use Rattle.rv_live.specs.Assembled.{assembled_line};
+ghost use Rattle.rv_changes.specs.Assembled.{assembled_line};
 
-use crate::loading::assembled_line;
+use crate::assembled::assembled_line;
 use rv_doc::Lines;
 use rv_store::{MAX_LINES, Store};
 use rv_text::Tally;

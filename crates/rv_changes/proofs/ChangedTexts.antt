@@ -6,7 +6,7 @@ use Rattle.std.specs.Option.{option_map}
 use Rattle.serde_json.specs.Data.{Data}
 use Rattle.rv_doc.specs.declared.encoding.Encoding.{Encoding}
 use Rattle.rv_doc.specs.Edits.{Change, text_after, text_after_all}
-use Rattle.rv_live.specs.Changes.{both, change_of, changes_of}
+use Rattle.rv_changes.specs.Changes.{both, change_of, changes_of}
 
 -- the changes behind the first one are made in the text that it leaves
 later_changes : (e : Encoding) (document : List ℕ) (change : Change) (later : Option (List Change)) → option_map (text_after_all e (text_after e document change)) later ≡ option_map (text_after_all e document) (both (λ change changes. change ∷ changes) (Some change) later)

@@ -1,5 +1,5 @@
 use Rattle.std.proofs.Common.{sym, ◌∙◌, refl}
-use Rattle.rv_live.proofs.reading.range_of.Goals as goal
+use Rattle.rv_changes.proofs.reading.range_of.Goals as goal
 
 pub returns-in_err-end : goal.returns-in_err-end
 returns-in_err-end c =

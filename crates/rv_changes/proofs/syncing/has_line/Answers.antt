@@ -1,7 +1,7 @@
 use Rattle.std.proofs.Common.{◌≡◌, ap, sym, ◌∙◌, Some}
 use Rattle.std.proofs.lemmas.Slice.Eq.{bytes_eq-Decides}
-use Rattle.rv_live.proofs.Pieces.{set_same, at_number}
-use Rattle.rv_live.proofs.syncing.has_line.Goals as goal
+use Rattle.rv_changes.proofs.Pieces.{set_same, at_number}
+use Rattle.rv_changes.proofs.syncing.has_line.Goals as goal
 
 pub returns-in-Some : goal.returns-in-Some
 returns-in-Some c = λ e.

@@ -2,8 +2,8 @@ use Rattle.std.proofs.Common.{◌≡◌, length, map}
 use Rattle.std.specs.Option.{option_map}
 use Rattle.serde_json.specs.View.{view}
 use Rattle.rv_doc.specs.Edits.{text_after_all}
-use Rattle.rv_live.specs.Changes.{changes_of}
-use Rattle.rv_live.proofs.assembly.change_all.Given as goal
+use Rattle.rv_changes.specs.Changes.{changes_of}
+use Rattle.rv_changes.proofs.changing.change_all.Given as goal
 
 -- the text after the changes that are left is that after all
 abbrev pub invariant-changes : goal.invariant-changes

@@ -2,8 +2,8 @@ use Rattle.std.proofs.Common.{◌≡◌, ◌-◌, ◌<◌, suc, [], length, ap, 
 use Rattle.std.proofs.lemmas.List.Edits.{length-remove}
 use Rattle.rv_program.specs.Text.{Text}
 use Rattle.rv_doc.specs.Edits.{spliced}
-use Rattle.rv_live.proofs.Pieces.{spliced_removed}
-use Rattle.rv_live.proofs.syncing.delete_lines.Goals as goal
+use Rattle.rv_changes.proofs.Pieces.{spliced_removed}
+use Rattle.rv_changes.proofs.syncing.delete_lines.Goals as goal
 
 pub lines-preserved : goal.lines-preserved
 lines-preserved c =

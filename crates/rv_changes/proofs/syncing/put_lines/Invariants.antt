@@ -1,8 +1,8 @@
 use Rattle.std.proofs.Common.{◌≡◌, ◌+◌, ◌≤◌, length, map}
 use Rattle.rv_program.specs.declared.limits.TheConstants.{MAX_LINES}
 use Rattle.rv_doc.specs.Edits.{spliced}
-use Rattle.rv_live.specs.Assembled.{assembled_line}
-use Rattle.rv_live.proofs.syncing.put_lines.Given as goal
+use Rattle.rv_changes.specs.Assembled.{assembled_line}
+use Rattle.rv_changes.proofs.syncing.put_lines.Given as goal
 
 -- with the lines that are left in the place of those that are left, the text is the whole one
 abbrev pub invariant-lines : goal.invariant-lines

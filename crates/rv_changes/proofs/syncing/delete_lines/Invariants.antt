@@ -1,6 +1,6 @@
 use Rattle.std.proofs.Common.{◌≡◌, ◌+◌, ◌≤◌, [], length}
 use Rattle.rv_doc.specs.Edits.{spliced}
-use Rattle.rv_live.proofs.syncing.delete_lines.Given as goal
+use Rattle.rv_changes.proofs.syncing.delete_lines.Given as goal
 
 abbrev pub invariant-lines : goal.invariant-lines
 invariant-lines l = record {

@@ -3,7 +3,7 @@
 ghost use Rattle.std.specs.Prelude.{◌≡◌, codes, option_map};
 ghost use Rattle.serde_json.specs.Find.{pointer};
 ghost use Rattle.serde_json.specs.View.{view};
-ghost use Rattle.rv_live.specs.Changes.{text_in, number_in, position_in, range_in, is_of_whole, change_of};
+ghost use Rattle.rv_changes.specs.Changes.{text_in, number_in, position_in, range_in, is_of_whole, change_of};
 
 use rv_doc::{Position, Range};
 use serde_json::Value;

@@ -1,0 +1,2 @@
+pub mod ChangedTexts
+pub mod Pieces
