@@ -1,5 +1,6 @@
 //! Names that may be typed at a place.
 
+use crate::comments::end_of;
 use crate::name_uses::Expected;
 use crate::names::text_of;
 use crate::operand_lists::{NameKinds, directive_words, names_taken, slot_words};
@@ -245,7 +246,8 @@ fn put_expected<V: View>(
     }
 }
 
-/// Writes the names that may be typed at a position, which is in this line.
+/// Writes the names that may be typed at a position of this line: none behind its end, and so none in one that is too long, which is assembled
+/// as if it were empty.
 ///
 /// # Errors
 ///
@@ -257,24 +259,26 @@ pub fn put_completions<V: View>(
     line: &LineView<'_>,
     position: Position,
 ) -> Result<(), AllocError> {
-    let text = text_of(line);
+    let whole = text_of(line);
+    let text = first_bytes(whole, end_of(whole));
     let at = before_column(context.encoding, text, position.character);
-    let front = first_bytes(text, at);
-    let Some(typed) = typed_in(context.alloc, front)? else {
+    let place = u32::try_from(at).unwrap_or(u32::MAX);
+    let to = column_at(context.encoding, text, place);
+    if to != position.character {
+        return Ok(());
+    }
+    let Some(typed) = typed_in(context.alloc, first_bytes(text, at))? else {
         return Ok(());
     };
-    let to = u32::try_from(at).unwrap_or(u32::MAX);
+    let span = Span {
+        from: typed.from,
+        to: place,
+    };
     let word = Word {
-        bytes: part(
-            text,
-            Span {
-                from: typed.from,
-                to,
-            },
-        ),
+        bytes: part(text, span),
         line: position.line,
         from: column_at(context.encoding, text, typed.from),
-        to: column_at(context.encoding, text, to),
+        to,
     };
     put_expected(m, context.alloc, view, &word, &typed)
 }
