@@ -1,8 +1,9 @@
 -- Two environments that give the same but for some symbols. What a line gives is the same in both, where it uses none of those
 -- symbols.
-use Rattle.std.proofs.Common.{◌≡◌, ℕ, Bool, true, false, List, [], ◌∷◌, map, Ok, if◌then◌else◌, ap, sym, ◌∙◌, refl}
+use Rattle.std.proofs.Common.{◌≡◌, ℕ, Bool, true, false, List, [], ◌∷◌, map, Option, Some, None, Ok, if◌then◌else◌, ap, sym, ◌∙◌, refl}
 use Rattle.std.specs.List.{list_any, flat_map}
-use Rattle.std.proofs.lemmas.Bool.{or_parts}
+use Rattle.std.specs.Option.{is_some}
+use Rattle.std.proofs.lemmas.Bool.{or_parts, or_right}
 use Rattle.std.proofs.lemmas.List.Folds.{list_any-append}
 use Rattle.rv_expr.specs.declared.tree.LabelReference.{LabelReference}
 use Rattle.rv_expr.specs.Tree.{Tree}
@@ -23,7 +24,8 @@ use Rattle.rv_fix.specs.Displacements.{displacement}
 use Rattle.rv_fix.specs.Values.{for_constants, given_to, operand_value, counted_from, entry_of, operand_values_of}
 use Rattle.rv_program.specs.Constants.{value_without_modifier, first_value, defined_value}
 use Rattle.rv_program.specs.Pairs.{pcrel_high_value, pcrel_high_operand, pcrel_high_of, high_by}
-use Rattle.rv_program.specs.Uses.{names_in, tree_of_label, expression_of, names_used}
+use Rattle.rv_program.specs.Uses.{names_in, tree_of_label, expression_of, names_used, is_equ}
+use Rattle.rv_store.specs.internal.Still.{is_settled}
 use Rattle.rv_program.specs.lemmas.UsedValues.{value-follows}
 
 -- two environments that give the same, but for the symbols that differ and the labels of their names
@@ -105,3 +107,16 @@ module _ {differs : List ℕ → Bool} {given other : Environment} (agree : Agre
   pub high-agrees : (here : ℕ) (b : Body) → list_any differs (names_used b) ≡ false → high_by given here (pcrel_high_of b) ≡ high_by other here (pcrel_high_of b)
   high-agrees here (body.Instr i) names = high-of_operands here i.op i.operands names
   high-agrees here b names = refl
+
+  -- Lines of which others take what they give
+
+  pub defined_value-settled : (b : Body) → (is_settled b ≡ true → list_any differs (names_used b) ≡ false) → defined_value given b ≡ defined_value other b
+  defined_value-settled (body.Equ d) names = defined_value-agrees (body.Equ d) (names refl)
+  defined_value-settled b names = refl
+
+  pub high-settled : (here : ℕ) (b : Body) → (is_settled b ≡ true → list_any differs (names_used b) ≡ false) → high_by given here (pcrel_high_of b) ≡ high_by other here (pcrel_high_of b)
+  high-settled here b names = at (pcrel_high_of b) refl
+    where
+      at : (o : Option Tree) → pcrel_high_of b ≡ o → high_by given here (pcrel_high_of b) ≡ high_by other here (pcrel_high_of b)
+      at None is = ap (high_by given here) is ∙ sym (ap (high_by other here) is)
+      at (Some e) is = high-agrees here b (names (or_right (is_equ b) (is_some (pcrel_high_of b)) (ap is_some is)))

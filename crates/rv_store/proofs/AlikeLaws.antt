@@ -18,7 +18,7 @@ use Rattle.rv_program.specs.Layout.{shape_at, shapes_of, section_at, address_at,
 use Rattle.rv_program.specs.Pairs.{pcrel_high_of}
 use Rattle.rv_program.specs.Program.{Program, no_statement, statement_at, body_at, for_lines}
 use Rattle.rv_program.specs.References.{is_local, among_local, has_local}
-use Rattle.rv_program.specs.internal.Still.{IsStill}
+use Rattle.rv_store.specs.internal.Still.{IsStill}
 use Rattle.rv_program.specs.Uses.{is_equ, names_used}
 use Rattle.rv_store.proofs.ApartLines.{none-of}
 use Rattle.rv_program.specs.lemmas.ConstantRows.{IsEquOf, is_equ_of, equ-defines, constant-kept}
@@ -189,7 +189,8 @@ module _ (p : Program) (k : ℕ) (t : Stmt) (first : 1 ≤ k) (last : k ≤ leng
     longer = omega (arith, length-put);
     behind = λ i past within. absurd (omega (arith, past, within, length-put));
     statements = λ i other. statement-other i (λ e. other.differs (omega (arith, e, first, other.first)));
-    unused = λ i other. none-of (λ name. false) (names_used (body_at p i)) (λ name. refl);
+    unused = λ i other settled. none-of (λ name. false) (names_used (body_at p i)) (λ name. refl);
+    differ = λ i j name no. absurd (true≢false (sym no));
     definitions = λ name none. ap (λ f. f name) definitions-same;
     equs = λ m name within. ap (λ f. is_equ_on m (f name)) definitions-same;
     no_equ = λ within. no_equ;

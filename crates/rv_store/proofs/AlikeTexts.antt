@@ -1,5 +1,5 @@
 -- No other line has to do with a line in the place of one that it is alike.
-use Rattle.std.proofs.Common.{◌≡◌, ℕ, ◌-◌, ◌≤◌, false, List, length, Some, None, if◌then◌else◌, true≢false, arith, ap, sym, subst, ◌∙◌, refl}
+use Rattle.std.proofs.Common.{◌≡◌, ℕ, ◌-◌, ◌≤◌, false, List, [], length, Some, None, if◌then◌else◌, true≢false, arith, ap, sym, subst, ◌∙◌, refl}
 use Rattle.std.proofs.lemmas.Bool.{ne_eqb, eq-eqb}
 use Rattle.std.proofs.lemmas.List.{map-set}
 use Rattle.rv_stmt.specs.Statement.{statement_of}
@@ -10,11 +10,14 @@ use Rattle.rv_store.specs.internal.Alike.{IsAlike}
 use Rattle.rv_program.specs.Constants.{constant_of}
 use Rattle.rv_store.specs.internal.Ends.{ends_of}
 use Rattle.rv_program.specs.Layout.{shape_at, shapes_of, place_at}
-use Rattle.rv_program.specs.Program.{Program, program_of}
-use Rattle.rv_program.specs.internal.Still.{set_or_push, IsStill, IsPutEdit}
+use Rattle.rv_program.specs.Program.{Program, program_of, body_at}
+use Rattle.rv_program.specs.Uses.{names_used}
+use Rattle.rv_program.specs.internal.Still.{set_or_push}
+use Rattle.rv_store.specs.internal.Still.{IsStill, IsPutEdit}
 use Rattle.rv_store.specs.internal.StillLines.{IsStillLine}
 use Rattle.rv_program.specs.Text.{Replace}
 use Rattle.rv_store.proofs.AlikeLaws.{put, shape-put, ends-same, place-same, alike-still}
+use Rattle.rv_store.proofs.ApartLines.{none-of, no_users}
 use Rattle.rv_program.specs.lemmas.Programs.{length-program}
 use Rattle.rv_store.proofs.StillTexts.{set-set_or_push}
 
@@ -27,7 +30,7 @@ replaced-put lines k line first last = record {
 
 pub alike-line : (base : ℕ) (lines : List (List ℕ)) (k : ℕ) (line : List ℕ) (given : Still) → 1 ≤ k → k ≤ length lines → IsAlike (program_of lines) k (statement_of line)
     → given.shape ≡ shape_of (constant_of (program_of lines) k) (statement_of line).body → IsLimited given.shape → given.ends ≡ ends_of (shapes_of (program_of lines)) → given.place ≡ place_at base (program_of lines) k → given.defines ≡ false
-    → IsStillLine base lines k line given
+    → IsStillLine base lines k line given []
 alike-line base lines k line given first last alike shape limited ends place none =
     let p : Program = program_of lines in
     let t = statement_of line in
@@ -43,4 +46,6 @@ alike-line base lines k line given first last alike shape limited ends place non
       place = place ∙ sym (ap (λ f. f k) (place-same p k t first within alike base)) ∙ ap (λ r. place_at base r k) (sym after);
       nothing = λ e name. refl;
       last = λ defines. absurd (true≢false (sym defines ∙ none));
+      those = sym (no_users p (λ name. false) (k - 1) (λ name. refl));
+      later = λ i other past. none-of (λ name. false) (names_used (body_at p i)) (λ name. refl);
     }

@@ -1,9 +1,8 @@
 -- Lines with which no line of a text has to do: what they add, and who uses it.
-use Rattle.std.proofs.Common.{◌≡◌, ℕ, zero, suc, ◌+◌, ◌-◌, ◌<◌, ◌⊎◌, inl, inr, Bool, true, false, not, ◌&&◌, ◌||◌, List, [], ◌∷◌, ◌++◌, length, get_or, bytes_eq, None, if◌then◌else◌, true≢false, arith, ap, sym, subst, ◌∙◌, refl}
+use Rattle.std.proofs.Common.{◌≡◌, ℕ, suc, ◌+◌, ◌<◌, ◌≤◌, ◌⊎◌, inl, inr, Bool, true, false, not, ◌&&◌, ◌||◌, List, [], ◌∷◌, ◌++◌, length, bytes_eq, None, if◌then◌else◌, append-nil, true≢false, arith, ap, sym, subst, ◌∙◌, refl}
 use Rattle.std.specs.List.{list_any}
 use Rattle.std.proofs.Math.Path.{fun_ext}
-use Rattle.std.proofs.lemmas.Bool.{or_parts, lt-ltb, le-ltb}
-use Rattle.std.proofs.lemmas.List.{get_or-map}
+use Rattle.std.proofs.lemmas.Bool.{cases_lt, lt-ltb, le-ltb}
 use Rattle.std.proofs.lemmas.Slice.Eq.{bytes_eq-Decides}
 use Rattle.rv_stmt.specs.declared.statement.Stmt.{Stmt}
 use Rattle.rv_stmt.specs.LabelNames.{Label}
@@ -18,10 +17,12 @@ use Rattle.rv_program.specs.Definitions.{defines_symbol, place_among_labels, pla
 use Rattle.rv_program.specs.internal.Locals.{has_local_labels}
 use Rattle.rv_program.specs.internal.NameSets.{IsBelow, differs}
 use Rattle.rv_program.specs.Pairs.{pcrel_high_of}
-use Rattle.rv_program.specs.Program.{program_of, no_statement, body_at}
+use Rattle.rv_program.specs.Program.{Program, program_of, body_at, lines_that}
 use Rattle.rv_program.specs.internal.Rows.{in_row, AreDefinitions}
 use Rattle.rv_program.specs.Uses.{names_used}
+use Rattle.rv_store.specs.internal.Still.{is_settled, uses_any}
 use Rattle.rv_store.proofs.LongerTexts.{definitions-longer}
+use Rattle.rv_store.proofs.StillLaws.{lines_that-still}
 use Rattle.rv_program.specs.lemmas.DefinitionLaws.{IsWithin, statement-within, definition-within}
 use Rattle.rv_program.specs.lemmas.DefinitionParts.{within-on}
 use Rattle.rv_program.specs.lemmas.LocalLines.{none-among}
@@ -79,30 +80,47 @@ pub none-of : (test : List ℕ → Bool) (names : List (List ℕ)) → ((name : 
 none-of test [] none = refl
 none-of test (n ∷ ns) none = let here = none n in let more = none-of test ns none in λ j. here j || more j
 
-none-at : {A : Type 0} (test : A → Bool) (xs : List A) (i : ℕ) (other : A) → list_any test xs ≡ false → i < length xs → test (get_or xs i other) ≡ false
-none-at test [] i other none within = absurd (omega (arith, within))
-none-at test (x ∷ xs) zero other none within = (or_parts (test x) (list_any test xs) none).0
-none-at test (x ∷ xs) (suc i) other none within = none-at test xs i other (or_parts (test x) (list_any test xs) none).1 (omega (arith, within))
-
 module _ (lines : List (List ℕ)) (s : Stmt) (local : has_local_labels s.labels ≡ false) (high : pcrel_high_of s.body ≡ None) where
   -- a line that adds nothing
   pub apart-unadded : ((name : List ℕ) → adds (program_of lines) s name ≡ false) → IsApart (program_of lines) s
   apart-unadded none = record {
     local = λ number. none-among number s.labels local;
     high = high;
-    unused = λ i first last. none-of (adds (program_of lines) s) (names_used (body_at (program_of lines) i)) none;
+    unused = λ i first last settled. none-of (adds (program_of lines) s) (names_used (body_at (program_of lines) i)) none;
   }
 
-  -- one that adds what no line uses
-  pub apart-unused : list_any (λ l. list_any (adds (program_of lines) s) (names_used (statement_of l).body)) lines ≡ false → IsApart (program_of lines) s
-  apart-unused none = record {
+  -- one that adds what no settled line uses
+  pub apart-unsettled : ((i : ℕ) → 1 ≤ i → i ≤ length lines → is_settled (body_at (program_of lines) i) ≡ true → uses_any (adds (program_of lines) s) (program_of lines) i ≡ false) → IsApart (program_of lines) s
+  apart-unsettled unused = record {
     local = λ number. none-among number s.labels local;
     high = high;
-    unused = λ i first last.
-        let within : i - 1 < length lines = (let count = length-program lines in omega (arith, first, last, count)) in
-        ap (λ t. list_any (adds (program_of lines) s) (names_used t.body)) (get_or-map statement_of lines (i - 1) [] no_statement within)
-        ∙ none-at (λ l. list_any (adds (program_of lines) s) (names_used (statement_of l).body)) lines (i - 1) [] none within;
+    unused = λ i first last. unused i first (omega (arith, last, length-program lines));
   }
+
+-- where a line adds nothing, no line uses it
+pub no_users : (p : Program) (test : List ℕ → Bool) (n : ℕ) → ((name : List ℕ) → test name ≡ false) → lines_that (uses_any test p) n ≡ []
+no_users p test n none =
+    lines_that-still (uses_any test p) (uses_any test p) 0 n (omega arith) (λ i first last. refl) (λ i first last. none-of test (names_used (body_at p i)) none)
+
+-- A row of the lines that pass a test, with the next line
+
+pub row-used : (f : ℕ → Bool) (n : ℕ) (row row' : List ℕ) → row ≡ lines_that f n → f (n + 1) ≡ true → row' ≡ row ++ (n + 1) ∷ [] → row' ≡ lines_that f (n + 1)
+row-used f n row row' are passes is =
+    let next : suc n ≡ n + 1 = omega arith in
+    is ∙ (λ j. are j ++ sym next j ∷ []) ∙ ap (λ b. lines_that f n ++ (if b then suc n ∷ [] else [])) (sym (ap f next ∙ passes)) ∙ ap (lines_that f) next
+
+pub row-unused : (f : ℕ → Bool) (n : ℕ) (row row' : List ℕ) → row ≡ lines_that f n → f (n + 1) ≡ false → row' ≡ row → row' ≡ lines_that f (n + 1)
+row-unused f n row row' are fails is =
+    let next : suc n ≡ n + 1 = omega arith in
+    is ∙ are ∙ sym (append-nil (lines_that f n)) ∙ ap (λ b. lines_that f n ++ (if b then suc n ∷ [] else [])) (sym (ap f next ∙ fails)) ∙ ap (lines_that f) next
+
+-- and what holds of each of them
+pub with-next : (f settled : ℕ → Bool) (n : ℕ) → ((i : ℕ) → 1 ≤ i → i ≤ n → settled i ≡ true → f i ≡ false) → (settled (n + 1) ≡ true → f (n + 1) ≡ false) → (i : ℕ) → 1 ≤ i → i ≤ n + 1 → settled i ≡ true → f i ≡ false
+with-next f settled n earlier here i first last h = at (cases_lt n i)
+  where
+    at : (n < i) ⊎ (i ≤ n) → f i ≡ false
+    at (inr before) = earlier i first before h
+    at (inl past) = let is : i ≡ n + 1 = omega (arith, past, last) in ap f is ∙ here (sym (ap settled is) ∙ h)
 
 -- What a line adds, by the rows of the text
 

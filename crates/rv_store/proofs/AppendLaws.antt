@@ -1,7 +1,9 @@
--- A statement at the end of a text, where no line before it uses a name that it adds, has nothing to do with those lines, if no
--- section moves.
-use Rattle.std.proofs.Common.{◌≡◌, ℕ, suc, ◌+◌, ◌-◌, ◌≤◌, false, not, ◌&&◌, List, [], ◌∷◌, ◌++◌, length, get_or, arith, ap, ◌∙◌, refl}
+-- A statement at the end of a text has to do with the lines before it by the names that it adds alone, if no section moves.
+use Rattle.std.proofs.Common.{◌≡◌, ℕ, suc, ◌+◌, ◌-◌, ◌≤◌, nat_le, Bool, true, false, not, ◌&&◌, List, [], ◌∷◌, ◌++◌, length, get_or, Ok, Err, if◌then◌else◌, true≢false, arith, ap, sym, ◌∙◌, refl}
+use Rattle.std.proofs.lemmas.Bool.{and_parts, not-true, or_left, not_from_false}
 use Rattle.std.proofs.lemmas.List.{get_or_append_left, get_or_past, take-append-le}
+use Rattle.rv_expr.specs.declared.faults.ValueFault.TheVariants.{Undefined, LaterEqu}
+use Rattle.rv_fix.specs.Values.{Entry}
 use Rattle.rv_stmt.specs.declared.statement.Stmt.{Stmt}
 use Rattle.rv_stmt.specs.declared.section.Sect.TheVariants.{Text}
 use Rattle.rv_layout.specs.declared.measured.Measured.TheVariants as measured
@@ -14,12 +16,26 @@ use Rattle.rv_store.specs.internal.Appended.{adds, IsApart, shape_at_end, StaySe
 use Rattle.rv_program.specs.Definitions.{or_place, place_in_statement, definition_of, is_defined}
 use Rattle.rv_program.specs.Layout.{shape_at, shapes_of, section_at, address_at, size_at as size_on, place_at}
 use Rattle.rv_program.specs.Pairs.{pcrel_high_of}
-use Rattle.rv_program.specs.Program.{Program, no_statement}
-use Rattle.rv_program.specs.References.{among_local, has_local}
-use Rattle.rv_program.specs.internal.Still.{IsStill}
+use Rattle.rv_program.specs.Changes.{differs_in_name}
+use Rattle.rv_program.specs.Constants.{constant_of}
+use Rattle.rv_program.specs.Program.{Program, no_statement, body_at}
+use Rattle.rv_program.specs.References.{among_local, has_local, or_faulty_equ, by_definition, equ_value, usable_equs, reference_of}
+use Rattle.rv_program.specs.Sameness.{same_entry, same_constant}
+use Rattle.rv_store.specs.internal.Still.{IsStill}
 use Rattle.rv_program.specs.lemmas.DefinitionLaws.{undefined}
 use Rattle.rv_store.proofs.LongerPrograms.{more, count-more, statement-earlier, statement-last, body-last, definitions-more, equ-earlier, constants-same, shapes-more}
 use Rattle.rv_program.specs.lemmas.Programs.{length-for_lines}
+
+-- what is defined gives something else than an undefined name
+no_fault : (address : ℕ → ℕ) (k : ℕ) (place : DefinitionPlace) (value : Entry) → is_defined place ≡ true → same_entry (by_definition address k place value) (Err Undefined) ≡ false
+no_fault address k Nowhere value h = absurd (true≢false (sym h))
+no_fault address k (ByLabel line index) value h = refl
+no_fault address k (Equ line) value h = at (nat_le line k) value
+  where
+    at : (b : Bool) (value : Entry) → same_entry (if b then or_faulty_equ value else Err LaterEqu) (Err Undefined) ≡ false
+    at true (Ok v) = refl
+    at true (Err fault) = refl
+    at false value = refl
 
 -- The text with one statement more
 
@@ -36,6 +52,19 @@ module _ (p : Program) (s : Stmt) (apart : IsApart p s) where
       at Nowhere h = undefined here h
       at (ByLabel line index) h = refl
       at (Equ line) h = refl
+
+  -- a name that it adds gave nothing before
+  added-differs : (base i j : ℕ) (name : List ℕ) → adds p s name ≡ true → differs_in_name base p (more p s) i j name ≡ true
+  added-differs base i j name added =
+      let here : DefinitionPlace = place_in_statement (suc (length p)) s name in
+      let parts = and_parts (not (is_defined (definition_of p name))) (is_defined here) added in
+      let none : definition_of p name ≡ Nowhere = undefined (definition_of p name) (not-true (is_defined (definition_of p name)) parts.0) in
+      let place : definition_of (more p s) name ≡ here = ap (λ f. f name) (definitions-more p s) ∙ ap (λ d. or_place d here) none in
+      let given = usable_equs (more p s) i (body_at (more p s) i) in
+      let other : same_entry (reference_of base (more p s) i name) (reference_of base p j name) ≡ false =
+      (λ t. same_entry (by_definition (address_at base (more p s)) given (place t) (equ_value base (more p s) given name)) (by_definition (address_at base p) (usable_equs p j (body_at p j)) (none t) (equ_value base p (usable_equs p j (body_at p j)) name)))
+      ∙ no_fault (address_at base (more p s)) given here (equ_value base (more p s) given name) parts.1 in
+      or_left (not (same_entry (reference_of base (more p s) i name) (reference_of base p j name))) (not (same_constant (constant_of (more p s) i name) (constant_of p j name))) (not_from_false _ other)
 
   -- Local labels
 
@@ -91,6 +120,7 @@ module _ (p : Program) (s : Stmt) (apart : IsApart p s) where
           statements = λ i other. statement-earlier p s i other.first other.last;
           unused = λ i other. apart.unused i other.first other.last;
           definitions = definition-same;
+          differ = added-differs base;
           equs = equ-earlier p s;
           no_equ = λ within. absurd (omega (arith, within));
           constants = constants-same p s;

@@ -15,10 +15,11 @@ use Rattle.rv_store.specs.declared.still.Still.{Still}
 use Rattle.rv_store.specs.internal.Appended.{adds, IsApart, shape_at_end, StaySections}
 use Rattle.rv_store.specs.internal.Ends.{ends_of, ends_after, end_in, base_by_ends, next_offset, next_place, place_by_shapes}
 use Rattle.rv_program.specs.Layout.{shape_at, shapes_of, place_at}
-use Rattle.rv_program.specs.Program.{Program, program_of}
+use Rattle.rv_program.specs.Program.{Program, program_of, lines_that}
 use Rattle.rv_program.specs.References.{equ_value}
 use Rattle.rv_program.specs.internal.Rows.{AreShapes}
-use Rattle.rv_program.specs.internal.Still.{set_or_push, IsStill, IsPutEdit}
+use Rattle.rv_program.specs.internal.Still.{set_or_push}
+use Rattle.rv_store.specs.internal.Still.{uses_any, IsStill, IsPutEdit}
 use Rattle.rv_store.specs.internal.StillLines.{IsStillLine}
 use Rattle.rv_program.specs.Text.{Insert}
 use Rattle.rv_store.proofs.AppendLaws.{end-still}
@@ -73,12 +74,13 @@ module _ (ms : List Measured) (m : Measured) (few : length ms < 16384) (limited 
   together-all after is =
       subst (λ e. sum_below (end_in e) sections ≤ 2 ^ 30) (sym is) (ends-together (ms ++ m ∷ []) limited few-all)
 
--- No other line has to do with it, if none uses a name that it adds, and no section moves
-pub ending-line : (base : ℕ) (lines : List (List ℕ)) (line : List ℕ) (shapes : List Measured) (before : Ends) (given : Still) → AreShapes (program_of lines) shapes → AreLimited shapes → length lines < 16384
+-- Other lines have to do with it by the names that it adds alone, if no section moves
+pub ending-line : (base : ℕ) (lines : List (List ℕ)) (line : List ℕ) (shapes : List Measured) (before : Ends) (given : Still) (users : List ℕ) → AreShapes (program_of lines) shapes → AreLimited shapes → length lines < 16384
     → IsApart (program_of lines) (statement_of line) → (given.defines ≡ false → (name : List ℕ) → adds (program_of lines) (statement_of line) name ≡ false)
     → given.shape ≡ shape_at_end (program_of lines) (statement_of line) → IsLimited given.shape → before ≡ ends_of shapes → given.ends ≡ ends_of (shapes ++ given.shape ∷ [])
-    → ((t : ℕ) → t < sections → base_by_ends base given.ends t ≡ base_by_ends base before t) → given.place ≡ place_by_shapes base (shapes ++ given.shape ∷ []) (suc (length shapes)) → IsStillLine base lines (length lines + 1) line given
-ending-line base lines line shapes before given are limited few apart nothing shape limited_end is all stay place =
+    → ((t : ℕ) → t < sections → base_by_ends base given.ends t ≡ base_by_ends base before t) → given.place ≡ place_by_shapes base (shapes ++ given.shape ∷ []) (suc (length shapes))
+    → users ≡ lines_that (uses_any (adds (program_of lines) (statement_of line)) (program_of lines)) (length lines) → IsStillLine base lines (length lines + 1) line given users
+ending-line base lines line shapes before given users are limited few apart nothing shape limited_end is all stay place those =
     let p : Program = program_of lines in
     let s : Stmt = statement_of line in
     let from_program : length p ≡ length lines = length-program lines in
@@ -106,6 +108,8 @@ ending-line base lines line shapes before given are limited few apart nothing sh
       ends = all ∙ ap ends_of rows ∙ ap (λ r. ends_of (shapes_of r)) after;
       place = place ∙ (λ i. place_by_shapes base (rows i) (suc (length shapes))) ∙ ap (place_by_shapes base (shapes_of (more p s))) (ap suc (count ∙ sym from_program)) ∙ (λ j. place_at base (after j) (number j));
       nothing = nothing;
+      those = those ∙ ap (lines_that (uses_any (adds p s) p)) (let back : length lines ≡ length lines + 1 - 1 = omega arith in back);
+      later = λ i other past. absurd (let last = other.last in omega (arith, past, last, from_program));
       last = λ defines. (
         omega arith,
         record { apart = apart; earlier = ap (λ r. equ_value base r (length lines)) (program-longer lines line) ∙ equ_value-still still (length lines) (omega (arith, from_program)) },

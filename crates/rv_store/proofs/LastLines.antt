@@ -19,12 +19,12 @@ use Rattle.rv_program.specs.Changes.{is_new_or, differs_in_code, is_changed, cha
 use Rattle.rv_program.specs.Codes.{values_at, code_at}
 use Rattle.rv_program.specs.Constants.{constant_through}
 use Rattle.rv_program.specs.Layout.{shape_at, shapes_of, place_at}
-use Rattle.rv_program.specs.Program.{Program, program_of, for_lines}
+use Rattle.rv_program.specs.Program.{Program, program_of, for_lines, lines_that}
 use Rattle.rv_program.specs.References.{equ_value}
 use Rattle.rv_program.specs.Text.{Edit, Delete, lines_after}
 use Rattle.rv_program.specs.internal.Items.{AreItems}
 use Rattle.rv_program.specs.internal.Rows.{AreConstants, AreEquValues, AreShapes, AreHighs, ArePairedHighs}
-use Rattle.rv_program.specs.internal.Still.{IsOther, IsStill}
+use Rattle.rv_program.specs.internal.LinesAhead.{all_ahead, none_ahead}
 use Rattle.rv_program.specs.lemmas.Programs.{at-for_lines, length-for_lines, length-program}
 use Rattle.rv_program.specs.lemmas.SamenessLaws.{same_code-Decides}
 use Rattle.rv_store.specs.declared.ends.Ends.{Ends}
@@ -33,6 +33,7 @@ use Rattle.rv_store.specs.declared.still.Still.{Still}
 use Rattle.rv_store.specs.declared.survey.Survey.{Survey}
 use Rattle.rv_store.specs.internal.Appended.{adds, shape_at_end, IsApart, AreSymbols}
 use Rattle.rv_store.specs.internal.Ends.{ends_of, ends_after, ends_before, base_by_ends, next_offset, place_by_shapes}
+use Rattle.rv_store.specs.internal.Still.{uses_any, IsOther, IsStill}
 use Rattle.rv_store.specs.internal.StillLines.{IsStillLine, IsLastLine}
 use Rattle.rv_store.specs.internal.Surveys.{IsSurvey}
 use Rattle.rv_store.proofs.EndLaws.{at-section, ends_of-push, take-AreLimited}
@@ -132,15 +133,16 @@ module _ (base : ℕ) (lines : List (List ℕ)) (line : List ℕ) where
     -- no other line has to do with it
     pub is-last_line : (given : LastLine) (ends : Ends) (text : List (List ℕ)) → text ≡ lines ++ line ∷ [] → ends ≡ ends_of (shapes_of (program_of (lines ++ line ∷ []))) → given.before ≡ ends_of shapes
         → ((t : ℕ) → t < sections → base_by_ends base ends t ≡ base_by_ends base given.before t) → IsApart (program_of lines) (statement_of line)
-        → (given.defines ≡ false → (name : List ℕ) → adds (program_of lines) (statement_of line) name ≡ false) → IsLastLine base text given
-    is-last_line given ends text whole all first stay apart nothing =
+        → (given.defines ≡ false → (name : List ℕ) → adds (program_of lines) (statement_of line) name ≡ false)
+        → [] ≡ lines_that (uses_any (adds (program_of lines) (statement_of line)) (program_of lines)) (length lines) → IsLastLine base text given
+    is-last_line given ends text whole all first stay apart nothing unused =
         let there : Still = record { shape = shape; ends = ends; place = place_by_shapes base (shapes ++ shape ∷ []) (suc (length shapes)); defines = given.defines } in
         record {
           lines = lines;
           line = line;
           there = there;
           whole = whole;
-          still = ending-line base lines line shapes given.before there refl limited-without few apart nothing refl (limited-last shapes shape limited) first (all ∙ ap ends_of shapes-with) stay refl;
+          still = ending-line base lines line shapes given.before there [] refl limited-without few apart nothing refl (limited-last shapes shape limited) first (all ∙ ap ends_of shapes-with) stay refl unused;
           before = first;
           defines = refl;
         }
@@ -167,7 +169,7 @@ module _ (base : ℕ) (lines : List (List ℕ)) (line : List ℕ) (names : List 
 
 -- Without it
 
-module _ {base : ℕ} {lines : List (List ℕ)} {line : List ℕ} {there : Still} (is : IsStillLine base lines (length lines + 1) line there) where
+module _ {base : ℕ} {lines : List (List ℕ)} {line : List ℕ} {there : Still} (is : IsStillLine base lines (length lines + 1) line there []) where
   abbrev without : Program
   without = program_of lines
 
@@ -179,6 +181,15 @@ module _ {base : ℕ} {lines : List (List ℕ)} {line : List ℕ} {there : Still
 
   other : (i : ℕ) → 1 ≤ i → i ≤ length lines → IsOther without (length lines + 1) i
   other i first last = record { first = first; last = omega (arith, last, length-program lines); differs = λ e. omega (arith, e, last) }
+
+  -- no line uses a name that is touched
+  unused : (i : ℕ) → IsOther without (length lines + 1) i → uses_any is.touched without i ≡ false
+  unused i there =
+      let count = length-program lines in
+      let back : length lines + 1 - 1 ≡ length lines = omega arith in
+      none_ahead (uses_any is.touched without) 0 (length lines)
+      (sym (all_ahead (uses_any is.touched without) (length lines)) ∙ ap (lines_that (uses_any is.touched without)) (sym back) ∙ sym is.those)
+      i (let first = there.first in omega (arith, first)) (let last = there.last in omega (arith, last, count))
 
   row-back : {A : Type 0} (f g : ℕ → A) (n : ℕ) → n ≡ suc (length lines) → ((i : ℕ) → IsOther without (length lines + 1) i → g i ≡ f i) → take (length lines) (for_lines g n) ≡ for_lines f (length lines)
   row-back f g n all same =
@@ -241,8 +252,8 @@ module _ {base : ℕ} {lines : List (List ℕ)} {line : List ℕ} {there : Still
       subst (AreItems base lines) (sym (without-last items (length lines) few)) (record {
         lines = sym (take-map (λ i. i.line) (length lines) items) ∙ ap (take (length lines)) are.lines ∙ take-append_seam lines (line ∷ []);
         shapes = item-row (λ i. i.shape) (shape_at without) (shape_at whole) items (shape-still still) are.shapes;
-        values = item-row (λ i. i.values.value) (values_at base without) (values_at base whole) items (λ i there. values-still still i there (still.unused i there)) are.values;
-        codes = item-row (λ i. i.code) (code_at base without) (code_at base whole) items (λ i there. code-still still i there (still.unused i there)) are.codes;
+        values = item-row (λ i. i.values.value) (values_at base without) (values_at base whole) items (λ i there. values-still still i there (unused i there)) are.values;
+        codes = item-row (λ i. i.code) (code_at base without) (code_at base whole) items (λ i there. code-still still i there (unused i there)) are.codes;
       })
 
   -- The edit
@@ -264,4 +275,4 @@ module _ {base : ℕ} {lines : List (List ℕ)} {line : List ℕ} {there : Still
       let there : IsOther without (length lines + 1) i = other i (omega (arith, first)) within in
       let stood : nat_lt i (suc (length lines)) ≡ true = lt-ltb i (suc (length lines)) (omega (arith, within)) in
       (λ j. is_new_or (differs_in_code base whole (program_of (lines-without j)) i) (if stood j then Some i else Some (i + 1)))
-      ∙ not_from_true _ ((same_code-Decides _ _).1 (sym (code-still still i there (still.unused i there)))))
+      ∙ not_from_true _ ((same_code-Decides _ _).1 (sym (code-still still i there (unused i there)))))

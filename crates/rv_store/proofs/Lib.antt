@@ -27,6 +27,7 @@ pub mod PassedItems
 pub mod PlacesAfter
 pub mod QuietLines
 pub mod RememberedNames
+pub mod RenewedUsers
 pub mod Rooms
 pub mod ShapeRows
 pub mod ShownLines

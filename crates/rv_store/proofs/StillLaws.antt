@@ -1,4 +1,4 @@
--- Where a line is new and no other one has to do with it, all other lines stay as they are.
+-- Where a line is new and the others have to do with it by its names alone, all of them that use none of these stay as they are.
 use Rattle.std.proofs.Common.{◌≡◌, ℕ, zero, suc, ◌+◌, ◌-◌, ◌<◌, ◌≤◌, ◌⊎◌, inl, inr, nat_le, Bool, true, false, ◌==◌, not, ◌&&◌, List, [], ◌∷◌, ◌++◌, length, take, get_or, Option, Some, None, Err, Ok, ok_or, pos, if◌then◌else◌, append-nil, arith, ap, sym, ◌∙◌, refl}
 use Rattle.std.specs.List.{list_any}
 use Rattle.std.proofs.Math.Path.{fun_ext}
@@ -26,9 +26,9 @@ use Rattle.rv_program.specs.Pairs.{pcrel_high_of, high_by, high_at, has_bytes_in
 use Rattle.rv_program.specs.Program.{Program, body_at, lines_that, last_line, first_line}
 use Rattle.rv_program.specs.References.{has_local, local_line, line_of_place, label_line, or_faulty_equ, by_definition, address_of_line, names_on, no_pairs, equ_value, symbol_through, usable_equs, reference_of, references_at}
 use Rattle.rv_program.specs.internal.Rows.{HoldHighs}
-use Rattle.rv_program.specs.internal.Still.{IsOther, IsStill}
+use Rattle.rv_store.specs.internal.Still.{IsOther, IsStill}
 use Rattle.rv_program.specs.Uses.{names_in, tree_of_label, names_used}
-use Rattle.rv_store.proofs.AgreeingNames.{Agree, operand_values-agree, defined_value-agrees, high-agrees}
+use Rattle.rv_store.proofs.AgreeingNames.{Agree, operand_values-agree, defined_value-agrees, defined_value-settled, high-settled}
 use Rattle.rv_program.specs.lemmas.ConstantRows.{constant-kept}
 use Rattle.rv_program.specs.lemmas.DefinitionLaws.{IsWithin, definition-within}
 use Rattle.rv_program.specs.lemmas.EquLaws.{equ_value-kept}
@@ -44,7 +44,7 @@ same_number x y = at (cases_lt x y) (cases_lt y x)
 
 -- Lines that pass a test, where no line behind the first n does
 
-lines_that-same : (f g : ℕ → Bool) (n : ℕ) → ((i : ℕ) → 1 ≤ i → i ≤ n → f i ≡ g i) → lines_that f n ≡ lines_that g n
+pub lines_that-same : (f g : ℕ → Bool) (n : ℕ) → ((i : ℕ) → 1 ≤ i → i ≤ n → f i ≡ g i) → lines_that f n ≡ lines_that g n
 lines_that-same f g zero same = refl
 lines_that-same f g (suc n) same =
     let earlier = lines_that-same f g n (λ i first last. same i first (omega (arith, last))) in
@@ -227,7 +227,7 @@ module _ {base : ℕ} {p q : Program} {k : ℕ} {touched : List ℕ → Bool} (i
       at earlier (inr differs) =
           let other : IsOther p k (suc m) = record { first = omega arith; last = within; differs = differs } in
           let names = expressions-agree (suc m) (symbol_through base q m) (symbol_through base p m) (omega arith) within (symbol-by m earlier) in
-          let value = ap (defined_value (names_on base q (suc m) (symbol_through base q m) no_pairs)) (body-still (suc m) other) ∙ defined_value-agrees names (body_at p (suc m)) (is.unused (suc m) other) in
+          let value = ap (defined_value (names_on base q (suc m) (symbol_through base q m) no_pairs)) (body-still (suc m) other) ∙ defined_value-settled names (body_at p (suc m)) (is.unused (suc m) other) in
           λ j name. if is.equs (suc m) name within j then value j else earlier j name
 
   -- The lines behind the text give none of the other symbols
@@ -281,7 +281,7 @@ module _ {base : ℕ} {p q : Program} {k : ℕ} {touched : List ℕ → Bool} (i
           let address = address-still i first last in
           let here = body-still i other in
           (λ j. high_by (references_at base q i) (address j) (pcrel_high_of (here j)))
-          ∙ high-agrees (references-agree i other) (address_at base p i) (body_at p i) (is.unused i other)
+          ∙ high-settled (references-agree i other) (address_at base p i) (body_at p i) (is.unused i other)
 
   high-behind : (i : ℕ) → length p < i → i ≤ length q → high_at base q i ≡ Err NoPartner
   high-behind i past last = ap (high_at base q) (is.behind i past last) ∙ high-new

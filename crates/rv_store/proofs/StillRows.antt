@@ -12,7 +12,8 @@ use Rattle.rv_store.specs.internal.Ends.{ends_of}
 use Rattle.rv_program.specs.Layout.{shape_at, place_at}
 use Rattle.rv_program.specs.Program.{Program, program_of}
 use Rattle.rv_program.specs.internal.Rows.{AreDefinitions, AreConstants, AreEquValues, AreShapes, ArePlaces, AreLocals, AreHighs, ArePairedHighs}
-use Rattle.rv_program.specs.internal.Still.{set_or_push, IsStill}
+use Rattle.rv_program.specs.internal.Still.{set_or_push}
+use Rattle.rv_store.specs.internal.Still.{IsStill}
 use Rattle.rv_store.specs.internal.StillLines.{IsStillLine, AreLinesPut, MayBePut, ArePartlyPut, IsAt, taken_back, MayWait}
 use Rattle.rv_store.specs.internal.Surveys.{IsSurvey}
 use Rattle.rv_store.proofs.Columns.{set-back}
@@ -139,7 +140,7 @@ module _ {base : ℕ} {p q : Program} {k : ℕ} {touched : List ℕ → Bool} (i
     paired_highs = subst (ArePairedHighs base q) (sym paired_highs) (paired_highs-still is old.paired_highs.items are.paired_highs);
   }
 
-module _ {base : ℕ} {lines : List (List ℕ)} {k : ℕ} {line : List ℕ} {given : Still} (is : IsStillLine base lines k line given) where
+module _ {base : ℕ} {lines : List (List ℕ)} {k : ℕ} {line : List ℕ} {given : Still} {users : List ℕ} (is : IsStillLine base lines k line given users) where
   module _ (names : List (List ℕ)) (old new : Survey) (are : IsSurvey base (program_of lines) names old) (put : AreLinesPut (k - 1) line given old new) where
     shapes-put : AreShapes (program_of (set_or_push lines (k - 1) line)) new.shapes.items
     shapes-put =

@@ -11,6 +11,8 @@ pub mod FormerShapes
 pub mod KeptConstants
 pub mod MovedPlaces
 pub mod Passed
+pub mod Still
 pub mod StillLines
 pub mod Stored
 pub mod Surveys
+pub mod Users

@@ -1,6 +1,6 @@
-//! Lines at the end of a text with which no other line has to do.
+//! Lines at the end of a text with which other lines have to do by their names alone.
 
-ghost use Rattle.std.specs.Prelude.{◌≡◌, ◌≤◌, ◌+◌, ℕ, List, true, false, length, IfSome, IfOk};
+ghost use Rattle.std.specs.Prelude.{◌≡◌, ◌≤◌, ◌+◌, ℕ, List, [], true, false, length, IfSome, IfOk};
 ghost use Rattle.std.specs.List.{list_any};
 ghost use Rattle.rv_stmt.specs.LentLabels.{name_lent};
 ghost use Rattle.rv_stmt.specs.Statement.{statement_of};
@@ -9,7 +9,8 @@ ghost use Rattle.rv_store.specs.internal.Appended.{adds, is_earlier, TellEarlier
 ghost use Rattle.rv_store.specs.internal.Apart.{added_by, AreMarked};
 ghost use Rattle.rv_program.specs.Definitions.{defines_symbol, place_in_body, is_defined};
 ghost use Rattle.rv_program.specs.internal.NameSets.{Has};
-ghost use Rattle.rv_program.specs.Program.{program_of};
+ghost use Rattle.rv_program.specs.Program.{program_of, body_at, lines_that};
+ghost use Rattle.rv_store.specs.internal.Still.{is_settled, uses_any};
 ghost use Rattle.rv_program.specs.Uses.{names_used};
 
 use rv_list::DefinitionPlace;
@@ -48,6 +49,14 @@ impl NameTest for LineBehind<'_> {
         let place = entry_of(self.names, self.definitions, DefinitionPlace::Nowhere, name);
         !is_earlier(self.number, place) && is_defined(place_on(self.line, self.number, name))
     }
+}
+
+// Whether other lines take what a line gives: it is an `.equ`, or a high half.
+fn is_settled(line: &Line) -> bool
+    ensures { result ≡ is_settled (statement_of line.now).body }
+{
+    let brief = line.brief();
+    brief.equ || brief.pcrel_high
 }
 
 impl LineBehind<'_> {
@@ -97,45 +106,79 @@ impl LineBehind<'_> {
         requires { (name : List ℕ) → added_by self.now name ≡ true → Has added.now name }
         ensures { result ≡ list_any (added_by self.now) (names_used (statement_of line.now).body) }
     {
-        line.brief().names.meets(added) && any_name(&line.stmt().body, self)
+        let brief = line.brief();
+        if !brief.symbols {
+            return false;
+        }
+        brief.names.meets(added) && any_name(&line.stmt().body, self)
     }
 
-    // Whether one of the lines does. The last lines are looked at first, since a symbol is mostly used near its definition.
-    fn is_used(&self, lines: &[Line], added: &NameSet) -> bool
+    // The lines that do, rising, or `None` if other lines take what one of them gives, or there is no memory for them.
+    fn users(&self, alloc: Global, lines: &[Line], added: &NameSet) -> Option<Vec<u32>>
         requires few { length lines.now ≤ MAX_LINES }
         requires added { (name : List ℕ) → added_by self.now name ≡ true → Has added.now name }
-        ensures { result ≡ list_any (λ l. list_any (added_by self.now) (names_used (statement_of l).body)) lines.now }
+        ensures users { IfSome result (λ row. row.items ≡ lines_that (uses_any (added_by self.now) (program_of lines.now)) (length lines.now)) }
+        ensures unsettled { IfSome result (λ _. (i : ℕ) → 1 ≤ i → i ≤ length lines.now → is_settled (body_at (program_of lines.now) i) ≡ true → uses_any (added_by self.now) (program_of lines.now) i ≡ false) }
     {
-        for k in (0..lines.len()).rev() {
-            if self.is_used_on(&lines[k], added) {
-                return true;
+        let mut users = Vec::new(alloc);
+        for (i, line) in lines.iter().enumerate() {
+            if self.is_used_on(line, added) {
+                if is_settled(line) {
+                    return None;
+                }
+                let Ok(()) = users.push(i as u32 + 1) else {
+                    return None;
+                };
             }
         }
-        false
+        Some(users)
     }
 }
 
-/// Whether a line behind a text defines a name that the text does not; `definitions` says where names are defined, with that line or
-/// without it. `None` if another line may have to do with it: the text uses such a name, or the line has a local label, or is a high half,
-/// or there is no memory to find out.
+/// What a line behind a text adds to it.
+#[derive(Drop)]
+pub struct Added {
+    /// It defines a name that the text does not.
+    pub any: bool,
+    /// The lines of the text that use such a name, rising.
+    pub users: Vec<u32>,
+}
+
+impl Added {
+    // No name.
+    fn nothing(alloc: Global) -> Added
+        ensures any { result.any ≡ false }
+        ensures users { result.users.items ≡ [] }
+    {
+        Added {
+            any: false,
+            users: Vec::new(alloc),
+        }
+    }
+}
+
+/// What a line behind a text adds to it; `definitions` says where names are defined, with that line or without it. `None` if another line
+/// may have to do with it otherwise than by a name: an `.equ` or a high half of the text uses one that it adds, or the line has a local
+/// label, or is a high half, or there is no memory to find out.
 pub fn adds_apart(
     alloc: Global,
     lines: &[Line],
     names: &NameTable,
     definitions: &[DefinitionPlace],
     line: &Line,
-) -> Option<bool>
+) -> Option<Added>
     requires definitions { TellEarlier lines.now names.now definitions.now }
     requires few { length lines.now ≤ MAX_LINES }
     ensures apart { IfSome result (λ _. IsApart (program_of lines.now) (statement_of line.now)) }
-    ensures nothing { IfSome result (λ any. any ≡ false → (name : List ℕ) → adds (program_of lines.now) (statement_of line.now) name ≡ false) }
+    ensures nothing { IfSome result (λ added. added.any ≡ false → (name : List ℕ) → adds (program_of lines.now) (statement_of line.now) name ≡ false) }
+    ensures users { IfSome result (λ added. added.users.items ≡ lines_that (uses_any (adds (program_of lines.now) (statement_of line.now)) (program_of lines.now)) (length lines.now)) }
 {
     let brief = line.brief();
     if brief.local_labels || brief.pcrel_high {
         return None;
     }
     if !may_define(line) {
-        return Some(false);
+        return Some(Added::nothing(alloc));
     }
     let behind = LineBehind {
         line,
@@ -147,10 +190,8 @@ pub fn adds_apart(
         return None;
     };
     if added.is_empty() {
-        return Some(false);
+        return Some(Added::nothing(alloc));
     }
-    if behind.is_used(lines, &added) {
-        return None;
-    }
-    Some(true)
+    let users = behind.users(alloc, lines, &added)?;
+    Some(Added { any: true, users })
 }

@@ -1,4 +1,4 @@
-//! A line at the end of a text with which no other line has to do.
+//! A line at the end of a text with which other lines have to do by its names alone.
 
 ghost use Rattle.std.specs.Prelude.{◌≡◌, ◌+◌, ◌<◌, length, true, IfSome};
 ghost use Rattle.rv_layout.specs.Places.{IsLimited, AreLimited, is_base};
@@ -18,8 +18,17 @@ use rv_layout::Measured;
 use rv_program::{Line, NameTable};
 use std::alloc::Global;
 
-/// What a line of this shape adds at the end of a text, if no other line has to do with it: none uses what it defines, and no section
-/// moves by it.
+/// A line at the end of a text.
+#[derive(Drop)]
+pub struct Ending {
+    /// What it is.
+    pub still: Still,
+    /// The lines before it that use a name that it alone defines, rising.
+    pub users: Vec<u32>,
+}
+
+/// What a line of this shape adds at the end of a text, if other lines have to do with it by its names alone: no `.equ` and no high half
+/// uses what it defines, and no section moves by it.
 pub fn apart_ending(
     alloc: Global,
     base: u32,
@@ -27,7 +36,7 @@ pub fn apart_ending(
     survey: &Survey,
     line: &Line,
     shape: Measured,
-) -> Option<Still>
+) -> Option<Ending>
     requires base { is_base base ≡ true }
     requires definitions { AreDefinitions (program_of survey.now.lines.items) names.now survey.now.definitions.items }
     requires shapes { AreShapes (program_of survey.now.lines.items) survey.now.shapes.items }
@@ -36,19 +45,23 @@ pub fn apart_ending(
     requires few { length survey.now.lines.items < MAX_LINES }
     requires shape { shape ≡ shape_at_end (program_of survey.now.lines.items) (statement_of line.now) }
     requires limited_shape { IsLimited shape }
-    ensures { IfSome result (IsStillLine base survey.now.lines.items (length survey.now.lines.items + 1) line.now) }
+    ensures { IfSome result (λ end. IsStillLine base survey.now.lines.items (length survey.now.lines.items + 1) line.now end.still end.users.items) }
 {
     let mut ends = survey.ends;
     ends.advance(&shape);
     if !stay_sections(base, &survey.ends, &ends) {
         return None;
     }
-    let defines = adds_apart(alloc, &survey.lines, names, &survey.definitions, line)?;
+    let added = adds_apart(alloc, &survey.lines, names, &survey.definitions, line)?;
     let place = last_place(base, &survey.ends, &ends, &shape);
-    Some(Still {
+    let still = Still {
         shape,
         ends,
         place,
-        defines,
+        defines: added.any,
+    };
+    Some(Ending {
+        still,
+        users: added.users,
     })
 }

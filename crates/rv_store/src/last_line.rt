@@ -36,8 +36,14 @@ pub fn last_line(alloc: Global, base: u32, names: &NameTable, survey: &Survey) -
     if !stay_sections(base, &before, &survey.ends) {
         return None;
     }
-    let defines = adds_apart(alloc, earlier, names, &survey.definitions, line)?;
-    Some(LastLine { before, defines })
+    let added = adds_apart(alloc, earlier, names, &survey.definitions, line)?;
+    if !added.users.is_empty() {
+        return None;
+    }
+    Some(LastLine {
+        before,
+        defines: added.any,
+    })
 }
 
 impl Survey {

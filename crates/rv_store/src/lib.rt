@@ -24,6 +24,7 @@ mod still;
 mod store;
 mod survey;
 mod symbols;
+mod users;
 
 pub use changed::{Changed, LineNumbers};
 pub use rv_layout::base_ok;

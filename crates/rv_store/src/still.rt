@@ -1,19 +1,23 @@
-//! Lines with which no other line has to do: in the place of another one or behind the last one, only that line is made.
+//! Lines with which other lines have to do by their names alone: in the place of another one or behind the last one, only that line and those
+//! that use such a name are made.
 
-ghost use Rattle.std.specs.Prelude.{◌≡◌, ◌≤◌, ◌+◌, ◌-◌, ◌*◌, ◌^◌, [], ◌∷◌, length, IfOk, IfErr, OnOk, OnErr};
+ghost use Rattle.std.specs.Prelude.{◌≡◌, ◌≤◌, ◌+◌, ◌-◌, ◌*◌, ◌^◌, [], ◌∷◌, ◌++◌, length, IfOk, IfErr, OnOk, OnErr};
+ghost use Rattle.std.specs.List.{sum_by};
 ghost use Rattle.rv_stmt.specs.Statement.{statement_of};
 ghost use Rattle.rv_program.specs.declared.limits.TheConstants.{MAX_LINES};
 ghost use Rattle.rv_store.specs.internal.Appended.{AreSameLines, AreSameSymbols, AreSymbols};
-ghost use Rattle.rv_program.specs.internal.Items.{IsItemPut};
-ghost use Rattle.rv_program.specs.Program.{program_of};
+ghost use Rattle.rv_program.specs.Codes.{values_at, code_at};
+ghost use Rattle.rv_program.specs.internal.Items.{AreItems};
+ghost use Rattle.rv_program.specs.Program.{program_of, body_at, lines_that};
 ghost use Rattle.rv_program.specs.internal.Still.{set_or_push};
 ghost use Rattle.rv_store.specs.internal.StillLines.{IsStillLine, AreLinesPut, ArePartlyPut, IsFormerLine, taken_back};
 ghost use Rattle.rv_store.specs.internal.Surveys.{IsSurvey};
+ghost use Rattle.rv_store.specs.internal.Users.{is_revalued, is_recoded};
 ghost use Rattle.rv_program.specs.internal.Work.{equ_operands, value_operands};
 
 use crate::changed::Changed;
 use crate::ends::Ends;
-use crate::line_items::item_put;
+use crate::line_items::items_put;
 use crate::survey::Survey;
 use rv_layout::Measured;
 use rv_list::LinePlace;
@@ -22,7 +26,7 @@ use rv_text::Count;
 use rv_tree::SumTree;
 use std::alloc::{AllocError, Global};
 
-/// What a line is, with which no other line has to do.
+/// What a line is, with which other lines have to do by its names alone.
 #[derive(Clone, Copy)]
 pub struct Still {
     /// Its shape.
@@ -123,11 +127,12 @@ impl Survey {
     }
 }
 
-/// Puts a line in the place of line `k` of a text, or behind the last one, and makes its item, by the survey of the text. The report
-/// is that this line is new. Names that it defines get numbers, also where there is no memory for the rest.
+/// Puts a line in the place of line `k` of a text, or behind the last one, and makes its item and those of the lines that use a name that
+/// it touches, by the survey of the text. The report is that this line is new, and which of the others have another code. Names that it
+/// defines get numbers, also where there is no memory for the rest.
 ///
-/// The counter's number of expressions computed rises by at most the operands of the line, two for an `.equ`, and its number of
-/// lines encoded by at most one, whatever the outcome.
+/// The counter's number of expressions computed rises by at most the operands of these lines, two for an `.equ`, and its number of
+/// lines encoded by at most one and those of the others that have other values, whatever the outcome.
 ///
 /// # Errors
 ///
@@ -142,35 +147,37 @@ pub fn put_still<C: Count>(
     k: u32,
     line: Line,
     still: &Still,
+    users: &[u32],
     counter: &mut C,
 ) -> Result<(SumTree<Item>, Changed), EditError>
     requires survey { IsSurvey base (program_of survey.old.lines.items) names.old survey.old }
-    requires still { IsStillLine base survey.old.lines.items k line still.now }
+    requires still { IsStillLine base survey.old.lines.items k line still.now users.now }
     requires few { length (set_or_push survey.old.lines.items (k - 1) line) ≤ MAX_LINES }
-    requires count { length items.now.items ≡ length survey.old.lines.items }
+    requires items { AreItems base survey.old.lines.items items.now.items }
     requires valued { C.valued_count counter.old ≤ 2 ^ 63 + 1 }
     requires encoded { C.encoded_count counter.old ≤ 2 ^ 63 }
     ensures lines { OnOk result (survey.new.lines.items ≡ set_or_push survey.old.lines.items (k - 1) line) }
     ensures survey { OnOk result (IsSurvey base (program_of (set_or_push survey.old.lines.items (k - 1) line)) names.new survey.new) }
     ensures err { OnErr result (ArePartlyPut (k - 1) survey.old survey.new) }
     ensures symbols { OnErr result (AreSymbols base (program_of survey.old.lines.items) (length survey.old.lines.items) names.new survey.new) }
-    ensures items { IfOk result (λ r. IsItemPut base (set_or_push survey.old.lines.items (k - 1) line) k items.now.items r.0.items) }
-    ensures changed { IfOk result (λ r. r.1.lines ≡ k ∷ []) }
+    ensures items { IfOk result (λ r. AreItems base (set_or_push survey.old.lines.items (k - 1) line) r.0.items) }
+    ensures changed { IfOk result (λ r. r.1.lines ≡ lines_that (is_recoded base (set_or_push survey.old.lines.items (k - 1) line) (code_at base (program_of survey.old.lines.items))) (k - 1) ++ k ∷ []) }
     ensures memory { IfErr result (λ e. e ≡ EditError.Memory) }
     ensures parsed { C.parsed_count counter.new ≡ C.parsed_count counter.old }
     ensures valued_least { C.valued_count counter.old ≤ C.valued_count counter.new }
-    ensures valued_most { C.valued_count counter.new ≤ C.valued_count counter.old + 2 * equ_operands (statement_of line).body + value_operands (statement_of line).body }
-    ensures valued_few { C.valued_count counter.new ≤ C.valued_count counter.old + 1002 }
+    ensures valued_most { C.valued_count counter.new ≤ C.valued_count counter.old + 2 * equ_operands (statement_of line).body + value_operands (statement_of line).body
+        + sum_by (λ i. value_operands (body_at (program_of (set_or_push survey.old.lines.items (k - 1) line)) i)) users.now }
+    ensures valued_few { C.valued_count counter.new ≤ C.valued_count counter.old + 2 + 1000 * k }
     ensures encoded_least { C.encoded_count counter.old ≤ C.encoded_count counter.new }
-    ensures encoded_most { C.encoded_count counter.new ≤ C.encoded_count counter.old + 1 }
+    ensures encoded_most { C.encoded_count counter.new ≤ C.encoded_count counter.old + 1
+        + length (lines_that (is_revalued base (set_or_push survey.old.lines.items (k - 1) line) (values_at base (program_of survey.old.lines.items))) (k - 1)) }
+    ensures encoded_few { C.encoded_count counter.new ≤ C.encoded_count counter.old + k }
 {
-    let mut numbers = Vec::new(alloc);
-    numbers.push(k)?;
     let new = line.share()?;
     survey.put_line(k as usize - 1, line, still)?;
     survey.define_last(alloc, base, names, &new, still.defines, counter)?;
-    match item_put(alloc, base, names, survey, items, k, counter) {
-        Ok(items) => Ok((items, Changed::of(numbers))),
+    match items_put(alloc, base, names, survey, items, k, users, counter) {
+        Ok(put) => Ok(put),
         Err(e) => {
             survey.forget_last(names, &new, still.defines);
             Err(e)

@@ -15,7 +15,7 @@ ghost use Rattle.rv_program.specs.internal.Former.{AreFormer};
 ghost use Rattle.rv_program.specs.Layout.{address_at};
 ghost use Rattle.rv_program.specs.internal.NewShapes.{IsNewShape, shape_operands};
 ghost use Rattle.rv_program.specs.Program.{program_of};
-ghost use Rattle.rv_program.specs.internal.Still.{IsPutEdit};
+ghost use Rattle.rv_store.specs.internal.Still.{IsPutEdit};
 ghost use Rattle.rv_store.specs.internal.StillLines.{IsStillLine, IsLastLine};
 ghost use Rattle.rv_store.specs.Symbols.{symbol_of};
 ghost use Rattle.rv_program.specs.Text.{is_line, at_line, Insert, Delete, Replace, refusal_of, lines_after, text_after, Edits};
@@ -27,7 +27,7 @@ use crate::alike::are_alike;
 use crate::assembly::assembled;
 use crate::changed::Changed;
 use crate::column::{edit_lines, take_back};
-use crate::ending::apart_ending;
+use crate::ending::{Ending, apart_ending};
 use crate::forgetting::{Remembered, has_many_others};
 use crate::last_line::{LastLine, last_line};
 use crate::new_shape::new_shape;
@@ -188,7 +188,7 @@ impl Store {
         requires shape { shape ≡ shape_of (constant_of (program_of self.now.lines) k) (statement_of line.now).body }
         requires limited { IsLimited shape }
         ensures edit { IfSome result (λ _. IsPutEdit self.now.lines (Replace k line.now) k line.now) }
-        ensures still { IfSome result (IsStillLine self.now.base self.now.lines k line.now) }
+        ensures still { IfSome result (λ still. IsStillLine self.now.base self.now.lines k line.now still []) }
     {
         let survey = &self.survey;
         let place = k as usize - 1;
@@ -203,13 +203,13 @@ impl Store {
         })
     }
 
-    // What a line of this shape is as line `k`, if that is behind the last one, and no other line has to do with it.
-    fn ending(&self, k: u32, line: &Line, shape: Measured) -> Option<Still>
+    // What a line of this shape is as line `k`, if that is behind the last one, and other lines have to do with it by its names alone.
+    fn ending(&self, k: u32, line: &Line, shape: Measured) -> Option<Ending>
         requires allowed { refusal_of self.now.lines (Insert k line.now) ≡ None }
         requires shape { shape ≡ shape_of (constant_of (program_of self.now.lines) k) (statement_of line.now).body }
         requires limited { IsLimited shape }
         ensures edit { IfSome result (λ _. IsPutEdit self.now.lines (Insert k line.now) k line.now) }
-        ensures still { IfSome result (IsStillLine self.now.base self.now.lines k line.now) }
+        ensures still { IfSome result (λ end. IsStillLine self.now.base self.now.lines k line.now end.still end.users.items) }
     {
         if k <= self.items.len() {
             return None;
@@ -224,18 +224,19 @@ impl Store {
         )
     }
 
-    // Puts in the line of an edit with which no other line has to do: only this line is made. Where there is no memory for that, the
-    // text stays.
+    // Puts in the line of an edit with which other lines have to do by its names alone: only this line is made, and those that use one
+    // of them. Where there is no memory for that, the text stays.
     fn put<C: Count>(
         &mut self,
         edit: &LineEdit<'_>,
         line: Line,
         still: &Still,
+        users: &[u32],
         counter: &mut C,
     ) -> Result<Changed, EditError>
         requires allowed { refusal_of self.old.lines (edit_of edit.now) ≡ None }
         requires edit { IsPutEdit self.old.lines (edit_of edit.now) (place_of_edit (edit_of edit.now)) line }
-        requires still { IsStillLine self.old.base self.old.lines (place_of_edit (edit_of edit.now)) line still.now }
+        requires still { IsStillLine self.old.base self.old.lines (place_of_edit (edit_of edit.now)) line still.now users.now }
         requires valued { C.valued_count counter.old ≤ 2 ^ 63 + 1 }
         requires encoded { C.encoded_count counter.old ≤ 2 ^ 63 }
         ensures ok { OnOk result (self.new ≡ text_after self.old (edit_of edit.now)) }
@@ -243,8 +244,8 @@ impl Store {
         ensures changed { IfOk result (λ c. c.lines ≡ changed_lines self.old.base self.old.lines (edit_of edit.now)) }
         ensures memory { IfErr result (λ e. e ≡ EditError.Memory) }
         ensures parsed { C.parsed_count counter.new ≡ C.parsed_count counter.old }
-        ensures valued { (C.valued_count counter.old ≤ C.valued_count counter.new) × (C.valued_count counter.new ≤ C.valued_count counter.old + 1002) }
-        ensures encoded { (C.encoded_count counter.old ≤ C.encoded_count counter.new) × (C.encoded_count counter.new ≤ C.encoded_count counter.old + 1) }
+        ensures valued { (C.valued_count counter.old ≤ C.valued_count counter.new) × (C.valued_count counter.new + 1 < C.valued_count counter.old + 2 ^ 32) }
+        ensures encoded { (C.encoded_count counter.old ≤ C.encoded_count counter.new) × (C.encoded_count counter.new < C.encoded_count counter.old + 2 ^ 32) }
         ensures values { C.valued_count counter.new + size_operands (statement_of line).body ≤ C.valued_count counter.old + most_values self.old.base self.old.lines (edit_of edit.now) }
         ensures codes { C.encoded_count counter.new ≤ C.encoded_count counter.old + most_codes self.old.base self.old.lines (edit_of edit.now) }
     {
@@ -259,6 +260,7 @@ impl Store {
             k,
             line,
             still,
+            users,
             counter,
         ) {
             Ok((items, changed)) => {
@@ -455,7 +457,7 @@ impl Store {
         let shape = self.new_shape(&read, counter);
         match &read {
             ReadEdit::Insert(k, line) => match self.ending(*k, line, shape) {
-                Some(still) => self.put(edit, line.share()?, &still, counter),
+                Some(end) => self.put(edit, line.share()?, &end.still, &end.users, counter),
                 None => self.rework(edit, read, shape, counter),
             },
             ReadEdit::Delete(k) => match self.last_line(*k) {
@@ -463,7 +465,7 @@ impl Store {
                 None => self.rework(edit, read, shape, counter),
             },
             ReadEdit::Replace(k, line) => match self.alike(*k, line, shape) {
-                Some(still) => self.put(edit, line.share()?, &still, counter),
+                Some(still) => self.put(edit, line.share()?, &still, &[], counter),
                 None => self.rework(edit, read, shape, counter),
             },
         }

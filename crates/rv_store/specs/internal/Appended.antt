@@ -1,6 +1,5 @@
--- A line at the end of a text. No other line has to do with it where none uses what it defines, and no section moves by it.
-use Rattle.std.specs.Prelude.{◌≡◌, ℕ, suc, ◌<◌, ◌≤◌, Bool, false, not, ◌&&◌, nat_lt, List, [], ◌∷◌, ◌++◌, length, None, Err}
-use Rattle.std.specs.List.{list_any}
+-- A line at the end of a text. Other lines have to do with it by the names that it defines alone, where no section moves by it.
+use Rattle.std.specs.Prelude.{◌≡◌, ℕ, suc, ◌<◌, ◌≤◌, Bool, true, false, not, ◌&&◌, nat_lt, List, [], ◌∷◌, ◌++◌, length, None, Err}
 use Rattle.rv_expr.specs.declared.faults.ValueFault.TheVariants.{LaterEqu}
 use Rattle.rv_stmt.specs.declared.statement.Stmt.{Stmt}
 use Rattle.rv_stmt.specs.Statement.{statement_of}
@@ -20,7 +19,7 @@ use Rattle.rv_program.specs.Pairs.{pcrel_high_of}
 use Rattle.rv_program.specs.Program.{Program, program_of, body_at}
 use Rattle.rv_program.specs.References.{among_local, equ_value}
 use Rattle.rv_program.specs.internal.Rows.{in_row, AreDefinitions, AreConstants, AreEquValues, ArePlaces, AreLocals}
-use Rattle.rv_program.specs.Uses.{names_used}
+use Rattle.rv_store.specs.internal.Still.{is_settled, uses_any}
 
 -- a statement at the end of a text defines a name that the text does not
 abbrev pub adds : Program → Stmt → (name : List ℕ) → Bool
@@ -41,12 +40,12 @@ TellEarlier lines names row =
 abbrev pub adds_by_rows : (names : List (List ℕ)) → List DefinitionPlace → (line : ℕ) → Stmt → (name : List ℕ) → Bool
 adds_by_rows names row line s name = not (is_earlier line (in_row names row Nowhere name)) && is_defined (place_in_statement line s name)
 
--- a statement with which no line of a text has to do: the text uses no name that it adds, and it has no local label, and is
--- no high half
+-- a statement with which the lines of a text have to do by the names that it adds alone: none of them that uses such a name is settled,
+-- and the statement has no local label, and is no high half
 pub record IsApart (program : Program) (s : Stmt) : Type 0 where
   pub local : (number : ℕ) → among_local number s.labels ≡ false
   pub high : pcrel_high_of s.body ≡ None
-  pub unused : (i : ℕ) → 1 ≤ i → i ≤ length program → list_any (adds program s) (names_used (body_at program i)) ≡ false
+  pub unused : (i : ℕ) → 1 ≤ i → i ≤ length program → is_settled (body_at program i) ≡ true → uses_any (adds program s) program i ≡ false
 
 -- the shape of a statement at the end of a text
 abbrev pub shape_at_end : Program → Stmt → Measured

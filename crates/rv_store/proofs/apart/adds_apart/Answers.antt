@@ -1,13 +1,12 @@
 use Rattle.std.proofs.Common.{◌≡◌, ◌+◌, suc, Bool, true, false, not, ◌&&◌, length, true≢false, arith, ap, sym, ◌∙◌, refl}
-use Rattle.std.specs.List.{list_any}
 use Rattle.rv_stmt.specs.Statement.{statement_of}
 use Rattle.rv_store.specs.internal.Appended.{adds}
 use Rattle.rv_program.specs.Definitions.{definition_of, is_defined}
 use Rattle.rv_program.specs.internal.NameSets.{bucket_of}
-use Rattle.rv_program.specs.Program.{program_of}
-use Rattle.rv_program.specs.Uses.{names_used}
+use Rattle.rv_program.specs.Program.{program_of, lines_that}
 use Rattle.rv_store.proofs.AlikeLines.{no_high}
-use Rattle.rv_store.proofs.ApartLines.{apart-unadded, apart-unused, adds-same}
+use Rattle.rv_store.specs.internal.Still.{uses_any}
+use Rattle.rv_store.proofs.ApartLines.{apart-unadded, apart-unsettled, no_users, adds-same}
 use Rattle.rv_program.specs.lemmas.DefinitionRows.{nothing-defined}
 use Rattle.rv_store.proofs.apart.adds_apart.Goals as goal
 
@@ -26,7 +25,7 @@ returns-then-not-may_define-clause-apart c =
     let s = statement_of c.args.line.now in
     let brief = c.brief-brief.ensures in
     apart-unadded c.args.lines.now s (sym (ap (λ b. b.local_labels) brief) ∙ c.if-brief.false) (no_high s c.brief-brief.result brief c.if-brief-2.false)
-    (λ name. returns-then-not-may_define-clause-nothing c refl name)
+    (returns-then-not-may_define-clause-nothing c c.nothing.ensures.any)
 
 pub returns-then-is_empty-clause-nothing : goal.returns-then-is_empty-clause-nothing
 returns-then-is_empty-clause-nothing c h name = at (adds (program_of c.args.lines.now) (statement_of c.args.line.now) name) refl
@@ -45,7 +44,7 @@ returns-then-is_empty-clause-apart c =
     let s = statement_of c.args.line.now in
     let brief = c.brief-brief.ensures in
     apart-unadded c.args.lines.now s (sym (ap (λ b. b.local_labels) brief) ∙ c.if-brief.false) (no_high s c.brief-brief.result brief c.if-brief-2.false)
-    (λ name. returns-then-is_empty-clause-nothing c refl name)
+    (returns-then-is_empty-clause-nothing c c.nothing-then-is_empty.ensures.any)
 
 pub returns-clause-apart : goal.returns-clause-apart
 returns-clause-apart c =
@@ -54,5 +53,22 @@ returns-clause-apart c =
     let brief = c.brief-brief.ensures in
     let number : length lines + 1 ≡ suc (length lines) = omega arith in
     let same = adds-same lines c.args.names.now c.args.definitions.now s (length lines + 1) c.requires.definitions number in
-    apart-unused lines s (sym (ap (λ b. b.local_labels) brief) ∙ c.if-brief.false) (no_high s c.brief-brief.result brief c.if-brief-2.false)
-    (ap (λ f. list_any (λ l. list_any f (names_used (statement_of l).body)) lines) (sym same) ∙ sym c.is_used.ensures ∙ c.if-is_used.false)
+    apart-unsettled lines s (sym (ap (λ b. b.local_labels) brief) ∙ c.if-brief.false) (no_high s c.brief-brief.result brief c.if-brief-2.false)
+    (λ i first last settled. ap (λ f. uses_any f (program_of lines) i) (sym same) ∙ c.in_ok-users.ensures.unsettled i first last settled)
+
+pub returns-clause-users : goal.returns-clause-users
+returns-clause-users c =
+    let lines = c.args.lines.now in
+    let number : length lines + 1 ≡ suc (length lines) = omega arith in
+    let same = adds-same lines c.args.names.now c.args.definitions.now (statement_of c.args.line.now) (length lines + 1) c.requires.definitions number in
+    c.in_ok-users.ensures.users ∙ ap (λ f. lines_that (uses_any f (program_of lines)) (length lines)) same
+
+pub returns-then-not-may_define-clause-users : goal.returns-then-not-may_define-clause-users
+returns-then-not-may_define-clause-users c =
+    let lines = c.args.lines.now in
+    c.nothing.ensures.users ∙ sym (no_users (program_of lines) (adds (program_of lines) (statement_of c.args.line.now)) (length lines) (returns-then-not-may_define-clause-nothing c c.nothing.ensures.any))
+
+pub returns-then-is_empty-clause-users : goal.returns-then-is_empty-clause-users
+returns-then-is_empty-clause-users c =
+    let lines = c.args.lines.now in
+    c.nothing-then-is_empty.ensures.users ∙ sym (no_users (program_of lines) (adds (program_of lines) (statement_of c.args.line.now)) (length lines) (returns-then-is_empty-clause-nothing c c.nothing-then-is_empty.ensures.any))

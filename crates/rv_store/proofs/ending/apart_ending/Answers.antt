@@ -6,7 +6,8 @@ use Rattle.rv_store.specs.declared.ends.Ends.{Ends}
 use Rattle.rv_program.specs.declared.limits.TheConstants.{MAX_LINES}
 use Rattle.rv_store.specs.internal.Appended.{adds, TellEarlier, IsApart}
 use Rattle.rv_store.specs.internal.Ends.{ends_of, IsBehind}
-use Rattle.rv_program.specs.Program.{program_of}
+use Rattle.rv_program.specs.Program.{program_of, lines_that}
+use Rattle.rv_store.specs.internal.Still.{uses_any}
 use Rattle.rv_program.specs.internal.Rows.{AreShapes}
 use Rattle.rv_store.proofs.ApartLines.{tell-text}
 use Rattle.rv_store.proofs.Endings.{ends-with, together-before, together-all, short-before, ending-line}
@@ -58,8 +59,9 @@ pub returns : goal.returns
 returns c =
     let shapes = c.args.survey.now.shapes.items in
     let all = ends-with shapes c.args.shape c.args.survey.now.ends c.advance.new.self c.requires.ends c.advance.ensures in
-    ending-line c.args.base c.args.survey.now.lines.items c.args.line.now shapes c.args.survey.now.ends _ c.requires.shapes c.requires.limited c.requires.few
-    (subst (λ ls. IsApart (program_of ls) (statement_of c.args.line.now)) c.deref.ensures.value c.in_ok-defines.ensures.apart)
-    (subst (λ ls. c.in_ok-defines.defines ≡ false → (name : List ℕ) → adds (program_of ls) (statement_of c.args.line.now) name ≡ false) c.deref.ensures.value c.in_ok-defines.ensures.nothing)
+    ending-line c.args.base c.args.survey.now.lines.items c.args.line.now shapes c.args.survey.now.ends _ _ c.requires.shapes c.requires.limited c.requires.few
+    (subst (λ ls. IsApart (program_of ls) (statement_of c.args.line.now)) c.deref.ensures.value c.in_ok-added.ensures.apart)
+    (subst (λ ls. c.in_ok-added.added.any ≡ false → (name : List ℕ) → adds (program_of ls) (statement_of c.args.line.now) name ≡ false) c.deref.ensures.value c.in_ok-added.ensures.nothing)
     c.requires.shape c.requires.limited_shape c.requires.ends all (c.stay_sections.ensures c.if-not-stay_sections.false)
     (c.last_place-place.ensures shapes (behind c.args.survey.now.lines.items shapes c.args.shape c.args.survey.now.ends c.advance.new.self c.requires.shapes c.requires.limited c.requires.limited_shape c.requires.few c.requires.ends all))
+    (subst (λ ls. c.in_ok-added.added.users.items ≡ lines_that (uses_any (adds (program_of ls) (statement_of c.args.line.now)) (program_of ls)) (length ls)) c.deref.ensures.value c.in_ok-added.ensures.users)

@@ -1,4 +1,4 @@
-use Rattle.std.proofs.Common.{◌≡◌, ◌≤◌, ℕ, List, [], ◌∷◌, ◌++◌, length, arith, ap, sym, subst, ◌∙◌}
+use Rattle.std.proofs.Common.{◌≡◌, ◌≤◌, ◌==◌, ℕ, Bool, true, true≢false, List, [], ◌∷◌, ◌++◌, length, arith, ap, sym, subst, ◌∙◌, refl}
 use Rattle.rv_program.specs.Program.{program_of}
 use Rattle.rv_store.specs.declared.survey.Survey.{Survey}
 use Rattle.rv_store.specs.internal.Appended.{TellEarlier}
@@ -8,7 +8,13 @@ use Rattle.rv_store.proofs.ApartLines.{tell-longer}
 use Rattle.rv_store.proofs.Endings.{together-before, together-all}
 use Rattle.rv_store.proofs.LastLines.{shapes, shape, shapes-with, count-shapes, is-last_line, limited-with, few-without, ends-with, ends-first}
 use Rattle.rv_store.proofs.StillRows.{count-places}
+use Rattle.rv_store.proofs.Stores.{past_zero}
 use Rattle.rv_store.proofs.last_line.last_line.Goals as goal
+
+-- a row of which nothing is left
+empty : (row : List ℕ) (none : Bool) → (none ≡ (length row == 0)) → none ≡ true → [] ≡ row
+empty [] none is h = refl
+empty (x ∷ xs) none is h = absurd (true≢false (sym h ∙ is ∙ past_zero (length xs)))
 
 -- the survey is that of the lines before the last one, and that one
 surveyed : (base : ℕ) (lines : List (List ℕ)) (line : List ℕ) (names : List (List ℕ)) (s : Survey) → s.lines.items ≡ lines ++ line ∷ [] → IsSurvey base (program_of s.lines.items) names s → IsSurvey base (program_of (lines ++ line ∷ [])) names s
@@ -64,4 +70,5 @@ returns c =
     is-last_line base lines line (limited-with base lines line c.args.names.now s few are) (few-without base lines line c.args.names.now s few are) _ s.ends s.lines.items whole
     (ends-with base lines line c.args.names.now s few are)
     (ends-first base lines line c.args.names.now s few are c.index.result.now c.index.ensures c.before-before.result c.before-before.ensures)
-    (c.stay_sections.ensures c.if-not-stay_sections.false) c.in_ok-defines.ensures.apart c.in_ok-defines.ensures.nothing
+    (c.stay_sections.ensures c.if-not-stay_sections.false) c.in_ok-added.ensures.apart c.in_ok-added.ensures.nothing
+    (empty c.in_ok-added.added.users.items c.is_empty.result (let count : c.in_ok-added.added.users.len ≡ length c.in_ok-added.added.users.items = omega (arith, c.in_ok-added.added.users.ok.0) in c.is_empty.ensures ∙ ap (λ n. n == 0) count) c.if-not-is_empty.false ∙ c.in_ok-added.ensures.users)

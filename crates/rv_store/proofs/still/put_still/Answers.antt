@@ -1,8 +1,15 @@
-use Rattle.std.proofs.Common.{◌≡◌, ℕ, ◌-◌, Bool, true, false, List, length, arith, ap, sym, subst, ◌∙◌, refl}
+use Rattle.std.proofs.Common.{◌≡◌, ℕ, ◌+◌, ◌-◌, ◌*◌, ◌≤◌, Bool, true, false, List, [], ◌∷◌, ◌++◌, length, arith, ap, sym, subst, ◌∙◌, refl}
 use Rattle.rv_stmt.specs.Statement.{statement_of}
 use Rattle.rv_store.specs.internal.Appended.{AreSymbols}
-use Rattle.rv_program.specs.internal.Items.{IsItemPut}
-use Rattle.rv_program.specs.Program.{program_of, body_at}
+use Rattle.rv_program.specs.declared.item.Item.{Item}
+use Rattle.rv_program.specs.Codes.{code_at}
+use Rattle.rv_program.specs.internal.Items.{AreItems}
+use Rattle.rv_program.specs.Program.{program_of, body_at, lines_that}
+use Rattle.rv_store.specs.declared.still.Still.{Still}
+use Rattle.rv_store.specs.internal.StillLines.{IsStillLine}
+use Rattle.rv_store.specs.internal.Users.{is_recoded, ArePut, AreCountedPut}
+use Rattle.rv_text.specs.Counting.{Counts}
+use Rattle.rv_program.specs.Counted.{counts_of}
 use Rattle.rv_program.specs.internal.Still.{set_or_push}
 use Rattle.rv_store.specs.internal.Surveys.{IsSurvey}
 use Rattle.rv_program.specs.internal.Work.{equ_operands, value_operands}
@@ -21,17 +28,11 @@ put_line-requires-clause-shapes g c = count-shapes c.args.base c.args.survey.now
 pub put_line-requires-clause-places : goal.put_line-requires-clause-places
 put_line-requires-clause-places g c = count-places c.args.base c.args.survey.now.lines.items c.args.names.now c.args.survey.now c.requires.survey
 
-pub returns-in_err-push-clause-err : goal.returns-in_err-push-clause-err
-returns-in_err-push-clause-err g c = in_any_error c.from_residual.result (partly-none (c.args.k - 1) c.args.survey.now)
-
-pub returns-in_err-push-clause-symbols : goal.returns-in_err-push-clause-symbols
-returns-in_err-push-clause-symbols g c = in_any_error c.from_residual.result (symbols-of c.args.base c.args.survey.now.lines.items c.args.names.now c.args.survey.now c.requires.survey)
-
 pub returns-in_err-new-clause-err : goal.returns-in_err-new-clause-err
-returns-in_err-new-clause-err g c = in_any_error c.from_residual-in_err-new.result (partly-none (c.args.k - 1) c.args.survey.now)
+returns-in_err-new-clause-err g c = in_any_error c.from_residual.result (partly-none (c.args.k - 1) c.args.survey.now)
 
 pub returns-in_err-new-clause-symbols : goal.returns-in_err-new-clause-symbols
-returns-in_err-new-clause-symbols g c = in_any_error c.from_residual-in_err-new.result (symbols-of c.args.base c.args.survey.now.lines.items c.args.names.now c.args.survey.now c.requires.survey)
+returns-in_err-new-clause-symbols g c = in_any_error c.from_residual.result (symbols-of c.args.base c.args.survey.now.lines.items c.args.names.now c.args.survey.now c.requires.survey)
 
 pub returns-in_err-put_line-clause-symbols : goal.returns-in_err-put_line-clause-symbols
 returns-in_err-put_line-clause-symbols g c =
@@ -54,26 +55,26 @@ returns-in_err-define_last-clause-symbols g c =
     (c.in_err-define_last.ensures.err c.args.survey.now.lines.items
     (unsettled c.requires.still c.args.names.now c.args.survey.now c.put_line.new.self c.requires.survey c.in_ok-put_line.ensures.ok c.in_ok-new.new c.in_ok-new.ensures c.requires.few c.put_line.ensures.symbols refl c.in_err-define_last.ensures.defines))
 
-pub item_put-requires-clause-survey : goal.item_put-requires-clause-survey
-item_put-requires-clause-survey g c =
+pub items_put-requires-clause-survey : goal.items_put-requires-clause-survey
+items_put-requires-clause-survey g c =
     let after = set_or_push c.args.survey.now.lines.items (c.args.k - 1) c.args.line in
     let all : c.define_last.new.self.lines.items ≡ after = c.define_last.ensures.lines.lines ∙ c.in_ok-put_line.ensures.ok.lines in
     let symbols = subst (λ ls. AreSymbols c.args.base (program_of ls) (length ls) c.define_last.new.names c.define_last.new.self) all c.in_ok-define_last.ensures.symbols in
     subst (λ ls. IsSurvey c.args.base (program_of ls) c.define_last.new.names c.define_last.new.self) (sym all)
     (survey-put c.requires.still c.args.names.now c.args.survey.now c.put_line.new.self c.requires.survey c.in_ok-put_line.ensures.ok c.define_last.new.names c.define_last.new.self c.define_last.ensures.lines symbols)
 
-pub item_put-requires-clause-few : goal.item_put-requires-clause-few
-item_put-requires-clause-few g c =
+pub items_put-requires-clause-few : goal.items_put-requires-clause-few
+items_put-requires-clause-few g c =
     omega (arith, c.requires.few, ap length (c.define_last.ensures.lines.lines ∙ c.in_ok-put_line.ensures.ok.lines))
 
-pub item_put-requires-clause-last : goal.item_put-requires-clause-last
-item_put-requires-clause-last g c =
-    let last = c.requires.still.still.last in
-    omega (arith, last, length-program (set_or_push c.args.survey.now.lines.items (c.args.k - 1) c.args.line), ap length (c.define_last.ensures.lines.lines ∙ c.in_ok-put_line.ensures.ok.lines))
+-- the line is put among the others
+abbrev put-whole : (base : ℕ) (lines : List (List ℕ)) (k : ℕ) (line : List ℕ) (given : Still) (users : List ℕ) (items : List Item) (all : List (List ℕ)) → IsStillLine base lines k line given users → all ≡ set_or_push lines (k - 1) line → AreItems base lines items → ArePut base all k users items
+put-whole base lines k line given users items all still whole are = record { lines = lines; line = line; given = given; still = still; whole = whole; are = are }
 
-pub item_put-requires-clause-next : goal.item_put-requires-clause-next
-item_put-requires-clause-next g c =
-    let next = within-next c.requires.still.still in omega (arith, next, length-program c.args.survey.now.lines.items, c.requires.count)
+pub items_put-requires-clause-put : goal.items_put-requires-clause-put
+items_put-requires-clause-put g c =
+    put-whole c.args.base c.args.survey.now.lines.items c.args.k c.args.line c.args.still.now c.args.users.now c.args.items.now.items c.define_last.new.self.lines.items
+    c.requires.still (c.define_last.ensures.lines.lines ∙ c.in_ok-put_line.ensures.ok.lines) c.requires.items
 
 pub returns-in-Ok-clause-lines : goal.returns-in-Ok-clause-lines
 returns-in-Ok-clause-lines g c = c.define_last.ensures.lines.lines ∙ c.in_ok-put_line.ensures.ok.lines
@@ -87,26 +88,45 @@ returns-in-Ok-clause-survey g c =
 
 pub returns-in-Ok-clause-items : goal.returns-in-Ok-clause-items
 returns-in-Ok-clause-items g c =
-    subst (λ ls. IsItemPut c.args.base ls c.args.k c.args.items.now.items c.in-Ok.items.items) (c.define_last.ensures.lines.lines ∙ c.in_ok-put_line.ensures.ok.lines) c.in-Ok.ensures.items
+    subst (λ ls. AreItems c.args.base ls c.in-Ok.put.0.items) (c.define_last.ensures.lines.lines ∙ c.in_ok-put_line.ensures.ok.lines) c.in-Ok.ensures.items
 
--- the operands of the line
-operands : (lines all : List (List ℕ)) (k : ℕ) (line : List ℕ) → all ≡ set_or_push lines (k - 1) line → body_at (program_of (set_or_push lines (k - 1) line)) k ≡ (statement_of line).body → value_operands (body_at (program_of all) k) ≡ value_operands (statement_of line).body
-operands lines all k line is body = ap (λ ls. value_operands (body_at (program_of ls) k)) is ∙ ap value_operands body
+pub returns-in-Ok-clause-changed : goal.returns-in-Ok-clause-changed
+returns-in-Ok-clause-changed g c =
+    let lines : List (List ℕ) = c.args.survey.now.lines.items in
+    let whole = c.define_last.ensures.lines.lines ∙ c.in_ok-put_line.ensures.ok.lines in
+    c.in-Ok.ensures.changed (put-whole c.args.base lines c.args.k c.args.line c.args.still.now c.args.users.now c.args.items.now.items c.define_last.new.self.lines.items c.requires.still whole c.requires.items)
+    ∙ (λ j. lines_that (is_recoded c.args.base (whole j) (code_at c.args.base (program_of lines))) (c.args.k - 1) ++ c.args.k ∷ [])
+
+-- what is counted, by the lines with it
+counted-by : (base : ℕ) (all after lines : List (List ℕ)) (k : ℕ) (users : List ℕ) (old new : Counts) → all ≡ after → AreCountedPut base all lines k users old new → AreCountedPut base after lines k users old new
+counted-by base all after lines k users old new is = subst (λ t. AreCountedPut base t lines k users old new) is
+
+encoded-within : (old middle new before : ℕ) → middle ≡ old → new ≤ middle + 1 + before → new ≤ old + 1 + before
+encoded-within old middle new before one all = omega (arith, one, all)
+
+valued-within : (old middle new equs before operands body users : ℕ) → middle ≤ old + 2 * equs → new ≤ middle + operands + users → operands ≡ body → equs ≡ before → new ≤ old + 2 * before + body + users
+valued-within old middle new equs before operands body users one all is same = omega (arith, one, all, is, same)
 
 pub returns-in-Ok-clause-valued_most : goal.returns-in-Ok-clause-valued_most
 returns-in-Ok-clause-valued_most g c =
-    let values = operands c.args.survey.now.lines.items c.define_last.new.self.lines.items c.args.k c.args.line (c.define_last.ensures.lines.lines ∙ c.in_ok-put_line.ensures.ok.lines) (body-put c.args.survey.now.lines.items c.args.line c.requires.still.still) in
-    let equs = ap (λ l. equ_operands (statement_of l).body) c.in_ok-new.ensures in
-    omega (arith, c.item_put.ensures.valued_most, c.define_last.ensures.operands, values, equs)
+    let lines : List (List ℕ) = c.args.survey.now.lines.items in
+    let whole = c.define_last.ensures.lines.lines ∙ c.in_ok-put_line.ensures.ok.lines in
+    let counts = counts_of g.C.Count.parsed_count g.C.Count.valued_count g.C.Count.encoded_count in
+    let all = counted-by c.args.base c.define_last.new.self.lines.items (set_or_push lines (c.args.k - 1) c.args.line) lines c.args.k c.args.users.now (counts c.define_last.new.counter) (counts c.items_put.new.counter) whole
+    (c.items_put.ensures.counted (put-whole c.args.base lines c.args.k c.args.line c.args.still.now c.args.users.now c.args.items.now.items c.define_last.new.self.lines.items c.requires.still whole c.requires.items)) in
+    valued-within _ _ _ _ _ _ _ _ c.define_last.ensures.operands all.valued_most (ap value_operands (body-put lines c.args.line c.requires.still.still)) (ap (λ l. equ_operands (statement_of l).body) c.in_ok-new.ensures)
 
-pub returns-in-Err-clause-valued_most : goal.returns-in-Err-clause-valued_most
-returns-in-Err-clause-valued_most g c =
-    let values = operands c.args.survey.now.lines.items c.define_last.new.self.lines.items c.args.k c.args.line (c.define_last.ensures.lines.lines ∙ c.in_ok-put_line.ensures.ok.lines) (body-put c.args.survey.now.lines.items c.args.line c.requires.still.still) in
-    let equs = ap (λ l. equ_operands (statement_of l).body) c.in_ok-new.ensures in
-    omega (arith, c.item_put.ensures.valued_most, c.define_last.ensures.operands, values, equs)
+pub returns-clause-valued_most : goal.returns-clause-valued_most
+returns-clause-valued_most g c =
+    let lines : List (List ℕ) = c.args.survey.now.lines.items in
+    let whole = c.define_last.ensures.lines.lines ∙ c.in_ok-put_line.ensures.ok.lines in
+    let counts = counts_of g.C.Count.parsed_count g.C.Count.valued_count g.C.Count.encoded_count in
+    let all = counted-by c.args.base c.define_last.new.self.lines.items (set_or_push lines (c.args.k - 1) c.args.line) lines c.args.k c.args.users.now (counts c.define_last.new.counter) (counts c.items_put.new.counter) whole
+    (c.items_put.ensures.counted (put-whole c.args.base lines c.args.k c.args.line c.args.still.now c.args.users.now c.args.items.now.items c.define_last.new.self.lines.items c.requires.still whole c.requires.items)) in
+    valued-within _ _ _ _ _ _ _ _ c.define_last.ensures.operands all.valued_most (ap value_operands (body-put lines c.args.line c.requires.still.still)) (ap (λ l. equ_operands (statement_of l).body) c.in_ok-new.ensures)
 
-pub returns-in-Err-clause-err : goal.returns-in-Err-clause-err
-returns-in-Err-clause-err g c =
+pub returns-clause-err : goal.returns-clause-err
+returns-clause-err g c =
     let old = c.args.survey.now in
     let begun = partly (c.args.k - 1) c.args.line c.args.still.now old c.put_line.new.self c.in_ok-put_line.ensures.ok in
     partly-still (c.args.k - 1) old c.define_last.new.self c.forget_last.new.self
@@ -125,8 +145,8 @@ forget_last-requires-clause-few g c =
 pub forget_last-requires-clause-named : goal.forget_last-requires-clause-named
 forget_last-requires-clause-named g c = c.in_ok-define_last.ensures.symbols.definitions.within
 
-pub returns-in-Err-clause-symbols : goal.returns-in-Err-clause-symbols
-returns-in-Err-clause-symbols g c = at c.args.still.now.defines refl
+pub returns-clause-symbols : goal.returns-clause-symbols
+returns-clause-symbols g c = at c.args.still.now.defines refl
   where
     lines : List (List ℕ)
     lines = c.args.survey.now.lines.items
@@ -145,7 +165,99 @@ pub returns-in_err-define_last-clause-parsed : goal.returns-in_err-define_last-c
 returns-in_err-define_last-clause-parsed g c = c.define_last.ensures.parsed
 
 pub returns-in-Ok-clause-parsed : goal.returns-in-Ok-clause-parsed
-returns-in-Ok-clause-parsed g c = c.item_put.ensures.parsed ∙ c.define_last.ensures.parsed
+returns-in-Ok-clause-parsed g c =
+    (c.items_put.ensures.counted (put-whole c.args.base c.args.survey.now.lines.items c.args.k c.args.line c.args.still.now c.args.users.now c.args.items.now.items c.define_last.new.self.lines.items c.requires.still (c.define_last.ensures.lines.lines ∙ c.in_ok-put_line.ensures.ok.lines) c.requires.items)).parsed ∙ c.define_last.ensures.parsed
 
-pub returns-in-Err-clause-parsed : goal.returns-in-Err-clause-parsed
-returns-in-Err-clause-parsed g c = c.item_put.ensures.parsed ∙ c.define_last.ensures.parsed
+pub returns-clause-parsed : goal.returns-clause-parsed
+returns-clause-parsed g c =
+    (c.items_put.ensures.counted (put-whole c.args.base c.args.survey.now.lines.items c.args.k c.args.line c.args.still.now c.args.users.now c.args.items.now.items c.define_last.new.self.lines.items c.requires.still (c.define_last.ensures.lines.lines ∙ c.in_ok-put_line.ensures.ok.lines) c.requires.items)).parsed ∙ c.define_last.ensures.parsed
+
+pub returns-in-Ok-clause-encoded_most : goal.returns-in-Ok-clause-encoded_most
+returns-in-Ok-clause-encoded_most g c =
+    let lines : List (List ℕ) = c.args.survey.now.lines.items in
+    let whole = c.define_last.ensures.lines.lines ∙ c.in_ok-put_line.ensures.ok.lines in
+    let counts = counts_of g.C.Count.parsed_count g.C.Count.valued_count g.C.Count.encoded_count in
+    let all = counted-by c.args.base c.define_last.new.self.lines.items (set_or_push lines (c.args.k - 1) c.args.line) lines c.args.k c.args.users.now (counts c.define_last.new.counter) (counts c.items_put.new.counter) whole
+    (c.items_put.ensures.counted (put-whole c.args.base lines c.args.k c.args.line c.args.still.now c.args.users.now c.args.items.now.items c.define_last.new.self.lines.items c.requires.still whole c.requires.items)) in
+    encoded-within _ _ _ _ c.define_last.ensures.encoded all.encoded_most
+
+pub returns-in-Ok-clause-valued_least : goal.returns-in-Ok-clause-valued_least
+returns-in-Ok-clause-valued_least g c =
+    let all = c.items_put.ensures.counted (put-whole c.args.base c.args.survey.now.lines.items c.args.k c.args.line c.args.still.now c.args.users.now c.args.items.now.items c.define_last.new.self.lines.items c.requires.still (c.define_last.ensures.lines.lines ∙ c.in_ok-put_line.ensures.ok.lines) c.requires.items) in
+    let more = all.valued_least in
+    let few = all.valued_few in
+    let codes = all.encoded_least in
+    let codes_few = all.encoded_few in
+    omega (arith, c.define_last.ensures.least, more)
+
+pub returns-in-Ok-clause-valued_few : goal.returns-in-Ok-clause-valued_few
+returns-in-Ok-clause-valued_few g c =
+    let all = c.items_put.ensures.counted (put-whole c.args.base c.args.survey.now.lines.items c.args.k c.args.line c.args.still.now c.args.users.now c.args.items.now.items c.define_last.new.self.lines.items c.requires.still (c.define_last.ensures.lines.lines ∙ c.in_ok-put_line.ensures.ok.lines) c.requires.items) in
+    let more = all.valued_least in
+    let few = all.valued_few in
+    let codes = all.encoded_least in
+    let codes_few = all.encoded_few in
+    omega (arith, c.define_last.ensures.most, few)
+
+pub returns-in-Ok-clause-encoded_least : goal.returns-in-Ok-clause-encoded_least
+returns-in-Ok-clause-encoded_least g c =
+    let all = c.items_put.ensures.counted (put-whole c.args.base c.args.survey.now.lines.items c.args.k c.args.line c.args.still.now c.args.users.now c.args.items.now.items c.define_last.new.self.lines.items c.requires.still (c.define_last.ensures.lines.lines ∙ c.in_ok-put_line.ensures.ok.lines) c.requires.items) in
+    let more = all.valued_least in
+    let few = all.valued_few in
+    let codes = all.encoded_least in
+    let codes_few = all.encoded_few in
+    omega (arith, c.define_last.ensures.encoded, codes)
+
+pub returns-in-Ok-clause-encoded_few : goal.returns-in-Ok-clause-encoded_few
+returns-in-Ok-clause-encoded_few g c =
+    let all = c.items_put.ensures.counted (put-whole c.args.base c.args.survey.now.lines.items c.args.k c.args.line c.args.still.now c.args.users.now c.args.items.now.items c.define_last.new.self.lines.items c.requires.still (c.define_last.ensures.lines.lines ∙ c.in_ok-put_line.ensures.ok.lines) c.requires.items) in
+    let more = all.valued_least in
+    let few = all.valued_few in
+    let codes = all.encoded_least in
+    let codes_few = all.encoded_few in
+    omega (arith, c.define_last.ensures.encoded, codes_few)
+
+pub returns-clause-encoded_most : goal.returns-clause-encoded_most
+returns-clause-encoded_most g c =
+    let lines : List (List ℕ) = c.args.survey.now.lines.items in
+    let whole = c.define_last.ensures.lines.lines ∙ c.in_ok-put_line.ensures.ok.lines in
+    let counts = counts_of g.C.Count.parsed_count g.C.Count.valued_count g.C.Count.encoded_count in
+    let all = counted-by c.args.base c.define_last.new.self.lines.items (set_or_push lines (c.args.k - 1) c.args.line) lines c.args.k c.args.users.now (counts c.define_last.new.counter) (counts c.items_put.new.counter) whole
+    (c.items_put.ensures.counted (put-whole c.args.base lines c.args.k c.args.line c.args.still.now c.args.users.now c.args.items.now.items c.define_last.new.self.lines.items c.requires.still whole c.requires.items)) in
+    encoded-within _ _ _ _ c.define_last.ensures.encoded all.encoded_most
+
+pub returns-clause-valued_least : goal.returns-clause-valued_least
+returns-clause-valued_least g c =
+    let all = c.items_put.ensures.counted (put-whole c.args.base c.args.survey.now.lines.items c.args.k c.args.line c.args.still.now c.args.users.now c.args.items.now.items c.define_last.new.self.lines.items c.requires.still (c.define_last.ensures.lines.lines ∙ c.in_ok-put_line.ensures.ok.lines) c.requires.items) in
+    let more = all.valued_least in
+    let few = all.valued_few in
+    let codes = all.encoded_least in
+    let codes_few = all.encoded_few in
+    omega (arith, c.define_last.ensures.least, more)
+
+pub returns-clause-valued_few : goal.returns-clause-valued_few
+returns-clause-valued_few g c =
+    let all = c.items_put.ensures.counted (put-whole c.args.base c.args.survey.now.lines.items c.args.k c.args.line c.args.still.now c.args.users.now c.args.items.now.items c.define_last.new.self.lines.items c.requires.still (c.define_last.ensures.lines.lines ∙ c.in_ok-put_line.ensures.ok.lines) c.requires.items) in
+    let more = all.valued_least in
+    let few = all.valued_few in
+    let codes = all.encoded_least in
+    let codes_few = all.encoded_few in
+    omega (arith, c.define_last.ensures.most, few)
+
+pub returns-clause-encoded_least : goal.returns-clause-encoded_least
+returns-clause-encoded_least g c =
+    let all = c.items_put.ensures.counted (put-whole c.args.base c.args.survey.now.lines.items c.args.k c.args.line c.args.still.now c.args.users.now c.args.items.now.items c.define_last.new.self.lines.items c.requires.still (c.define_last.ensures.lines.lines ∙ c.in_ok-put_line.ensures.ok.lines) c.requires.items) in
+    let more = all.valued_least in
+    let few = all.valued_few in
+    let codes = all.encoded_least in
+    let codes_few = all.encoded_few in
+    omega (arith, c.define_last.ensures.encoded, codes)
+
+pub returns-clause-encoded_few : goal.returns-clause-encoded_few
+returns-clause-encoded_few g c =
+    let all = c.items_put.ensures.counted (put-whole c.args.base c.args.survey.now.lines.items c.args.k c.args.line c.args.still.now c.args.users.now c.args.items.now.items c.define_last.new.self.lines.items c.requires.still (c.define_last.ensures.lines.lines ∙ c.in_ok-put_line.ensures.ok.lines) c.requires.items) in
+    let more = all.valued_least in
+    let few = all.valued_few in
+    let codes = all.encoded_least in
+    let codes_few = all.encoded_few in
+    omega (arith, c.define_last.ensures.encoded, codes_few)

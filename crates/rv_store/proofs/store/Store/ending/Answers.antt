@@ -46,9 +46,9 @@ returns-clause-still c =
     let at_end : c.args.k ≡ length old.lines + 1 =
     omega (arith, within.1, c.if-k-len.false, c.len.ensures.value, ap (λ t. length t.lines) c.self.view_is, length-map c.self.inside.items.items (λ i. i.line)) in
     in_some c.apart_ending.result
-    (λ still is.
+    (λ end is.
     let number : length c.self.inside.survey.lines.items + 1 ≡ c.args.k = omega (arith, at_end, ap length c.self.invariant.listed, ap (λ t. length t.lines) c.self.view_is) in
-    subst (λ t. IsStillLine t.base t.lines c.args.k c.args.line.now still) c.self.view_is
-    (subst (λ ls. IsStillLine c.self.inside.base ls c.args.k c.args.line.now still) c.self.invariant.listed
-    (subst (λ n. IsStillLine c.self.inside.base c.self.inside.survey.lines.items n c.args.line.now still) number is)))
+    subst (λ t. IsStillLine t.base t.lines c.args.k c.args.line.now end.still end.users.items) c.self.view_is
+    (subst (λ ls. IsStillLine c.self.inside.base ls c.args.k c.args.line.now end.still end.users.items) c.self.invariant.listed
+    (subst (λ n. IsStillLine c.self.inside.base c.self.inside.survey.lines.items n c.args.line.now end.still end.users.items) number is)))
     c.apart_ending.ensures

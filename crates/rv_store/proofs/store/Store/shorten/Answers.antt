@@ -23,8 +23,8 @@ module _ (base : ℕ) (names : List (List ℕ)) (survey : Survey) (items : List 
   whole : map (λ i. i.line) items ≡ is.lines ++ is.line ∷ []
   whole = ap (λ t. t.lines) view ∙ is.whole
 
-  still : IsStillLine base is.lines (length is.lines + 1) is.line is.there
-  still = subst (λ b. IsStillLine b is.lines (length is.lines + 1) is.line is.there) (sym (ap (λ t. t.base) view)) is.still
+  still : IsStillLine base is.lines (length is.lines + 1) is.line is.there []
+  still = subst (λ b. IsStillLine b is.lines (length is.lines + 1) is.line is.there []) (sym (ap (λ t. t.base) view)) is.still
 
   abbrev kept : IsLastLine base survey.lines.items last
   kept = record {
