@@ -10,8 +10,8 @@ use Rattle.rv_list.specs.Joined.{joined}
 use Rattle.rv_list.specs.Shown.{Shown}
 use Rattle.rv_doc.specs.declared.encoding.Encoding.{Encoding}
 use Rattle.rv_diagnostics.specs.Published.{all_diagnostics, diagnostics_of, fault_count, fault_diagnostics, left_out, line_diagnostics, long_count, shown_in, some_long, some_warnings, too_many, warning_count}
-use Rattle.rv_diagnostics.specs.declared.window.Window.{Window}
-use Rattle.rv_diagnostics.specs.Windows.{nearest}
+use Rattle.rv_doc.specs.declared.window.Window.{Window}
+use Rattle.rv_doc.specs.Windows.{nearest}
 use Rattle.rv_diagnostics.proofs.ShownRows.{diagnostic_count, none_shown}
 
 same_lengths : {A B : Type 0} (f : ℕ → List A) (g : ℕ → List B) (n : ℕ) → ((k : ℕ) → length (f k) ≡ length (g k)) → length (joined f n) ≡ length (joined g n)

@@ -16,9 +16,9 @@ use Rattle.rv_list.specs.Shown.{Shown, ShownLine}
 use Rattle.rv_report.specs.Warnings.{Warning, warning_of}
 use Rattle.rv_doc.specs.declared.encoding.Encoding.{Encoding}
 use Rattle.rv_diagnostics.specs.Diagnostics.{fault_diagnostic, long_line, warning_diagnostic}
-use Rattle.rv_diagnostics.specs.declared.window.Window.{Window}
-use Rattle.rv_diagnostics.specs.Published.{faulty_line, is_long, line_diagnostics, long_lines, optional, shown_in, warning_diagnostics}
-use Rattle.rv_diagnostics.specs.Windows.{passed, shows, windowed}
+use Rattle.rv_doc.specs.declared.window.Window.{Window}
+use Rattle.rv_diagnostics.specs.Published.{is_long, line_diagnostic, line_diagnostics, long_lines, optional, shown_in, warning_diagnostics}
+use Rattle.rv_doc.specs.Windows.{passed, shows, windowed}
 use Rattle.rv_diagnostics.proofs.WindowLaws.{alike, passed_more, passed_none, windowed_both, windowed_nil, windowed_one, written_both}
 
 -- No rows, and one row
@@ -142,22 +142,34 @@ mapped f w xs =
     ∙ ap (flat_map (λ tokens. tokens)) (take-map f w.most (drop w.skipped xs))
     ∙ flat_map-map (λ tokens. tokens) f (windowed w xs))
 
--- the diagnostics of the faults of a line
-pub line_written : (encoding : Encoding) (uri : List ℕ) (given : ℕ → ℕ → Environment) (shown : Shown) (symbols : List (List ℕ)) (number : ℕ) (line : ShownLine) (w : Window) (names : ℕ → Environment) (bytes : List ℕ) (values : List Entry) (faults : List (Option Fault)) → names ≡ given number → bytes ≡ line.text → values ≡ operand_values_of (names line.place.address) line.place.address line.stmt.body → faults ≡ map (λ f. Some f) (faults_of shown number line) → flat_map (fault_diagnostic encoding uri (names line.place.address) shown (record { number = number; text = bytes; stmt = line.stmt; address = line.place.address; values = values; symbols = symbols })) (windowed w (found faults)) ≡ shown_in w (line_diagnostics encoding uri given shown symbols number line)
+-- the diagnostics of faults of a line
+pub line_written : (encoding : Encoding) (uri : List ℕ) (given : ℕ → ℕ → Environment) (shown : Shown) (symbols : List (List ℕ)) (number : ℕ) (line : ShownLine) (names : ℕ → Environment) (bytes : List ℕ) (values : List Entry) (faults : List Fault) → names ≡ given number → bytes ≡ line.text → values ≡ operand_values_of (names line.place.address) line.place.address line.stmt.body → flat_map (fault_diagnostic encoding uri (names line.place.address) shown (record { number = number; text = bytes; stmt = line.stmt; address = line.place.address; values = values; symbols = symbols })) faults ≡ flat_map (line_diagnostic encoding uri given shown symbols number line) faults
+unfolding line_diagnostic
+line_written encoding uri given shown symbols number line names bytes values faults named same valued =
+    ap (λ v. flat_map (fault_diagnostic encoding uri (names line.place.address) shown (record { number = number; text = bytes; stmt = line.stmt; address = line.place.address; values = v; symbols = symbols })) faults) valued
+    ∙ ap (λ (n : ℕ → Environment). flat_map (fault_diagnostic encoding uri (n line.place.address) shown (record { number = number; text = bytes; stmt = line.stmt; address = line.place.address; values = operand_values_of (n line.place.address) line.place.address line.stmt.body; symbols = symbols })) faults) named
+    ∙ ap (λ b. flat_map (fault_diagnostic encoding uri (given number line.place.address) shown (record { number = number; text = b; stmt = line.stmt; address = line.place.address; values = operand_values_of (given number line.place.address) line.place.address line.stmt.body; symbols = symbols })) faults) same
+
+found_in : (w : Window) (fs : List Fault) → found (windowed w (map (λ f. Some f) fs)) ≡ windowed w fs
+found_in w fs =
+    ap found (ap (take w.most) (drop-map (λ f. Some f) w.skipped fs) ∙ take-map (λ f. Some f) w.most (drop w.skipped fs))
+    ∙ all_found (windowed w fs)
+
+-- those that a window shows
+pub line_shown : (encoding : Encoding) (uri : List ℕ) (given : ℕ → ℕ → Environment) (shown : Shown) (symbols : List (List ℕ)) (number : ℕ) (line : ShownLine) (w : Window) (faults rows : List (Option Fault)) → faults ≡ map (λ f. Some f) (faults_of shown number line) → rows ≡ windowed w faults → flat_map (line_diagnostic encoding uri given shown symbols number line) (found rows) ≡ shown_in w (line_diagnostics encoding uri given shown symbols number line)
 unfolding line_diagnostics
-line_written encoding uri given shown symbols number line w names bytes values faults named same valued faulty =
-    ap (λ v. flat_map (fault_diagnostic encoding uri (names line.place.address) shown (record { number = number; text = bytes; stmt = line.stmt; address = line.place.address; values = v; symbols = symbols })) (windowed w (found faults))) valued
-    ∙ ap (λ (n : ℕ → Environment). flat_map (fault_diagnostic encoding uri (n line.place.address) shown (record { number = number; text = bytes; stmt = line.stmt; address = line.place.address; values = operand_values_of (n line.place.address) line.place.address line.stmt.body; symbols = symbols })) (windowed w (found faults))) named
-    ∙ ap (λ b. flat_map (fault_diagnostic encoding uri (given number line.place.address) shown (record { number = number; text = b; stmt = line.stmt; address = line.place.address; values = operand_values_of (given number line.place.address) line.place.address line.stmt.body; symbols = symbols })) (windowed w (found faults))) same
-    ∙ ap (λ (f : List (Option Fault)). flat_map (fault_diagnostic encoding uri (given number line.place.address) shown (faulty_line given symbols number line)) (windowed w (found f))) faulty
-    ∙ ap (λ l. flat_map (fault_diagnostic encoding uri (given number line.place.address) shown (faulty_line given symbols number line)) (windowed w l)) (all_found (faults_of shown number line))
-    ∙ mapped (fault_diagnostic encoding uri (given number line.place.address) shown (faulty_line given symbols number line)) w (faults_of shown number line)
+line_shown encoding uri given shown symbols number line w faults rows faulty passed_rows =
+    let written = line_diagnostic encoding uri given shown symbols number line in
+    ap (λ (f : List (Option Fault)). flat_map written (found f)) passed_rows
+    ∙ ap (λ (f : List (Option Fault)). flat_map written (found (windowed w f))) faulty
+    ∙ ap (flat_map written) (found_in w (faults_of shown number line))
+    ∙ mapped written w (faults_of shown number line)
 
 -- there are as many as it has faults
 pub diagnostic_count : (encoding : Encoding) (uri : List ℕ) (given : ℕ → ℕ → Environment) (shown : Shown) (symbols : List (List ℕ)) (number : ℕ) (line : ShownLine) → length (line_diagnostics encoding uri given shown symbols number line) ≡ length (faults_of shown number line)
 unfolding line_diagnostics
 diagnostic_count encoding uri given shown symbols number line =
-    length-map (faults_of shown number line) (fault_diagnostic encoding uri (given number line.place.address) shown (faulty_line given symbols number line))
+    length-map (faults_of shown number line) (line_diagnostic encoding uri given shown symbols number line)
 
 pub found_count : (shown : Shown) (number : ℕ) (line : ShownLine) (faults : List (Option Fault)) → faults ≡ map (λ f. Some f) (faults_of shown number line) → length faults ≡ length (faults_of shown number line)
 found_count shown number line faults is = ap length is ∙ length-map (faults_of shown number line) (λ f. Some f)

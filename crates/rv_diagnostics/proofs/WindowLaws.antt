@@ -1,14 +1,10 @@
 -- Windows over rows, one after another.
-use Rattle.std.proofs.Common.{◌≡◌, ℕ, zero, suc, ◌+◌, ◌-◌, ◌≤◌, ◌==◌, ◌&&◌, nat_lt, Bool, true, false, List, [], ◌∷◌, ◌++◌, length, take, drop, if◌then◌else◌, refl, ap, sym, ◌∙◌, arith, append_assoc, length-append}
+use Rattle.std.proofs.Common.{◌≡◌, ℕ, zero, suc, ◌+◌, ◌-◌, ◌==◌, ◌&&◌, nat_lt, Bool, true, false, List, [], ◌∷◌, ◌++◌, length, take, drop, if◌then◌else◌, refl, ap, sym, ◌∙◌, arith, append_assoc, length-append}
 use Rattle.std.proofs.lemmas.Bool.Decides.{nat_tests}
-use Rattle.std.proofs.lemmas.List.{take_all}
-use Rattle.std.specs.Prelude.{get_or, Option}
-use Rattle.rv_text.specs.declared.faults.Fault.{Fault}
-use Rattle.rv_list.specs.Faults.{body_faults, found}
 use Rattle.std.proofs.lemmas.Grind.{flat_map-append}
 use Rattle.std.specs.List.{flat_map}
-use Rattle.rv_diagnostics.specs.declared.window.Window.{Window}
-use Rattle.rv_diagnostics.specs.Windows.{passed, shows, windowed}
+use Rattle.rv_doc.specs.declared.window.Window.{Window}
+use Rattle.rv_doc.specs.Windows.{passed, shows, windowed}
 
 pub alike : (v w : Window) → v.skipped ≡ w.skipped → v.most ≡ w.most → v ≡ w
 alike v w s m = ap (λ n. record { skipped = n; most = v.most }) s ∙ ap (λ n. record { skipped = w.skipped; most = n }) m
@@ -74,21 +70,3 @@ written_both f w v xs ys old new is rest =
 pub passed_more : {A : Type 0} (w v : Window) (xs ys : List A) → v ≡ passed w (length xs) → passed v (length ys) ≡ passed w (length (xs ++ ys))
 passed_more w v xs ys is =
     ap (λ u. passed u (length ys)) is ∙ passed_both w (length xs) (length ys) ∙ ap (passed w) (sym (length-append xs ys))
-
--- the fault of the first place, and those of the others
-found_first : (faults : List (Option Fault)) (d : Option Fault) → 1 ≤ length faults → found faults ≡ body_faults (get_or faults 0 d) ++ found (take (length faults - 1) (drop 1 faults))
-found_first [] d some = absurd (omega (arith, some))
-found_first (x ∷ xs) d some =
-    let count : length (x ∷ xs) - 1 ≡ length xs = omega arith in
-    ap (λ l. body_faults x ++ found l) (sym (ap (λ n. take n xs) count ∙ take_all (length xs) xs (omega arith)))
-
--- the diagnostics of the first place are written, and then those of the others
-pub next_faults : {B : Type 0} (f : Fault → List B) (w v : Window) (faults : List (Option Fault)) (d : Option Fault) (old new : List B) → 1 ≤ length faults → new ≡ old ++ flat_map f (windowed w (body_faults (get_or faults 0 d))) → v ≡ passed w (length (body_faults (get_or faults 0 d))) → new ++ flat_map f (windowed v (found (take (length faults - 1) (drop 1 faults)))) ≡ old ++ flat_map f (windowed w (found faults))
-next_faults f w v faults d old new some is rest =
-    written_both f w v (body_faults (get_or faults 0 d)) (found (take (length faults - 1) (drop 1 faults))) old new is rest
-    ∙ ap (λ l. old ++ flat_map f (windowed w l)) (sym (found_first faults d some))
-
-pub next_passed : (w v : Window) (faults : List (Option Fault)) (d : Option Fault) → 1 ≤ length faults → v ≡ passed w (length (body_faults (get_or faults 0 d))) → passed v (length (found (take (length faults - 1) (drop 1 faults)))) ≡ passed w (length (found faults))
-next_passed w v faults d some rest =
-    passed_more w v (body_faults (get_or faults 0 d)) (found (take (length faults - 1) (drop 1 faults))) rest
-    ∙ ap (λ l. passed w (length l)) (sym (found_first faults d some))

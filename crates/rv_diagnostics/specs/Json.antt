@@ -1,6 +1,6 @@
 -- What the server writes of JSON, as tokens, and the frames of texts. (Language Server Protocol 3.17, Base Protocol)
 use Rattle.std.specs.Prelude.{ℕ, List, [], ◌∷◌, ◌++◌, length, codes, decimal}
-use Rattle.json.specs.Token.{Token, begin_object, end_object, begin_array, end_array, key, string, number}
+use Rattle.json.specs.Token.{Token, begin_object, end_object, begin_array, end_array, key, string, number, boolean}
 use Rattle.rv_diagnostics.specs.declared.part.Part.{Part}
 use Rattle.rv_diagnostics.specs.declared.part.Part.TheVariants as part
 
@@ -13,6 +13,7 @@ token_of part.EndArray = end_array
 token_of (part.Key name) = key name.now
 token_of (part.Text text) = string text.now
 token_of (part.Number n) = number (decimal n)
+token_of (part.Boolean b) = boolean b
 
 abbrev pub tokens_of : List Part → List Token
 tokens_of [] = []

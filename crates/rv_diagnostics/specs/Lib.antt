@@ -1,4 +1,3 @@
 pub mod Diagnostics
 pub mod Json
 pub mod Published
-pub mod Windows

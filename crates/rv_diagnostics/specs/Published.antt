@@ -5,6 +5,7 @@ use Rattle.std.specs.List.{flat_map}
 use Rattle.std.specs.Fmt.{signed_decimal}
 use Rattle.json.specs.Print.{print}
 use Rattle.json.specs.Token.{Token, begin_object, end_object, begin_array, end_array, key, number as number_token}
+use Rattle.rv_text.specs.declared.faults.Fault.{Fault}
 use Rattle.rv_text.specs.declared.lexeme.TheConstants.{MAX_LINE_LENGTH}
 use Rattle.rv_expr.specs.Value.{Environment}
 use Rattle.rv_fix.specs.Values.{operand_values_of}
@@ -18,9 +19,9 @@ use Rattle.rv_program.specs.declared.limits.TheConstants.{MAX_LINES}
 use Rattle.rv_files.specs.Symbols.{searched, symbols_of}
 use Rattle.rv_diagnostics.specs.Diagnostics.{fault_diagnostic, long_line, many_lines, more_diagnostics, warning_diagnostic}
 use Rattle.rv_diagnostics.specs.declared.publishing.TheConstants.{MOST}
-use Rattle.rv_diagnostics.specs.declared.window.Window.{Window}
+use Rattle.rv_doc.specs.declared.window.Window.{Window}
 use Rattle.rv_diagnostics.specs.Json.{frame, message, string_member}
-use Rattle.rv_diagnostics.specs.Windows.{nearest, windowed}
+use Rattle.rv_doc.specs.Windows.{nearest, windowed}
 
 -- what the lines before a place give, with their numbers, one after another
 abbrev pub from_first : {A : Type 0} → Shown → (at : ℕ) → (ℕ → ShownLine → List A) → List A
@@ -54,10 +55,15 @@ faulty_line given symbols number line = record {
   symbols = symbols;
 }
 
+-- the diagnostic of a fault of a line
+unfoldable pub line_diagnostic : Encoding → (uri : List ℕ) → (given : ℕ → ℕ → Environment) → Shown → (symbols : List (List ℕ)) → (number : ℕ) → ShownLine → Fault → List Token
+line_diagnostic encoding uri given shown symbols number line =
+    fault_diagnostic encoding uri (given number line.place.address) shown (faulty_line given symbols number line)
+
 -- the diagnostics of a line, one for each fault
 unfoldable pub line_diagnostics : Encoding → (uri : List ℕ) → (given : ℕ → ℕ → Environment) → Shown → (symbols : List (List ℕ)) → (number : ℕ) → ShownLine → List (List Token)
 line_diagnostics encoding uri given shown symbols number line =
-    map (fault_diagnostic encoding uri (given number line.place.address) shown (faulty_line given symbols number line)) (faults_of shown number line)
+    map (line_diagnostic encoding uri given shown symbols number line) (faults_of shown number line)
 
 -- those of a text
 abbrev pub all_diagnostics : Encoding → (uri : List ℕ) → (given : ℕ → ℕ → Environment) → Shown → (symbols : List (List ℕ)) → List (List Token)

@@ -9,12 +9,10 @@ ghost use Rattle.rv_report.specs.Lines.{line_of};
 ghost use Rattle.rv_report.specs.Messages.{message_of};
 ghost use Rattle.rv_report.specs.Warnings.{warning_message, warning_seen};
 ghost use Rattle.rv_diagnostics.specs.Diagnostics.{column_at, diagnostic, diagnostic_head, diagnostic_of_fault, fault_diagnostic, long_line, many_lines, more_diagnostics, place_of_fault, place_of_name, related_line, related_of, related_place, warning_diagnostic};
-ghost use Rattle.rv_diagnostics.specs.Windows.{passed, windowed};
 
 use crate::message::Message;
 use crate::part::Part;
 use crate::ranges::put_range;
-use crate::window::Window;
 use rv_doc::{Encoding, column_of};
 use rv_expr::Names;
 use rv_list::{DefinitionPlace, View, fault_name};
@@ -247,10 +245,9 @@ fn put_fault<N: Names, V: View>(
     Ok(())
 }
 
-// Writes the diagnostic of a fault, if there is one and a window shows it.
-fn put_if_shown<N: Names, V: View>(
+// Writes the diagnostic of a fault, if there is one.
+fn put_if_found<N: Names, V: View>(
     m: &mut Message,
-    window: &mut Window,
     context: &Context<'_>,
     line: &FaultyLine<'_>,
     names: &N,
@@ -259,22 +256,17 @@ fn put_if_shown<N: Names, V: View>(
 ) -> Result<(), AllocError>
     requires labels { length line.now.stmt.now.labels ≤ 1000 }
     requires text { length line.now.text.now ≤ 1000 }
-    ensures said { OnOk result (m.new ≡ m.old ++ flat_map (fault_diagnostic context.now.encoding context.now.uri.now (N.environment names.now line.now.address) (V.shown view.now) (line_of line.now)) (windowed window.old (body_faults fault))) }
-    ensures passed { OnOk result (window.new ≡ passed window.old (length (body_faults fault))) }
+    ensures { OnOk result (m.new ≡ m.old ++ flat_map (fault_diagnostic context.now.encoding context.now.uri.now (N.environment names.now line.now.address) (V.shown view.now) (line_of line.now)) (body_faults fault)) }
 {
-    let Some(fault) = fault else {
-        return Ok(());
-    };
-    if window.shows_next() {
-        put_fault(m, context, line, names, view, fault)?;
+    match fault {
+        Some(fault) => put_fault(m, context, line, names, view, fault),
+        None => Ok(()),
     }
-    Ok(())
 }
 
-/// Writes the diagnostics of those faults of a line that a window shows.
+/// Writes the diagnostics of faults of a line.
 pub fn put_faults<N: Names, V: View>(
     m: &mut Message,
-    window: &mut Window,
     context: &Context<'_>,
     line: &FaultyLine<'_>,
     names: &N,
@@ -283,11 +275,10 @@ pub fn put_faults<N: Names, V: View>(
 ) -> Result<(), AllocError>
     requires labels { length line.now.stmt.now.labels ≤ 1000 }
     requires text { length line.now.text.now ≤ 1000 }
-    ensures said { OnOk result (m.new ≡ m.old ++ flat_map (fault_diagnostic context.now.encoding context.now.uri.now (N.environment names.now line.now.address) (V.shown view.now) (line_of line.now)) (windowed window.old (found faults.entry.now))) }
-    ensures passed { OnOk result (window.new ≡ passed window.old (length (found faults.entry.now))) }
+    ensures { OnOk result (m.new ≡ m.old ++ flat_map (fault_diagnostic context.now.encoding context.now.uri.now (N.environment names.now line.now.address) (V.shown view.now) (line_of line.now)) (found faults.entry.now)) }
 {
     'faults: while let [fault, later @ ..] = faults {
-        put_if_shown(m, window, context, line, names, view, *fault)?;
+        put_if_found(m, context, line, names, view, *fault)?;
         faults = later;
     }
     Ok(())

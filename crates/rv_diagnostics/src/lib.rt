@@ -8,7 +8,6 @@ mod part;
 mod publishing;
 mod ranges;
 mod told;
-mod window;
 
 pub use diagnostics::{Context, column_at};
 pub use message::Message;

@@ -169,6 +169,7 @@ impl Message {
             Part::Key(name) => self.writer.key(name),
             Part::Text(text) => self.writer.string(text),
             Part::Number(n) => self.writer.u64(n),
+            Part::Boolean(is_so) => self.writer.boolean(is_so),
         }
     }
 

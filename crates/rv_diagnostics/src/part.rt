@@ -10,4 +10,5 @@ pub enum Part<'a> {
     Key(&'a str),
     Text(&'a str),
     Number(u64),
+    Boolean(bool),
 }

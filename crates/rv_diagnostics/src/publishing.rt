@@ -1,14 +1,15 @@
 //! The diagnostics of a document that is assembled.
 
-ghost use Rattle.std.specs.Prelude.{◌≡◌, ◌≤◌, ◌∷◌, ◌++◌, ◌*◌, [], length, map, take, Some, None, IfOk, OnOk};
-ghost use Rattle.rv_list.specs.Faults.{faults_of};
+ghost use Rattle.std.specs.Prelude.{◌≡◌, ◌≤◌, ◌∷◌, ◌++◌, ◌*◌, [], length, map, take, None, IfOk, OnOk};
+ghost use Rattle.std.specs.List.{flat_map};
+ghost use Rattle.rv_list.specs.Faults.{found};
 ghost use Rattle.rv_list.specs.Shown.{shown_line};
 ghost use Rattle.json.specs.Print.{print};
 ghost use Rattle.json.specs.Token.{end_array, end_object};
 ghost use Rattle.rv_doc.specs.Positions.{lines_of};
 ghost use Rattle.rv_diagnostics.specs.Json.{frame};
-ghost use Rattle.rv_diagnostics.specs.Published.{all_diagnostics, all_warnings, diagnostics_of, fault_count, fault_diagnostics, left_out, line_diagnostics, long_count, long_lines, publication, publication_head, searched_names, shown_in, some_long, some_warnings, too_many, version_member, warning_count, warning_diagnostics};
-ghost use Rattle.rv_diagnostics.specs.Windows.{passed};
+ghost use Rattle.rv_diagnostics.specs.Published.{all_diagnostics, all_warnings, diagnostics_of, fault_count, fault_diagnostics, left_out, line_diagnostic, long_count, long_lines, publication, publication_head, searched_names, shown_in, some_long, some_warnings, too_many, version_member, warning_count, warning_diagnostics};
+ghost use Rattle.rv_doc.specs.Windows.{passed};
 
 use crate::counting::{
     count_faults, count_long_lines, count_warnings, has_too_many_lines, is_long,
@@ -19,9 +20,8 @@ use crate::diagnostics::{
 use crate::message::Message;
 use crate::part::Part;
 use crate::told::Told;
-use crate::window::Window;
 use arrayvec::ArrayVec;
-use rv_doc::Lines;
+use rv_doc::{Lines, Window};
 use rv_files::{first_names, first_symbols, searched};
 use rv_fix::operand_values;
 use rv_list::{LineSource, LineView, MAX_FAULTS, View, find_faults};
@@ -71,11 +71,9 @@ fn put_long_lines(
     Ok(())
 }
 
-// Writes the diagnostics of those faults of a line that a window shows.
-#[tactic(auto, unfolding(crate::specs::Published::line_diagnostics))]
+// Writes the diagnostics of some faults of a line.
 fn put_line<T: Told>(
     m: &mut Message,
-    window: &mut Window,
     context: &Context<'_>,
     told: &T,
     symbols: &[&[u8]],
@@ -87,14 +85,10 @@ fn put_line<T: Told>(
     requires last { number ≤ (T.View.shown told.now).count }
     requires line { shown_line line.now ≡ (T.View.shown told.now).line number }
     requires labels { length line.now.stmt.now.labels ≤ 1000 }
-    requires faults { faults.now ≡ map Some (faults_of (T.View.shown told.now) number (shown_line line.now)) }
-    ensures said { OnOk result (m.new ≡ m.old
-        ++ shown_in window.old (line_diagnostics context.now.encoding context.now.uri.now (T.environments told.now) (T.View.shown told.now) (map (λ s. s.now) symbols.now) number ((T.View.shown told.now).line number))) }
-    ensures passed { OnOk result (window.new
-        ≡ passed window.old (length (line_diagnostics context.now.encoding context.now.uri.now (T.environments told.now) (T.View.shown told.now) (map (λ s. s.now) symbols.now) number ((T.View.shown told.now).line number)))) }
+    ensures { OnOk result (m.new ≡ m.old
+        ++ flat_map (line_diagnostic context.now.encoding context.now.uri.now (T.environments told.now) (T.View.shown told.now) (map (λ s. s.now) symbols.now) number ((T.View.shown told.now).line number)) (found faults.now)) }
 {
-    if faults.len() <= window.skipped {
-        window.skipped -= faults.len();
+    if faults.is_empty() {
         return Ok(());
     }
     let names = told.given(number);
@@ -111,7 +105,7 @@ fn put_line<T: Told>(
         values: &values,
         symbols,
     };
-    put_faults(m, window, context, &line, &names, told, faults)
+    put_faults(m, context, &line, &names, told, faults)
 }
 
 // Writes the diagnostics of those faults of a text that a window shows.
@@ -134,16 +128,8 @@ fn put_lines<T: Told>(
         lines.advance();
         let line = lines.line();
         find_faults(&mut faults, told, k + 1, &line);
-        put_line(
-            m,
-            window,
-            context,
-            told,
-            symbols,
-            k + 1,
-            &line,
-            faults.as_slice(),
-        )?;
+        let shown = window.pass(faults.as_slice());
+        put_line(m, context, told, symbols, k + 1, &line, shown)?;
     }
     Ok(())
 }

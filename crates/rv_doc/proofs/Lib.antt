@@ -3,3 +3,4 @@ pub mod Around
 pub mod Edited
 pub mod Examples
 pub mod Rooms
+pub mod ChangedTexts

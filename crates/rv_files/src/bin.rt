@@ -1,6 +1,6 @@
 //! The bytes of segments as they lie in memory, with zeros between them.
 
-ghost use Rattle.std.specs.Prelude.{◌≡◌, ◌-◌, ◌^◌, ◌<◌, replicate, IfOk};
+ghost use Rattle.std.specs.Prelude.{◌≡◌, ◌+◌, ◌-◌, ◌^◌, ◌<◌, ◌++◌, length, replicate, IfOk};
 ghost use Rattle.rv_text.specs.Streams.{failures_after, Writes};
 ghost use Rattle.rv_files.specs.Bin.{bin_bytes, bytes_up_to, end_of};
 
@@ -25,6 +25,20 @@ fn write_zeros<W: Sink>(sink: &mut W, count: u64) -> Result<(), Failed>
     write_all(sink, zeros)
 }
 
+// Writes zeros from an address up to a segment, and then its bytes. Says at which address they end.
+fn write_bytes<W: Sink>(sink: &mut W, at: u64, segment: &Segment) -> Result<u64, Failed>
+    requires { W.failures sink.old < 2 ^ 64 - 1 }
+    ensures text { Writes (W.taken sink.old) (replicate (segment.now.address - at) 0 ++ segment.now.bytes) result (W.taken sink.new) }
+    ensures end { IfOk result (λ end. end ≡ segment.now.address + length segment.now.bytes) }
+    ensures count { W.failures sink.new ≡ failures_after (W.failures sink.old) result }
+{
+    let address = u64::from(segment.address());
+    let bytes = segment.bytes();
+    write_zeros(sink, address.saturating_sub(at))?;
+    write_all(sink, bytes)?;
+    Ok(address + bytes.len() as u64)
+}
+
 // Writes zeros from an address up to a segment, and then its bytes, or nothing where it has none. Says at which address they end.
 fn write_segment<W: Sink>(sink: &mut W, at: u64, segment: &Segment) -> Result<u64, Failed>
     requires { W.failures sink.old < 2 ^ 64 - 1 }
@@ -32,14 +46,10 @@ fn write_segment<W: Sink>(sink: &mut W, at: u64, segment: &Segment) -> Result<u6
     ensures end { IfOk result (λ end. end ≡ end_of at segment.now) }
     ensures count { W.failures sink.new ≡ failures_after (W.failures sink.old) result }
 {
-    let bytes = segment.bytes();
-    if bytes.is_empty() {
+    if segment.bytes().is_empty() {
         return Ok(at);
     }
-    let address = u64::from(segment.address());
-    write_zeros(sink, address.saturating_sub(at))?;
-    write_all(sink, bytes)?;
-    Ok(address + bytes.len() as u64)
+    write_bytes(sink, at, segment)
 }
 
 /// Writes the bytes of segments from an address on, up to the first failure of the writer: zeros up to each segment that has bytes,

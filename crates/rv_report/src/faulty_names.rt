@@ -1,9 +1,9 @@
 //! The name that an operand has no value for.
 
 ghost use Rattle.std.specs.Prelude.{◌≡◌, ◌++◌, option_map, OnOk};
-ghost use Rattle.rv_report.specs.FaultyNames.{direction_text, faulty_label, faulty_name, faulty_name_of, faulty_name_of_value, low_label_of, low_label_of_value, name_text, name_used};
+ghost use Rattle.rv_report.specs.FaultyNames.{direction_text, faulty_label, faulty_name, faulty_name_of, faulty_name_of_value, low_label_of, low_label_of_value, name_text, name_used, unless_valued};
 
-use rv_expr::{Direction, Expr, LabelReference, Names, Node};
+use rv_expr::{Direction, Expr, LabelReference, Names, Node, ValueFault};
 use rv_show::Text;
 use rv_stmt::{Operand, OperandValue};
 use std::alloc::AllocError;
@@ -19,24 +19,31 @@ pub enum UsedName<'a> {
     Here,
 }
 
+// A name, if it has no value.
+fn unless_valued(value: Result<i64, ValueFault>, name: UsedName<'_>) -> Option<UsedName<'_>>
+    ensures { option_map name_used result ≡ unless_valued value (name_used name.entry) }
+{
+    match value {
+        Ok(_) => None,
+        Err(_) => Some(name),
+    }
+}
+
 // The first name of an expression without a value of its own.
 fn faulty_name<'a, N: Names>(expression: &'a Expr, names: &N, here: u32) -> Option<UsedName<'a>>
     ensures { option_map name_used result ≡ faulty_name (N.environment names.now here) expression.now }
 {
     match &expression.node {
         Node::Number(_) => None,
-        Node::Symbol(name) => match names.symbol(here, name.bytes()) {
-            Ok(_) => None,
-            Err(_) => Some(UsedName::Symbol(name.bytes())),
-        },
-        Node::Local(number, direction) => match names.local(here, *number, *direction) {
-            Ok(_) => None,
-            Err(_) => Some(UsedName::Local(*number, *direction)),
-        },
-        Node::Here => match names.here(here) {
-            Ok(_) => None,
-            Err(_) => Some(UsedName::Here),
-        },
+        Node::Symbol(name) => {
+            let name = name.bytes();
+            unless_valued(names.symbol(here, name), UsedName::Symbol(name))
+        }
+        Node::Local(number, direction) => unless_valued(
+            names.local(here, *number, *direction),
+            UsedName::Local(*number, *direction),
+        ),
+        Node::Here => unless_valued(names.here(here), UsedName::Here),
         Node::Unary(_, operand) => faulty_name(operand, names, here),
         Node::Binary(_, left, right) => match faulty_name(left, names, here) {
             Some(name) => Some(name),
@@ -65,14 +72,14 @@ fn faulty_label<'a, N: Names>(
     ensures { option_map name_used result ≡ faulty_label (N.environment names.now here) label.now }
 {
     match label {
-        LabelReference::Symbol(name) => match names.symbol(here, name.bytes()) {
-            Ok(_) => None,
-            Err(_) => Some(UsedName::Symbol(name.bytes())),
-        },
-        LabelReference::Local(number, direction) => match names.local(here, *number, *direction) {
-            Ok(_) => None,
-            Err(_) => Some(UsedName::Local(*number, *direction)),
-        },
+        LabelReference::Symbol(name) => {
+            let name = name.bytes();
+            unless_valued(names.symbol(here, name), UsedName::Symbol(name))
+        }
+        LabelReference::Local(number, direction) => unless_valued(
+            names.local(here, *number, *direction),
+            UsedName::Local(*number, *direction),
+        ),
         LabelReference::Here => Some(UsedName::Here),
     }
 }

@@ -160,17 +160,17 @@ fn stop_of(text: &[u8]) -> usize
 fn push_string_stopped(out: &mut Text, rest: &[u8]) -> Result<(), AllocError>
     ensures { OnOk result (out.new ≡ out.old ++ string_stopped rest.now) }
 {
-    let [byte, ..] = rest else {
-        return out.push(b"the closing quotation mark is missing");
-    };
-    if *byte == b'\\' {
-        return out.push_about(
+    match rest {
+        [] => out.push(b"the closing quotation mark is missing"),
+        [b'\\', ..] => out.push_about(
             b"",
             first_bytes(rest, 2),
             b" is no escape: '\\\\' is a backslash, and octal escapes end at '\\377'",
-        );
+        ),
+        _ => out.push(
+            b"a character is one byte of ASCII; a string stands in double quotation marks",
+        ),
     }
-    out.push(b"a character is one byte of ASCII; a string stands in double quotation marks")
 }
 
 /// A string or a character that is none.

@@ -112,13 +112,11 @@ fn is_hash_number(mut rest: &[u8]) -> bool
     ensures { result ≡ is_hash_number rest.entry.now }
 {
     'bytes: while let [byte, more @ ..] = rest {
-        if *byte == b'#' {
-            return begins_number(more);
+        match *byte {
+            b'#' => return begins_number(more),
+            b' ' | b'\t' => rest = more,
+            _ => return false,
         }
-        if *byte != b' ' && *byte != b'\t' {
-            return false;
-        }
-        rest = more;
     }
     false
 }

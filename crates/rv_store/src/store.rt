@@ -46,13 +46,25 @@ use std::marker::Model;
 use std::mem;
 
 /// A text, line by line, with the code of each line.
-#[derive(Drop)]
 pub struct Store {
     alloc: Global,
     base: u32,
     names: NameTable,
     survey: Survey,
     items: SumTree<Item>,
+}
+
+// What a derive would do, but proved here: a crate that drops a store would prove the derived drop of each type in it.
+impl Drop for Store {
+    fn drop(self) {
+        let Store {
+            alloc: _,
+            base: _,
+            names: _,
+            survey: _,
+            items: _,
+        } = self;
+    }
 }
 
 impl Model for Store {

@@ -128,7 +128,7 @@ fn span_at(at: usize, len: usize) -> Span
 
 /// The tokens of a line of at most [`MAX_LINE_LENGTH`] bytes, each the longest that begins at its place, up to the end,
 /// to a comment, or to the leftmost lexical fault. They are no more than the line's bytes, and their spans are ranges of
-/// it. The one error is want of memory for the list of tokens.
+/// it. The only error is out of memory, for the list of tokens.
 pub fn tokens(alloc: Global, line: &[u8]) -> Result<Tokens<'_>, TextError>
     requires { length line.now ≤ MAX_LINE_LENGTH }
     ensures exact { IfOk result (λ t. t ≡ lexed_line line.now) }

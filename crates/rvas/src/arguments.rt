@@ -78,202 +78,193 @@ pub struct Arguments<'a> {
     pub has_own_lines: bool,
 }
 
+// A command, if there was memory for it.
+type Made<'a> = Result<Command<'a>, AllocError>;
+
 const COLORS: [&str; 3] = ["always", "never", "auto"];
 
 const SWITCH: [&str; 2] = ["off", "on"];
 
-// The file of a command.
-fn file_argument<'a>(alloc: Global) -> Arg<'a> {
-    Arg::new(alloc, "file")
-        .value_name("FILE")
-        .help("The file, or - for standard input")
+// An argument that has to be given.
+fn argument<'a>(alloc: Global, name: &'a str, value: &'a str, help: &'a str) -> Arg<'a> {
+    Arg::new(alloc, name)
+        .value_name(value)
+        .help(help)
         .required(true)
         .action(ArgAction::Set)
 }
 
-// The address of the first byte.
-fn base_option<'a>(alloc: Global, help: &'a str) -> Arg<'a> {
-    Arg::new(alloc, "base")
-        .long("base")
-        .value_name("V")
+// An option with a value.
+fn option<'a>(alloc: Global, name: &'a str, value: &'a str, help: &'a str) -> Arg<'a> {
+    Arg::new(alloc, name)
+        .long(name)
+        .value_name(value)
         .help(help)
         .action(ArgAction::Set)
 }
 
+// An option without one.
+fn switch<'a>(alloc: Global, name: &'a str, help: &'a str) -> Arg<'a> {
+    Arg::new(alloc, name)
+        .long(name)
+        .help(help)
+        .action(ArgAction::SetTrue)
+}
+
+// A command with one more argument, if there was memory for both.
+fn with_argument<'a>(command: Made<'a>, argument: Arg<'a>) -> Made<'a> {
+    command?.arg(argument)
+}
+
+// The file of a command.
+fn file_argument<'a>(alloc: Global) -> Arg<'a> {
+    argument(alloc, "file", "FILE", "The file, or - for standard input")
+}
+
 // The base of a text.
 fn text_base<'a>(alloc: Global) -> Arg<'a> {
-    base_option(
-        alloc,
-        "Where the first section begins [default: 0]: a multiple of 4096, at most 0x80000000",
-    )
+    let help =
+        "Where the first section begins [default: 0]: a multiple of 4096, at most 0x80000000";
+    option(alloc, "base", "V", help)
 }
 
 // When reports have colors.
 fn color_option<'a>(alloc: Global) -> Arg<'a> {
-    Arg::new(alloc, "color")
-        .long("color")
-        .value_name("WHEN")
-        .help("Whether reports have colors")
+    option(alloc, "color", "WHEN", "Whether reports have colors")
         .value_parser(COLORS.as_slice())
         .default_value("auto")
-        .action(ArgAction::Set)
 }
 
 // Whether all reports are shown.
 fn all_option<'a>(alloc: Global) -> Arg<'a> {
-    Arg::new(alloc, "all")
-        .long("all")
-        .help("Show all reports, not only the first 1000")
-        .action(ArgAction::SetTrue)
+    switch(alloc, "all", "Show all reports, not only the first 1000")
 }
 
 // Whether reports give the lines of the file that was read.
 fn no_line_marks_option<'a>(alloc: Global) -> Arg<'a> {
-    Arg::new(alloc, "no-line-marks")
-        .long("no-line-marks")
-        .help("Report the lines of FILE itself, not those that its line marks name")
-        .action(ArgAction::SetTrue)
+    let help = "Report the lines of FILE itself, not those that its line marks name";
+    switch(alloc, "no-line-marks", help)
 }
 
 // Whether there are warnings.
 fn warnings_option<'a>(alloc: Global) -> Arg<'a> {
-    Arg::new(alloc, "warnings")
+    option(alloc, "warnings", "WHEN", "Whether there are warnings")
         .short('W')
-        .long("warnings")
-        .value_name("WHEN")
-        .help("Whether there are warnings")
         .value_parser(SWITCH.as_slice())
         .default_value("on")
-        .action(ArgAction::Set)
 }
 
 // Whether a text with a warning is taken for wrong.
 fn werror_option<'a>(alloc: Global) -> Arg<'a> {
-    Arg::new(alloc, "werror")
-        .long("werror")
-        .help("Take a file with a warning for wrong")
-        .action(ArgAction::SetTrue)
+    switch(alloc, "werror", "Take a file with a warning for wrong")
 }
 
 // How reports are shown, whether there are warnings, and what they change.
-fn with_reports<'a>(alloc: Global, command: Command<'a>) -> Result<Command<'a>, AllocError> {
-    command
-        .arg(color_option(alloc))?
-        .arg(all_option(alloc))?
-        .arg(no_line_marks_option(alloc))?
-        .arg(warnings_option(alloc))?
-        .arg(werror_option(alloc))
+fn with_reports<'a>(alloc: Global, command: Made<'a>) -> Made<'a> {
+    let command = with_argument(command, color_option(alloc));
+    let command = with_argument(command, all_option(alloc));
+    let command = with_argument(command, no_line_marks_option(alloc));
+    let command = with_argument(command, warnings_option(alloc));
+    with_argument(command, werror_option(alloc))
 }
 
 // Where the bytes go to.
 fn output_option<'a>(alloc: Global) -> Arg<'a> {
-    Arg::new(alloc, "output")
-        .short('o')
-        .long("output")
-        .value_name("OUT")
-        .help("Where the bytes are written [default: standard output]")
-        .action(ArgAction::Set)
+    let help = "Where the bytes are written [default: standard output]";
+    option(alloc, "output", "OUT", help).short('o')
 }
 
 // In which format they are written.
 fn format_option<'a>(alloc: Global) -> Arg<'a> {
-    Arg::new(alloc, "format")
+    let help = "The format of OUT [default: by its ending, else bin]";
+    option(alloc, "format", "FORMAT", help)
         .short('f')
-        .long("format")
-        .value_name("FORMAT")
-        .help("The format of OUT [default: by its ending, else bin]")
         .value_parser(FORMATS.as_slice())
-        .action(ArgAction::Set)
 }
 
 // Where the program starts.
 fn entry_option<'a>(alloc: Global) -> Arg<'a> {
-    Arg::new(alloc, "entry")
-        .long("entry")
-        .value_name("NAME")
-        .help("The label at which the program starts [default: _start, else the base]")
-        .action(ArgAction::Set)
+    let help = "The label at which the program starts [default: _start, else the base]";
+    option(alloc, "entry", "NAME", help)
 }
 
 // Whether a text with faults is written.
 fn force_option<'a>(alloc: Global) -> Arg<'a> {
-    Arg::new(alloc, "force")
-        .long("force")
-        .help("Write OUT although FILE has faults")
-        .action(ArgAction::SetTrue)
+    switch(alloc, "force", "Write OUT although FILE has faults")
 }
 
 // What is written of a text, and where to.
-fn with_output<'a>(alloc: Global, command: Command<'a>) -> Result<Command<'a>, AllocError> {
-    command
-        .arg(output_option(alloc))?
-        .arg(format_option(alloc))?
-        .arg(entry_option(alloc))?
-        .arg(force_option(alloc))
+fn with_output<'a>(alloc: Global, command: Made<'a>) -> Made<'a> {
+    let command = with_argument(command, output_option(alloc));
+    let command = with_argument(command, format_option(alloc));
+    let command = with_argument(command, entry_option(alloc));
+    with_argument(command, force_option(alloc))
 }
 
-fn assemble_command<'a>(alloc: Global) -> Result<Command<'a>, AllocError> {
+fn assemble_command<'a>(alloc: Global) -> Made<'a> {
     let command = Command::new(alloc, "asm").about("Assembles a file");
-    let command = with_output(alloc, command)?;
-    with_reports(alloc, command.arg(text_base(alloc))?)?.arg(file_argument(alloc))
+    let command = with_output(alloc, Ok(command));
+    let command = with_argument(command, text_base(alloc));
+    let command = with_reports(alloc, command);
+    with_argument(command, file_argument(alloc))
 }
 
-fn check_command<'a>(alloc: Global) -> Result<Command<'a>, AllocError> {
+fn check_command<'a>(alloc: Global) -> Made<'a> {
     let files = file_argument(alloc).num_args(1..).action(ArgAction::Append);
-    let command = Command::new(alloc, "check")
-        .about("Assembles each file by itself, and writes nothing")
-        .arg(text_base(alloc))?;
-    with_reports(alloc, command)?.arg(files)
+    let command = Command::new(alloc, "check").about(
+        "Assembles each file by itself, and writes nothing",
+    );
+    let command = with_argument(Ok(command), text_base(alloc));
+    let command = with_reports(alloc, command);
+    with_argument(command, files)
 }
 
-fn list_command<'a>(alloc: Global) -> Result<Command<'a>, AllocError> {
-    let command = Command::new(alloc, "list")
-        .about("Writes the listing of a file")
-        .arg(text_base(alloc))?;
-    with_reports(alloc, command)?.arg(file_argument(alloc))
+fn list_command<'a>(alloc: Global) -> Made<'a> {
+    let command = Command::new(alloc, "list").about("Writes the listing of a file");
+    let command = with_argument(Ok(command), text_base(alloc));
+    let command = with_reports(alloc, command);
+    with_argument(command, file_argument(alloc))
 }
 
-fn disassemble_command<'a>(alloc: Global) -> Result<Command<'a>, AllocError> {
-    Command::new(alloc, "dis")
-        .about("Disassembles a file of raw bytes")
-        .arg(base_option(alloc, "The address of the first byte [default: 0]"))?
-        .arg(file_argument(alloc))
+fn disassemble_command<'a>(alloc: Global) -> Made<'a> {
+    let base = option(
+        alloc,
+        "base",
+        "V",
+        "The address of the first byte [default: 0]",
+    );
+    let command = Command::new(alloc, "dis").about("Disassembles a file of raw bytes");
+    let command = with_argument(Ok(command), base);
+    with_argument(command, file_argument(alloc))
 }
 
 // The name of a fault.
 fn name_argument<'a>(alloc: Global) -> Arg<'a> {
-    Arg::new(alloc, "name")
-        .value_name("NAME")
-        .help("The name of a fault, or its number")
-        .required(true)
-        .action(ArgAction::Set)
+    argument(alloc, "name", "NAME", "The name of a fault, or its number")
 }
 
-fn explain_command<'a>(alloc: Global) -> Result<Command<'a>, AllocError> {
+fn explain_command<'a>(alloc: Global) -> Made<'a> {
     Command::new(alloc, "explain")
         .about("Says what a fault means")
         .arg(name_argument(alloc))
 }
 
-// A command with one more below it, if there was memory for that.
-fn with_command<'a>(
-    command: Command<'a>,
-    below: Result<Command<'a>, AllocError>,
-) -> Result<Command<'a>, AllocError> {
-    command.subcommand(below?)
+// A command with one more below it, if there was memory for both.
+fn with_command<'a>(command: Made<'a>, below: Made<'a>) -> Made<'a> {
+    command?.subcommand(below?)
 }
 
 // The program's own command.
-fn command<'a>(alloc: Global) -> Result<Command<'a>, AllocError> {
+fn command<'a>(alloc: Global) -> Made<'a> {
     let command = Command::new(alloc, "rvas")
         .version(VERSION)
         .about("Assembles RISC-V text in files")
         .after_help("The commands and formats are described in docs/FILES.md.")
         .subcommand_required(true);
-    let command = with_command(command, assemble_command(alloc))?;
-    let command = with_command(command, check_command(alloc))?;
-    let command = with_command(command, list_command(alloc))?;
-    let command = with_command(command, disassemble_command(alloc))?;
+    let command = with_command(Ok(command), assemble_command(alloc));
+    let command = with_command(command, check_command(alloc));
+    let command = with_command(command, list_command(alloc));
+    let command = with_command(command, disassemble_command(alloc));
     with_command(command, explain_command(alloc))
 }
 
@@ -374,8 +365,11 @@ fn names_of<'a>(alloc: Global, matches: &ArgMatches<'a>) -> Result<Vec<&'a str>,
 }
 
 // Refuses files among which standard input stands more than once.
-fn check_inputs(alloc: Global, names: &[&str]) -> Result<(), ArgumentFault> {
-    if !repeats_input(names) {
+fn check_inputs(alloc: Global, matches: &ArgMatches<'_>) -> Result<(), ArgumentFault> {
+    let Some(files) = matches.get_strs("file") else {
+        return Ok(());
+    };
+    if !repeats_input(files) {
         return Ok(());
     }
     let said = "rvas: standard input can be read once: '-' is given twice\n";
@@ -388,15 +382,15 @@ fn arguments_of<'a>(
     name: &str,
     matches: &ArgMatches<'a>,
 ) -> Result<Arguments<'a>, ArgumentFault> {
-    let names = names_of(alloc, matches)?;
+    check_inputs(alloc, matches)?;
     let task = task_named(name).unwrap_or(Task::Explain);
-    check_inputs(alloc, names.as_slice())?;
+    let base = base_of(alloc, task, matches.get_str("base"))?;
     Ok(Arguments {
         task,
-        names,
+        names: names_of(alloc, matches)?,
         out: matches.get_str("output"),
         format: matches.get_str("format").and_then(Format::named),
-        base: base_of(alloc, task, matches.get_str("base"))?,
+        base,
         entry: matches.get_str("entry"),
         force: matches.get_flag("force"),
         color: color_named(matches.get_str("color")),

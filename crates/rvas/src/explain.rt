@@ -167,10 +167,11 @@ fn place_of(text: &str) -> Option<usize> {
 
 // The fault of this name or number.
 fn explanation_of(name: &str) -> Option<&'static Explanation> {
+    let explanations = EXPLANATIONS.as_slice();
     if let Some(place) = place_of(name) {
-        return EXPLANATIONS.get(place);
+        return explanations.get(place);
     }
-    for explanation in &EXPLANATIONS {
+    for explanation in explanations {
         if explanation.name.eq_ignore_ascii_case(name) {
             return Some(explanation);
         }

@@ -216,15 +216,16 @@ fn is_for_terminal(rt: &HostRuntime, out: &str, format: Format) -> bool {
     out == "-" && !format.is_text() && rt.stdout().is_terminal()
 }
 
-// Writes a text that was read, unless it has faults and only a right one is to be written.
+// Reports the faults of a text that was read and writes it, unless it has some and only a right one is to be written.
 fn assemble_text(
     rt: &HostRuntime,
     arguments: &Arguments<'_>,
+    file: &str,
     store: &Store,
     out: &str,
     format: Format,
-    is_right: bool,
 ) -> Result<(), Failure> {
+    let is_right = report_faults(rt, arguments, file, store)? == 0;
     if !is_right && !arguments.force {
         return Err(Failure::Faulty);
     }
@@ -257,8 +258,7 @@ fn assemble_file(
         return Err(Failure::Terminal);
     }
     let store = read_text(rt, file, arguments.base)?;
-    let is_right = report_faults(rt, arguments, file, &store)? == 0;
-    assemble_text(rt, arguments, &store, out, format, is_right)
+    assemble_text(rt, arguments, file, &store, out, format)
 }
 
 /// Assembles a file, and gives the status.
@@ -305,12 +305,22 @@ fn write_list(rt: &HostRuntime, store: &Store) -> Result<(), Failure> {
     }
 }
 
+// Reports the faults of a text that was read, and writes its listing.
+fn list_text(
+    rt: &HostRuntime,
+    arguments: &Arguments<'_>,
+    file: &str,
+    store: &Store,
+) -> Result<(), Failure> {
+    let is_right = report_faults(rt, arguments, file, store)? == 0;
+    write_list(rt, store)?;
+    unless_faulty(is_right)
+}
+
 // Writes the listing of a file.
 fn list_file(rt: &HostRuntime, arguments: &Arguments<'_>, file: &str) -> Result<(), Failure> {
     let store = read_text(rt, file, arguments.base)?;
-    let is_right = report_faults(rt, arguments, file, &store)? == 0;
-    write_list(rt, &store)?;
-    unless_faulty(is_right)
+    list_text(rt, arguments, file, &store)
 }
 
 /// Writes the listing of a file, and gives the status.

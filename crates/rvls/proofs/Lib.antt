@@ -1,2 +1,3 @@
 pub mod DocumentSymbols
 pub mod Modifiers
+pub mod Pieces

@@ -2,3 +2,4 @@ pub mod DocumentSymbols
 pub mod Frames
 pub mod Names
 pub mod NewNames
+pub mod DocumentDiagnostics

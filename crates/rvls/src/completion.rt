@@ -141,14 +141,21 @@ fn put_registers(m: &mut Message, word: &Word<'_>) -> Result<(), AllocError> {
     Ok(())
 }
 
+// Writes the set of fences that has a number, if it has a name.
+fn put_set(m: &mut Message, word: &Word<'_>, number: u8) -> Result<(), AllocError> {
+    let Some(set) = Reg::new(number) else {
+        return Ok(());
+    };
+    match set_name(set) {
+        Some(name) => put_item(m, word, name, CONSTANT, "set"),
+        None => Ok(()),
+    }
+}
+
 // Writes the sets of fences.
 fn put_sets(m: &mut Message, word: &Word<'_>) -> Result<(), AllocError> {
     for number in 0..32 {
-        if let Some(set) = Reg::new(number) {
-            if let Some(name) = set_name(set) {
-                put_item(m, word, name, CONSTANT, "set")?;
-            }
-        }
+        put_set(m, word, number)?;
     }
     Ok(())
 }
@@ -223,6 +230,13 @@ fn put_names<V: View>(
     Ok(())
 }
 
+// Writes the names of instructions and directives.
+fn put_statements(m: &mut Message, alloc: Global, word: &Word<'_>) -> Result<(), AllocError> {
+    put_operations(m, alloc, word, &TABLE)?;
+    put_forms(m, alloc, word, &FORMS)?;
+    put_directives(m, word, &DIRECTIVES, KEYWORD)
+}
+
 // Writes the names that may stand where this was typed.
 fn put_expected<V: View>(
     m: &mut Message,
@@ -232,11 +246,7 @@ fn put_expected<V: View>(
     typed: &Typed<'_>,
 ) -> Result<(), AllocError> {
     match typed.expected {
-        Expected::Statement => {
-            put_operations(m, alloc, word, &TABLE)?;
-            put_forms(m, alloc, word, &FORMS)?;
-            put_directives(m, word, &DIRECTIVES, KEYWORD)
-        }
+        Expected::Statement => put_statements(m, alloc, word),
         Expected::Operand | Expected::Modifier => {
             let kinds = names_taken(typed.statement, typed.operand, typed.depth > 0);
             put_names(m, alloc, view, word, kinds)

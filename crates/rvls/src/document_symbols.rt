@@ -7,7 +7,7 @@ ghost use Rattle.rvls.specs.DocumentSymbols.{body_symbols, document_symbol, docu
 
 use crate::names::text_of;
 use crate::places::put_name_range;
-use rv_diagnostics::{Context, Message};
+use rv_diagnostics::{Context, Message, Part};
 use rv_list::{LineSource, LineView, View};
 use rv_stmt::{Body, LabelName, LabelSlice};
 use rv_text::Span;
@@ -33,10 +33,14 @@ fn put_symbol(
     ensures { OnOk result (m.new ≡ m.old ++ document_symbol context.now.encoding number text.now span name.now kind) }
 {
     let name = String::from_utf8_lossy(context.alloc, name)?;
-    m.begin_object()?;
-    m.put_string("name", name.as_str())?;
-    m.put_number("kind", kind)?;
-    m.key("range")?;
+    m.put_all(&[
+        Part::BeginObject,
+        Part::Key("name"),
+        Part::Text(name.as_str()),
+        Part::Key("kind"),
+        Part::Number(kind),
+        Part::Key("range"),
+    ])?;
     put_name_range(m, context.encoding, number, text, span)?;
     m.key("selectionRange")?;
     put_name_range(m, context.encoding, number, text, span)?;

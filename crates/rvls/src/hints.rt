@@ -3,10 +3,10 @@
 use crate::comments::end_of;
 use crate::hover::hint_text;
 use crate::names::text_of;
-use rv_diagnostics::{Message, column_at, put_position};
+use rv_diagnostics::{Context, Message, Part, column_at, put_position};
 use rv_doc::Encoding;
 use rv_list::{LineSource, LineView, View};
-use std::alloc::{AllocError, Global};
+use std::alloc::AllocError;
 
 // The column at the end of a line.
 fn end_column(encoding: Encoding, line: &LineView<'_>) -> u32 {
@@ -21,29 +21,26 @@ fn end_column(encoding: Encoding, line: &LineView<'_>) -> u32 {
 // Writes the hint of a line, by its number from 0 on.
 fn put_hint(
     m: &mut Message,
-    alloc: Global,
-    encoding: Encoding,
+    context: &Context<'_>,
     number: u32,
     line: &LineView<'_>,
 ) -> Result<(), AllocError> {
-    let text = hint_text(alloc, line)?;
-    m.begin_object()?;
-    m.key("position")?;
-    put_position(m, number, end_column(encoding, line))?;
-    m.put_string("label", text.as_str())?;
-    m.put_true("paddingLeft")?;
-    m.end_object()
+    let text = hint_text(context.alloc, line)?;
+    m.put_all(&[Part::BeginObject, Part::Key("position")])?;
+    put_position(m, number, end_column(context.encoding, line))?;
+    m.put_all(&[
+        Part::Key("label"),
+        Part::Text(text.as_str()),
+        Part::Key("paddingLeft"),
+        Part::Boolean(true),
+        Part::EndObject,
+    ])
 }
 
-/// Writes the hints of the lines with bytes from number `from` on, up to and with number `to`, both from 0 on.
-///
-/// # Errors
-///
-/// `AllocError` if there is no memory for them.
-pub fn put_hints<V: View>(
+// Writes the hints of some lines, one after another.
+fn put_lines<V: View>(
     m: &mut Message,
-    alloc: Global,
-    encoding: Encoding,
+    context: &Context<'_>,
     view: &V,
     from: u32,
     to: u32,
@@ -56,8 +53,25 @@ pub fn put_hints<V: View>(
         lines.advance();
         let line = lines.line();
         if k >= from && line.place.size > 0 {
-            put_hint(m, alloc, encoding, k, &line)?;
+            put_hint(m, context, k, &line)?;
         }
     }
     Ok(())
+}
+
+/// Writes the hints of the lines with bytes from number `from` on, up to and with number `to`, both from 0 on.
+///
+/// # Errors
+///
+/// `AllocError` if there is no memory for them.
+pub fn put_hints<V: View>(
+    m: &mut Message,
+    context: &Context<'_>,
+    view: &V,
+    from: u32,
+    to: u32,
+) -> Result<(), AllocError> {
+    m.begin_array()?;
+    put_lines(m, context, view, from, to)?;
+    m.end_array()
 }

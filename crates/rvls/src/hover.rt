@@ -112,6 +112,23 @@ fn push_said<V: View>(
     Ok(())
 }
 
+// What is said at a column of a line, if anything is.
+fn said_at<V: View>(
+    context: &Context<'_>,
+    view: &V,
+    number: u32,
+    line: &LineView<'_>,
+    column: u32,
+) -> Result<Option<String>, AllocError> {
+    let mut text = Text::new(context.alloc);
+    push_said(&mut text, context, view, number, line, column)?;
+    if text.bytes().is_empty() {
+        return Ok(None);
+    }
+    let said = String::from_utf8_lossy(context.alloc, text.bytes())?;
+    Ok(Some(said))
+}
+
 /// What is said at a position of a text, if there is a name that stands for something, or the line has bytes.
 ///
 /// # Errors
@@ -123,15 +140,8 @@ pub fn hover_text<V: View>(
     position: Position,
 ) -> Result<Option<String>, AllocError> {
     let number = position.line.saturating_add(1);
-    let Some(lines) = lines_to(view, number) else {
-        return Ok(None);
-    };
-    let line = lines.line();
-    let mut text = Text::new(context.alloc);
-    push_said(&mut text, context, view, number, &line, position.character)?;
-    if text.bytes().is_empty() {
-        return Ok(None);
+    match lines_to(view, number) {
+        Some(lines) => said_at(context, view, number, &lines.line(), position.character),
+        None => Ok(None),
     }
-    let said = String::from_utf8_lossy(context.alloc, text.bytes())?;
-    Ok(Some(said))
 }

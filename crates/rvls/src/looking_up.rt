@@ -10,9 +10,8 @@ use crate::rename::{put_name, put_rename};
 use crate::semantic_tokens::put_semantic_tokens;
 use crate::writing::{Failure, Refusal};
 use rv_diagnostics::{Context, Message};
-use rv_doc::Position;
+use rv_doc::{Position, number_at, position_of, text_at};
 use rv_list::{LineSource, LineView, View};
-use rv_live::{number_at, position_of, text_at};
 use serde_json::Value;
 use std::alloc::AllocError;
 
@@ -124,7 +123,41 @@ fn put_about_name<V: View>(
     Ok(())
 }
 
-// Writes the answer about the name at a position.
+// Writes the names that may be typed at a position of a line.
+fn put_list<V: View>(
+    m: &mut Message,
+    context: &Context<'_>,
+    view: &V,
+    line: &LineView<'_>,
+    position: Position,
+) -> Result<(), AllocError> {
+    m.begin_array()?;
+    put_completions(m, context, view, line, position)?;
+    m.end_array()
+}
+
+// Writes the answer about a position of a line, by its number from 1 on.
+fn put_about_line<V: View>(
+    m: &mut Message,
+    context: &Context<'_>,
+    view: &V,
+    number: u32,
+    line: &LineView<'_>,
+    position: Position,
+    wish: Wish<'_>,
+) -> Result<(), Failure> {
+    if let Wish::Completion = wish {
+        put_list(m, context, view, line, position)?;
+        return Ok(());
+    }
+    let column = position.character;
+    match name_at(context.alloc, context.encoding, view, number, line, column)? {
+        Some(name) => put_about_name(m, context, view, number, line, &name, wish),
+        None => put_nothing(m, wish),
+    }
+}
+
+// Writes the answer about a position.
 fn put_about_position<V: View>(
     m: &mut Message,
     context: &Context<'_>,
@@ -133,19 +166,8 @@ fn put_about_position<V: View>(
     wish: Wish<'_>,
 ) -> Result<(), Failure> {
     let number = position.line.saturating_add(1);
-    let Some(lines) = lines_to(view, number) else {
-        return put_nothing(m, wish);
-    };
-    let line = lines.line();
-    if let Wish::Completion = wish {
-        m.begin_array()?;
-        put_completions(m, context, view, &line, position)?;
-        m.end_array()?;
-        return Ok(());
-    }
-    let column = position.character;
-    match name_at(context.alloc, context.encoding, view, number, &line, column)? {
-        Some(name) => put_about_name(m, context, view, number, &line, &name, wish),
+    match lines_to(view, number) {
+        Some(lines) => put_about_line(m, context, view, number, &lines.line(), position, wish),
         None => put_nothing(m, wish),
     }
 }

@@ -1,6 +1,7 @@
 //! A language server: messages of an editor come in over standard input, answers and diagnostics go out over standard output.
 #![tactic(auto)]
 
+mod assembly;
 mod comments;
 mod completion;
 mod definition;
@@ -8,6 +9,7 @@ mod document_symbols;
 mod frame;
 mod hints;
 mod hover;
+mod loading;
 mod looking_up;
 mod meaning;
 mod name_at;
@@ -16,11 +18,13 @@ mod names;
 mod new_names;
 mod operand_lists;
 mod places;
+mod publishing;
 mod references;
 mod rename;
 mod run;
 mod semantic_tokens;
 mod server;
+mod stored;
 mod symbol_text;
 mod typed;
 mod writing;

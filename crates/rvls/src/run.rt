@@ -1,9 +1,10 @@
 //! A session over a reader and a writer.
 
-ghost use Rattle.std.specs.Prelude.{◌≡◌, ◌≤◌, ◌<◌, ◌-◌, ◌^◌, length, IfOk};
+ghost use Rattle.std.specs.Prelude.{◌≡◌, ◌≤◌, ◌<◌, ◌-◌, ◌^◌, length, IfOk, OnOk};
 
 use crate::frame::{Frame, frame_at};
 use crate::server::{CUT_OFF, MALFORMED, Next, Server};
+use rv_show::bytes_from;
 use rv_text::{Failed, Sink, Source, write_all};
 use std::alloc::{AllocError, Global};
 
@@ -51,50 +52,81 @@ fn answer_frames(
     Ok((at, Next::Go))
 }
 
-// Takes bytes out at the front.
-fn drop_front(alloc: Global, bytes: Vec<u8>, count: usize) -> Result<Vec<u8>, AllocError>
-    requires { count ≤ length bytes.items }
-{
-    if count == 0 {
-        return Ok(bytes);
-    }
-    let (_, rest) = bytes.as_slice().split_at(count);
-    Vec::from_slice(alloc, rest)
+/// A session: the server, what was read and is not answered, and what is answered and not written.
+#[derive(Drop)]
+struct Session {
+    alloc: Global,
+    server: Server,
+    pending: Vec<u8>,
+    out: Vec<u8>,
 }
 
-// Answers messages that are read into a buffer, until the session ends, and returns its status.
-fn answer_all<R: Source, W: Sink>(
-    alloc: Global,
-    source: &mut R,
-    sink: &mut W,
-    buffer: &mut [u8],
-) -> Result<u8, RunError>
-    requires reads { R.failures source.old < 2 ^ 64 - 1 }
-    requires writes { W.failures sink.old < 2 ^ 64 - 1 }
-{
-    let mut server = Server::new(alloc);
-    let mut pending = Vec::new(alloc);
-    let mut out = Vec::new(alloc);
-    'reading: for _ in 0..u64::MAX {
-        let Ok(count) = source.read(buffer) else {
-            return Err(RunError::Read);
-        };
-        if count == 0 {
-            return Ok(CUT_OFF);
+impl Session {
+    // A session that has not begun.
+    fn new(alloc: Global) -> Session {
+        Session {
+            alloc,
+            server: Server::new(alloc),
+            pending: Vec::new(alloc),
+            out: Vec::new(alloc),
         }
-        let (chunk, _) = buffer.split_at(count);
-        pending.extend_from_slice(chunk)?;
-        let (done, next) = answer_frames(&mut server, pending.as_slice(), &mut out)?;
-        let Ok(()) = write_all(sink, out.as_slice()) else {
+    }
+
+    // Answers the frames that are whole with some bytes more, and says how many bytes they have, and whether to go on.
+    fn answer(&mut self, chunk: &[u8]) -> Result<(usize, Next), AllocError> {
+        self.pending.extend_from_slice(chunk)?;
+        answer_frames(&mut self.server, self.pending.as_slice(), &mut self.out)
+    }
+
+    // Writes the answers.
+    fn write<W: Sink>(&mut self, sink: &mut W) -> Result<(), RunError>
+        requires { W.failures sink.old < 2 ^ 64 - 1 }
+        ensures { OnOk result (W.failures sink.new ≡ W.failures sink.old) }
+    {
+        let Ok(()) = write_all(sink, self.out.as_slice()) else {
             return Err(RunError::Write);
         };
-        out.clear();
-        if let Next::Exit(status) = next {
-            return Ok(status);
-        }
-        pending = drop_front(alloc, pending, done)?;
+        self.out.clear();
+        Ok(())
     }
-    Ok(CUT_OFF)
+
+    // Takes bytes out at the front of those that were read.
+    fn drop_front(&mut self, count: usize) -> Result<(), AllocError> {
+        if count == 0 {
+            return Ok(());
+        }
+        let rest = bytes_from(self.pending.as_slice(), count);
+        self.pending = Vec::from_slice(self.alloc, rest)?;
+        Ok(())
+    }
+
+    // Answers messages that are read into a buffer, until the session ends, and returns its status.
+    fn answer_all<R: Source, W: Sink>(
+        &mut self,
+        source: &mut R,
+        sink: &mut W,
+        buffer: &mut [u8],
+    ) -> Result<u8, RunError>
+        requires reads { R.failures source.old < 2 ^ 64 - 1 }
+        requires writes { W.failures sink.old < 2 ^ 64 - 1 }
+    {
+        'reading: for _ in 0..u64::MAX {
+            let Ok(count) = source.read(buffer) else {
+                return Err(RunError::Read);
+            };
+            if count == 0 {
+                return Ok(CUT_OFF);
+            }
+            let (chunk, _) = buffer.split_at(count);
+            let (done, next) = self.answer(chunk)?;
+            self.write(sink)?;
+            if let Next::Exit(status) = next {
+                return Ok(status);
+            }
+            self.drop_front(done)?;
+        }
+        Ok(CUT_OFF)
+    }
 }
 
 /// Answers messages until the session ends, and returns its status.
@@ -107,5 +139,6 @@ pub fn run<R: Source, W: Sink>(alloc: Global, source: &mut R, sink: &mut W) -> R
     requires writes { W.failures sink.old < 2 ^ 64 - 1 }
 {
     let mut buffer = [0u8; CHUNK];
-    answer_all(alloc, source, sink, &mut buffer)
+    let mut session = Session::new(alloc);
+    session.answer_all(source, sink, &mut buffer)
 }

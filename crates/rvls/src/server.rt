@@ -2,16 +2,17 @@
 
 ghost use Rattle.std.specs.Prelude.{◌≡◌, ◌≤◌, ◌<◌, length, IfSome, vec_len};
 
+use crate::assembly::Assembly;
 use crate::hints::put_hints;
 use crate::hover::hover_text;
-use crate::looking_up::{put_answer, question_in};
+use crate::looking_up::{Question, put_answer, question_in};
+use crate::publishing::publish;
 use crate::semantic_tokens::TOKEN_TYPES;
 use crate::writing::{
     Failure, Refusal, answer_null, answer_text, begin_result, refuse, show_error,
 };
 use rv_diagnostics::{Context, Message, Part, publish_none};
-use rv_doc::Encoding;
-use rv_live::{Assembly, number_at, position_of, publish, text_at};
+use rv_doc::{Encoding, Position, number_at, position_of, text_at};
 use serde_json::Value;
 use std::alloc::{AllocError, Global};
 
@@ -48,6 +49,38 @@ pub struct Open {
     pub document: Assembly,
 }
 
+impl Open {
+    // A document of this text.
+    fn new(alloc: Global, uri: &str, version: Option<i64>, text: &str) -> Result<Open, AllocError> {
+        let uri = String::from_str(alloc, uri)?;
+        let document = Assembly::new(alloc, text.as_bytes())?;
+        Ok(Open {
+            uri,
+            version,
+            document,
+        })
+    }
+
+    // The document after the changes of a message, if each is well formed.
+    fn changed(
+        self,
+        alloc: Global,
+        encoding: Encoding,
+        version: Option<i64>,
+        changes: &[Value],
+    ) -> Result<Option<Open>, AllocError> {
+        let Open { uri, document, .. } = self;
+        match document.changed(alloc, encoding, changes)? {
+            Some(document) => Ok(Some(Open {
+                uri,
+                version,
+                document,
+            })),
+            None => Ok(None),
+        }
+    }
+}
+
 /// A session.
 #[derive(Drop)]
 pub struct Server {
@@ -56,15 +89,6 @@ pub struct Server {
     phase: Phase,
     documents: Vec<Open>,
 }
-
-// What the server can do, beside what takes options.
-const PROVIDERS: [&str; 5] = [
-    "hoverProvider",
-    "inlayHintProvider",
-    "definitionProvider",
-    "referencesProvider",
-    "documentSymbolProvider",
-];
 
 // Whether a list of texts has this one.
 fn has_text(list: Option<&Value>, text: &str) -> bool {
@@ -103,10 +127,13 @@ fn put_rename_provider(m: &mut Message, message: &Value) -> Result<(), AllocErro
     if prepares.and_then(Value::as_bool) != Some(true) {
         return m.put_true("renameProvider");
     }
-    m.key("renameProvider")?;
-    m.begin_object()?;
-    m.put_true("prepareProvider")?;
-    m.end_object()
+    m.put_all(&[
+        Part::Key("renameProvider"),
+        Part::BeginObject,
+        Part::Key("prepareProvider"),
+        Part::Boolean(true),
+        Part::EndObject,
+    ])
 }
 
 // Writes which characters begin a name that can be completed, beside letters.
@@ -140,10 +167,37 @@ fn put_tokens_provider(m: &mut Message) -> Result<(), AllocError> {
         Part::BeginArray,
         Part::EndArray,
         Part::EndObject,
-    ])?;
-    m.put_true("full")?;
-    m.put_true("range")?;
-    m.end_object()
+        Part::Key("full"),
+        Part::Boolean(true),
+        Part::Key("range"),
+        Part::Boolean(true),
+        Part::EndObject,
+    ])
+}
+
+// Writes what the server can do that takes no options.
+fn put_simple_capabilities(m: &mut Message, encoding: Encoding) -> Result<(), AllocError> {
+    m.put_all(&[
+        Part::Key("positionEncoding"),
+        Part::Text(encoding_name(encoding)),
+        Part::Key("textDocumentSync"),
+        Part::BeginObject,
+        Part::Key("openClose"),
+        Part::Boolean(true),
+        Part::Key("change"),
+        Part::Number(2),
+        Part::EndObject,
+        Part::Key("hoverProvider"),
+        Part::Boolean(true),
+        Part::Key("inlayHintProvider"),
+        Part::Boolean(true),
+        Part::Key("definitionProvider"),
+        Part::Boolean(true),
+        Part::Key("referencesProvider"),
+        Part::Boolean(true),
+        Part::Key("documentSymbolProvider"),
+        Part::Boolean(true),
+    ])
 }
 
 // Writes what the server can do.
@@ -152,17 +206,8 @@ fn put_capabilities(
     encoding: Encoding,
     message: &Value,
 ) -> Result<(), AllocError> {
-    m.key("capabilities")?;
-    m.begin_object()?;
-    m.put_string("positionEncoding", encoding_name(encoding))?;
-    m.key("textDocumentSync")?;
-    m.begin_object()?;
-    m.put_true("openClose")?;
-    m.put_number("change", 2)?;
-    m.end_object()?;
-    for provider in &PROVIDERS {
-        m.put_true(provider)?;
-    }
+    m.put_all(&[Part::Key("capabilities"), Part::BeginObject])?;
+    put_simple_capabilities(m, encoding)?;
     put_rename_provider(m, message)?;
     put_completion_provider(m)?;
     put_tokens_provider(m)?;
@@ -171,11 +216,29 @@ fn put_capabilities(
 
 // Writes what the server is.
 fn put_server(m: &mut Message) -> Result<(), AllocError> {
-    m.key("serverInfo")?;
-    m.begin_object()?;
-    m.put_string("name", "rvls")?;
-    m.put_string("version", "0.1.0")?;
-    m.end_object()
+    m.put_all(&[
+        Part::Key("serverInfo"),
+        Part::BeginObject,
+        Part::Key("name"),
+        Part::Text("rvls"),
+        Part::Key("version"),
+        Part::Text("0.1.0"),
+        Part::EndObject,
+    ])
+}
+
+// The name and the text of a document that is opened.
+fn opened_in(message: &Value) -> Option<(&str, &str)> {
+    let uri = text_at(message, "/params/textDocument/uri")?;
+    let text = text_at(message, "/params/textDocument/text")?;
+    Some((uri, text))
+}
+
+// The name of a document that is changed, and the changes.
+fn changed_in(message: &Value) -> Option<(&str, &[Value])> {
+    let uri = text_at(message, "/params/textDocument/uri")?;
+    let changes = message.pointer("/params/contentChanges")?.as_array()?;
+    Some((uri, changes.as_slice()))
 }
 
 // The version of a document that a message is about, if it says one.
@@ -218,6 +281,20 @@ impl Server {
         Some(self.documents.remove(at))
     }
 
+    // Publishes the diagnostics of a document, those nearest to where it was edited.
+    fn publish(&self, open: &Open, out: &mut Vec<u8>) -> Result<(), AllocError> {
+        let context = self.context(open.uri.as_str());
+        let document = &open.document;
+        publish(&context, open.version, document, document.edited(), out)
+    }
+
+    // Keeps a document that is new or has changed, and publishes its diagnostics.
+    fn keep(&mut self, open: Open, out: &mut Vec<u8>) -> Result<(), AllocError> {
+        self.publish(&open, out)?;
+        self.documents.push(open)?;
+        Ok(())
+    }
+
     // Ends the session, since a message cannot be taken.
     fn give_up(&self, what: &str, out: &mut Vec<u8>) -> Result<Next, AllocError> {
         show_error(self.alloc, what, out)?;
@@ -238,22 +315,12 @@ impl Server {
 
     // Opens a document.
     fn open(&mut self, message: &Value, out: &mut Vec<u8>) -> Result<Next, AllocError> {
-        let (Some(uri), Some(text)) = (
-            text_at(message, "/params/textDocument/uri"),
-            text_at(message, "/params/textDocument/text"),
-        ) else {
+        let Some((uri, text)) = opened_in(message) else {
             return self.give_up("rvls: a malformed didOpen ends the session", out);
         };
-        let version = version_in(message);
-        let document = Assembly::new(self.alloc, text.as_bytes())?;
-        publish(&self.context(uri), version, &document, 0, out)?;
         let _ = self.take(uri);
-        let uri = String::from_str(self.alloc, uri)?;
-        self.documents.push(Open {
-            uri,
-            version,
-            document,
-        })?;
+        let open = Open::new(self.alloc, uri, version_in(message), text)?;
+        self.keep(open, out)?;
         Ok(Next::Go)
     }
 
@@ -269,30 +336,17 @@ impl Server {
 
     // Makes the changes of a document.
     fn change(&mut self, message: &Value, out: &mut Vec<u8>) -> Result<Next, AllocError> {
-        let changes = message.pointer("/params/contentChanges");
-        let (Some(uri), Some(changes)) = (
-            text_at(message, "/params/textDocument/uri"),
-            changes.and_then(Value::as_array),
-        ) else {
+        let Some((uri, changes)) = changed_in(message) else {
             return self.give_up("rvls: a malformed didChange ends the session", out);
         };
         let Some(open) = self.take(uri) else {
             return Ok(Next::Go);
         };
-        let Open { uri, document, .. } = open;
-        let version = version_in(message);
-        let changed = document.changed(self.alloc, self.encoding, changes.as_slice())?;
-        let Some(document) = changed else {
+        let changed = open.changed(self.alloc, self.encoding, version_in(message), changes)?;
+        let Some(open) = changed else {
             return self.give_up("rvls: a malformed didChange ends the session", out);
         };
-        let at = document.edited();
-        let context = self.context(uri.as_str());
-        publish(&context, version, &document, at, out)?;
-        self.documents.push(Open {
-            uri,
-            version,
-            document,
-        })?;
+        self.keep(open, out)?;
         Ok(Next::Go)
     }
 
@@ -356,56 +410,80 @@ impl Server {
         self.documents.get(at)
     }
 
+    // The document that a request is about, and what it asks.
+    fn question_about<'a>(
+        &'a self,
+        method: &str,
+        message: &'a Value,
+    ) -> Option<(&'a Open, Question<'a>)> {
+        let open = self.asked_about(message)?;
+        let question = question_in(method, message)?;
+        Some((open, question))
+    }
+
+    // The answer to a question about a document.
+    fn answer_about(
+        &self,
+        open: &Open,
+        id: Option<&Value>,
+        question: Question<'_>,
+    ) -> Result<Message, Failure> {
+        let context = self.context(open.uri.as_str());
+        let mut m = begin_result(self.alloc, id)?;
+        put_answer(&mut m, &context, &open.document.store(), question)?;
+        Ok(m)
+    }
+
     // Answers a question about a document.
     fn look_up(&self, method: &str, message: &Value, out: &mut Vec<u8>) -> Result<(), AllocError> {
         let id = message.get("id");
-        let (Some(open), Some(question)) = (self.asked_about(message), question_in(method, message))
-        else {
+        let Some((open, question)) = self.question_about(method, message) else {
             return refuse(self.alloc, id, Refusal::WrongParameters, out);
         };
-        let context = self.context(open.uri.as_str());
-        let mut m = begin_result(self.alloc, id)?;
-        match put_answer(&mut m, &context, &open.document.store(), question) {
-            Ok(()) => m.end(out),
+        match self.answer_about(open, id, question) {
+            Ok(m) => m.end(out),
             Err(Failure::Refused(refusal)) => refuse(self.alloc, id, refusal, out),
             Err(Failure::Memory) => Err(AllocError),
         }
     }
 
+    // The document and the position that a request is about.
+    fn position_in(&self, message: &Value) -> Option<(&Open, Position)> {
+        let open = self.asked_about(message)?;
+        let position = position_of(message)?;
+        Some((open, position))
+    }
+
     // Says what a name and its line are.
     fn hover(&self, message: &Value, out: &mut Vec<u8>) -> Result<(), AllocError> {
         let id = message.get("id");
-        let (Some(open), Some(position)) = (self.asked_about(message), position_of(message)) else {
+        let Some((open, position)) = self.position_in(message) else {
             return refuse(self.alloc, id, Refusal::WrongParameters, out);
         };
         let context = self.context(open.uri.as_str());
-        let Some(text) = hover_text(&context, &open.document.store(), position)? else {
-            return answer_null(self.alloc, id, out);
-        };
-        answer_text(self.alloc, id, text.as_str(), out)
+        match hover_text(&context, &open.document.store(), position)? {
+            Some(text) => answer_text(self.alloc, id, text.as_str(), out),
+            None => answer_null(self.alloc, id, out),
+        }
+    }
+
+    // The document that a request is about, and the first and the last line, from 0 on.
+    fn lines_in(&self, message: &Value) -> Option<(&Open, u32, u32)> {
+        let open = self.asked_about(message)?;
+        let from = number_at(message, "/params/range/start/line")?;
+        let to = number_at(message, "/params/range/end/line")?;
+        Some((open, from, to))
     }
 
     // Gives the hints of some lines.
     fn hints(&self, message: &Value, out: &mut Vec<u8>) -> Result<(), AllocError> {
         let id = message.get("id");
-        let (Some(open), Some(from), Some(to)) = (
-            self.asked_about(message),
-            number_at(message, "/params/range/start/line"),
-            number_at(message, "/params/range/end/line"),
-        ) else {
+        let Some((open, from, to)) = self.lines_in(message) else {
             return refuse(self.alloc, id, Refusal::WrongParameters, out);
         };
+        let context = self.context(open.uri.as_str());
         let mut m = begin_result(self.alloc, id)?;
-        m.begin_array()?;
-        put_hints(
-            &mut m,
-            self.alloc,
-            self.encoding,
-            &open.document.store(),
-            from,
-            to,
-        )?;
-        m.end_array()?;
+        put_hints(&mut m, &context, &open.document.store(), from, to)?;
         m.end(out)
     }
 
@@ -433,30 +511,34 @@ impl Server {
         refuse(self.alloc, message.get("id"), Refusal::NoRequest, out)
     }
 
+    // Does what a message says, and says whether to go on.
+    fn answer_message(&mut self, message: &Value, out: &mut Vec<u8>) -> Result<Next, AllocError> {
+        let Some(method) = text_at(message, "/method") else {
+            self.without_method(message, out)?;
+            return Ok(Next::Go);
+        };
+        if message.get("id").is_some() {
+            self.asked(method, message, out)?;
+            return Ok(Next::Go);
+        }
+        self.notified(method, message, out)
+    }
+
     /// Does what a message says, appends what is answered, and says whether to go on.
     ///
     /// # Errors
     ///
     /// `AllocError` if there is no memory for it.
     pub fn answer(&mut self, body: &[u8], out: &mut Vec<u8>) -> Result<Next, AllocError> {
-        let message = match Value::from_slice(self.alloc, body) {
-            Ok(message) => message,
+        match Value::from_slice(self.alloc, body) {
+            Ok(message) => self.answer_message(&message, out),
             Err(error) => {
                 if error.is_memory() {
                     return Err(AllocError);
                 }
                 refuse(self.alloc, None, Refusal::NotJson, out)?;
-                return Ok(Next::Go);
+                Ok(Next::Go)
             }
-        };
-        let Some(method) = text_at(&message, "/method") else {
-            self.without_method(&message, out)?;
-            return Ok(Next::Go);
-        };
-        if message.get("id").is_some() {
-            self.asked(method, &message, out)?;
-            return Ok(Next::Go);
         }
-        self.notified(method, &message, out)
     }
 }

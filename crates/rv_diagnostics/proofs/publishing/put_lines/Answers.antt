@@ -1,8 +1,11 @@
-use Rattle.std.proofs.Common.{◌≡◌, ℕ, ◌+◌, ◌≤◌, ◌++◌, List, map, arith, ap, sym, ◌∙◌}
+use Rattle.std.proofs.Common.{◌≡◌, ℕ, ◌+◌, ◌≤◌, ◌++◌, List, map, Some, arith, ap, sym, ◌∙◌}
 use Rattle.json.specs.Token.{Token}
+use Rattle.rv_list.specs.Faults.{faults_of}
 use Rattle.rv_list.specs.PassedLines.{passed_line}
+use Rattle.rv_list.specs.Shown.{ShownLine}
+use Rattle.rv_doc.specs.Windows.{passed}
 use Rattle.rv_diagnostics.specs.Published.{line_diagnostics}
-use Rattle.rv_diagnostics.proofs.ShownRows.{left_more, shown_all, shown_none, written_more}
+use Rattle.rv_diagnostics.proofs.ShownRows.{diagnostic_count, found_count, left_more, line_shown, shown_all, shown_none, written_more}
 use Rattle.rv_diagnostics.proofs.WindowLaws.{passed_none}
 use Rattle.rv_diagnostics.proofs.publishing.put_lines.Goals as goal
 
@@ -23,10 +26,17 @@ loop-k-preserved g c =
     let shown = g.T.View.shown c.args.told.now in
     let context = c.args.context.now in
     let k = c.loop-k.k in
-    let rows : ℕ → List (List Token) = λ k. line_diagnostics context.encoding context.uri.now (g.T.Told.environments c.args.told.now) shown (map (λ s. s.now) c.args.symbols.now) (k + 1) (shown.line (k + 1)) in
+    let symbols = map (λ s. s.now) c.args.symbols.now in
+    let given = g.T.Told.environments c.args.told.now in
+    let line = shown.line (k + 1) in
+    let rows : ℕ → List (List Token) = λ k. line_diagnostics context.encoding context.uri.now given shown symbols (k + 1) (shown.line (k + 1)) in
+    let is = passed_line {shown = shown} c.line-line.ensures.value c.advance.ensures.text c.loop-k.invariant.text c.advance.ensures.passed c.loop-k.invariant.passed in
+    let faulty = c.as_slice.ensures.value ∙ c.find_faults.ensures.faults ∙ ap (λ (s : ShownLine). map (λ f. Some f) (faults_of shown (k + 1) s)) is in
+    let written = line_shown context.encoding context.uri.now given shown symbols (k + 1) line c.loop-k.window _ _ faulty c.pass-shown.ensures.shown in
+    let count = found_count shown (k + 1) line _ faulty ∙ sym (diagnostic_count context.encoding context.uri.now given shown symbols (k + 1) line) in
     record {
-      said = written_more rows _ _ k _ _ _ c.loop-k.invariant.said c.loop-k.invariant.left c.in_ok-put_line.ensures.said;
-      left = left_more rows _ _ _ k c.loop-k.invariant.left c.in_ok-put_line.ensures.passed;
+      said = written_more rows _ _ k _ _ _ c.loop-k.invariant.said c.loop-k.invariant.left (c.in_ok-put_line.ensures ∙ ap (λ t. c.loop-k.m ++ t) written);
+      left = left_more rows _ _ _ k c.loop-k.invariant.left (c.pass-shown.ensures.passed ∙ ap (passed c.loop-k.window) count);
       text = c.advance.ensures.text ∙ c.loop-k.invariant.text;
       passed = omega (arith, c.advance.ensures.passed, c.loop-k.invariant.passed);
     }

@@ -1,7 +1,7 @@
 use Rattle.std.proofs.Common.{◌≡◌, ◌+◌, ◌++◌, length, map}
 use Rattle.rv_list.specs.Joined.{joined}
 use Rattle.rv_diagnostics.specs.Published.{line_diagnostics, shown_in}
-use Rattle.rv_diagnostics.specs.Windows.{passed}
+use Rattle.rv_doc.specs.Windows.{passed}
 use Rattle.rv_diagnostics.proofs.publishing.put_lines.Given as goal
 
 -- the diagnostics of the lines so far are written, those of them that the window shows

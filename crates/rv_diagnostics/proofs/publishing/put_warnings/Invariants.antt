@@ -1,7 +1,7 @@
 use Rattle.std.proofs.Common.{◌≡◌, ◌+◌, ◌++◌, length}
 use Rattle.rv_list.specs.Joined.{joined}
 use Rattle.rv_diagnostics.specs.Published.{shown_in, warning_diagnostics}
-use Rattle.rv_diagnostics.specs.Windows.{passed}
+use Rattle.rv_doc.specs.Windows.{passed}
 use Rattle.rv_diagnostics.proofs.publishing.put_warnings.Given as goal
 
 -- the diagnostics of the warnings about the lines so far are written, those of them that the window shows

@@ -6,5 +6,5 @@ pub returns : goal.returns
 unfolding document_symbol
 returns c =
     let name = c.as_str.ensures.value ∙ c.in_ok-name.ensures.lossy in
-    rw (c.in_ok-end_object.ensures, c.in_ok-put_name_range-2.ensures, c.in_ok-key-2.ensures, c.in_ok-put_name_range.ensures, c.in_ok-key.ensures, c.in_ok-put_number.ensures, c.in_ok-put_string.ensures, c.in_ok-begin_object.ensures, name)
+    rw (c.in_ok-end_object.ensures, c.in_ok-put_name_range-2.ensures, c.in_ok-key.ensures, c.in_ok-put_name_range.ensures, c.in_ok-put_all.ensures, name)
     (simp append_assoc)
