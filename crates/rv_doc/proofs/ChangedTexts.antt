@@ -1,7 +1,5 @@
 -- The text after the changes of a message, one after another.
-use Rattle.std.proofs.Common.{◌≡◌, ℕ, ◌-◌, ◌≤◌, List, [], ◌∷◌, length, take, drop, map, Option, Some, None, refl, ap, ◌∙◌, arith}
-use Rattle.std.proofs.lemmas.List.{take_all}
-use Rattle.std.specs.Prelude.{get_or}
+use Rattle.std.proofs.Common.{◌≡◌, ℕ, List, ◌∷◌, map, Option, Some, None, refl, ap, ◌∙◌}
 use Rattle.std.specs.Option.{option_map}
 use Rattle.serde_json.specs.Data.{Data}
 use Rattle.rv_doc.specs.declared.encoding.Encoding.{Encoding}
@@ -14,11 +12,9 @@ later_changes e document change None = refl
 later_changes e document change (Some changes) = refl
 
 -- the first change is made, and then the others
-pub next_change : {A : Type 0} (view : A → Data) (e : Encoding) (document new : List ℕ) (values : List A) (d : A) (change : Change) → 1 ≤ length values → Some change ≡ change_of (view (get_or values 0 d)) → new ≡ text_after e document change → option_map (text_after_all e new) (changes_of (map view (take (length values - 1) (drop 1 values)))) ≡ option_map (text_after_all e document) (changes_of (map view values))
-next_change view e document new [] d change some is said = absurd (omega (arith, some))
-next_change view e document new (x ∷ xs) d change some is said =
-    let count : length (x ∷ xs) - 1 ≡ length xs = omega arith in
-    ap (λ l. option_map (text_after_all e new) (changes_of (map view l))) (ap (λ n. take n xs) count ∙ take_all (length xs) xs (omega arith))
-    ∙ ap (λ t. option_map (text_after_all e t) (changes_of (map view xs))) said
-    ∙ later_changes e document change (changes_of (map view xs))
-    ∙ ap (λ c. option_map (text_after_all e document) (both (λ change changes. change ∷ changes) c (changes_of (map view xs)))) is
+pub next_change : {A : Type 0} (view : A → Data) (e : Encoding) (document new : List ℕ) (values : List A) (first : A) (later : List A) (change : Change) → first ∷ later ≡ values → Some change ≡ change_of (view first) → new ≡ text_after e document change → option_map (text_after_all e new) (changes_of (map view later)) ≡ option_map (text_after_all e document) (changes_of (map view values))
+next_change view e document new values first later change whole is said =
+    ap (λ t. option_map (text_after_all e t) (changes_of (map view later))) said
+    ∙ later_changes e document change (changes_of (map view later))
+    ∙ ap (λ c. option_map (text_after_all e document) (both (λ change changes. change ∷ changes) c (changes_of (map view later)))) is
+    ∙ ap (λ l. option_map (text_after_all e document) (changes_of (map view l))) whole

@@ -8,10 +8,19 @@ use crate::payload::Payload;
 use rv_text::Fault;
 
 /// The code of a line: its bytes, and at most one fault of its body.
-#[derive(Drop)]
 pub struct Coded {
     pub payload: Payload,
     pub fault: Option<Fault>,
+}
+
+// What a derive would do, but proved here: a crate that drops a code would prove the derived drop of each type in it.
+impl Drop for Coded {
+    fn drop(self) {
+        let Coded {
+            payload: _,
+            fault: _,
+        } = self;
+    }
 }
 
 impl Coded {

@@ -1,7 +1,7 @@
 //! Groups of buckets of names.
 
 ghost use Rattle.std.specs.Prelude.{◌≡◌, ◌%◌, ◌^◌, IsTrue};
-ghost use Rattle.rv_program.specs.internal.NameSets.{no_groups, every_group, with_group, has_group, bits_of, groups_of, share_group};
+ghost use Rattle.rv_program.specs.internal.NameSets.{no_groups, every_group, with_group, groups_together, has_group, bits_of, groups_of, share_group};
 
 /// A set of groups of buckets, of which there are 64: a bit for each. It stands in two halves, since a line has one, and has no room for
 /// the alignment of a whole.
@@ -66,6 +66,18 @@ impl Groups {
         ensures { result ≡ with_group self bucket }
     {
         groups_of(self.bits() | bit_of(bucket))
+    }
+
+    /// Those of some lines together. Nothing in the loop depends on one of them, so that they are taken several at once.
+    pub fn together(mut all: &[Groups]) -> Groups
+        ensures { result ≡ groups_together all.entry.now }
+    {
+        let mut bits = 0;
+        while let [groups, rest @ ..] = all {
+            bits |= groups.bits();
+            all = rest;
+        }
+        groups_of(bits)
     }
 
     /// Whether the group of a bucket is one of them.

@@ -52,6 +52,7 @@ pub use due::due_lines;
 pub use edit::{LineEdit, ReadEdit};
 pub use edit_error::EditError;
 pub use first_definition::place_on;
+pub use groups::Groups;
 pub use item::Item;
 pub use laws::{constants_are_values, only_invalidated_lines_change};
 pub use limits::MAX_LINES;

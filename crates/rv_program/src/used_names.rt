@@ -1,7 +1,7 @@
 //! The names that a line uses, in brief.
 
 ghost use Rattle.std.specs.Prelude.{◌≡◌, ◌<◌, ◌==◌, false, IsTrue};
-ghost use Rattle.rv_program.specs.internal.NameSets.{no_names, with_name, is_bucket, has_bucket, IsOutside, IsMoved, may_have};
+ghost use Rattle.rv_program.specs.internal.NameSets.{no_names, with_name, with_group_of, groups_used, is_bucket, has_bucket, IsOutside, IsMoved, may_have};
 
 use crate::groups::Groups;
 use crate::name_set::{NameSet, bucket_of};
@@ -34,6 +34,16 @@ fn has_names(set: &NameSet, bucket: Option<u16>) -> bool
     }
 }
 
+// These groups and that of a bucket, if it is one.
+fn with_group_of(groups: Groups, bucket: Option<u16>) -> Groups
+    ensures { result ≡ with_group_of groups bucket }
+{
+    match bucket {
+        Some(bucket) => groups.with(bucket),
+        None => groups,
+    }
+}
+
 impl UsedNames {
     /// No names.
     pub fn none() -> UsedNames
@@ -54,6 +64,18 @@ impl UsedNames {
                 UsedNames::Many(Groups::none().with(first).with(second).with(bucket))
             }
             UsedNames::Many(groups) => UsedNames::Many(groups.with(bucket)),
+        }
+    }
+
+    /// The groups of their buckets.
+    pub fn groups(self) -> Groups
+        ensures { result ≡ groups_used self }
+    {
+        match self {
+            UsedNames::Few(first, second) => {
+                with_group_of(with_group_of(Groups::none(), first), second)
+            }
+            UsedNames::Many(groups) => groups,
         }
     }
 

@@ -1,23 +1,28 @@
 -- Lines with which no line of a text has to do: what they add, and who uses it.
-use Rattle.std.proofs.Common.{◌≡◌, ℕ, suc, ◌+◌, ◌<◌, ◌≤◌, ◌⊎◌, inl, inr, Bool, true, false, not, ◌&&◌, ◌||◌, List, [], ◌∷◌, ◌++◌, length, bytes_eq, None, if◌then◌else◌, append-nil, true≢false, arith, ap, sym, subst, ◌∙◌, refl}
+use Rattle.std.proofs.Common.{◌≡◌, ℕ, zero, suc, ◌+◌, ◌-◌, ◌<◌, ◌≤◌, ◌⊎◌, inl, inr, Bool, true, false, not, ◌&&◌, ◌||◌, List, [], ◌∷◌, ◌++◌, length, map, take, drop, get_or, bytes_eq, None, if◌then◌else◌, append-nil, true≢false, arith, ap, sym, subst, ◌∙◌, refl}
 use Rattle.std.specs.List.{list_any}
 use Rattle.std.proofs.Math.Path.{fun_ext}
 use Rattle.std.proofs.lemmas.Bool.{cases_lt, lt-ltb, le-ltb}
+use Rattle.std.proofs.lemmas.List.{length-drop, length-map, length-take-le, get_or-take, get_or-drop, get_or-map}
 use Rattle.std.proofs.lemmas.Slice.Eq.{bytes_eq-Decides}
 use Rattle.rv_stmt.specs.declared.statement.Stmt.{Stmt}
 use Rattle.rv_stmt.specs.LabelNames.{Label}
 use Rattle.rv_stmt.specs.Statement.{statement_of}
 use Rattle.rv_list.specs.declared.view.DefinitionPlace.{DefinitionPlace}
 use Rattle.rv_list.specs.declared.view.DefinitionPlace.TheVariants.{Nowhere, Label as ByLabel, Equ}
+use Rattle.rv_program.specs.declared.groups.Groups.{Groups}
 use Rattle.rv_program.specs.declared.name_set.Mark.{Mark}
 use Rattle.rv_program.specs.declared.name_set.Mark.TheVariants.{Unknown, Same, Moved, Changed}
+use Rattle.rv_store.specs.declared.apart.LineBehind.{LineBehind}
+use Rattle.rv_store.specs.internal.Apart.{added_by}
+use Rattle.rv_store.specs.internal.Column.{groups_on}
 use Rattle.rv_store.specs.internal.Appended.{adds, is_earlier, TellEarlier, adds_by_rows, IsApart}
 use Rattle.rv_program.specs.internal.Defining.{IsOn}
 use Rattle.rv_program.specs.Definitions.{defines_symbol, place_among_labels, place_in_body, or_place, place_in_statement, definition_of, is_defined}
 use Rattle.rv_program.specs.internal.Locals.{has_local_labels}
-use Rattle.rv_program.specs.internal.NameSets.{IsBelow, differs}
+use Rattle.rv_program.specs.internal.NameSets.{Marks, Has, IsBelow, bucket_of, brief_of_names, differs, groups_used, groups_together, no_groups, has_bucket, has_group, may_have}
 use Rattle.rv_program.specs.Pairs.{pcrel_high_of}
-use Rattle.rv_program.specs.Program.{Program, program_of, body_at, lines_that}
+use Rattle.rv_program.specs.Program.{Program, program_of, no_statement, body_at, lines_that}
 use Rattle.rv_program.specs.internal.Rows.{in_row, AreDefinitions}
 use Rattle.rv_program.specs.Uses.{names_used}
 use Rattle.rv_store.specs.internal.Still.{is_settled, uses_any}
@@ -26,6 +31,7 @@ use Rattle.rv_store.proofs.StillLaws.{lines_that-still}
 use Rattle.rv_program.specs.lemmas.DefinitionLaws.{IsWithin, statement-within, definition-within}
 use Rattle.rv_program.specs.lemmas.DefinitionParts.{within-on}
 use Rattle.rv_program.specs.lemmas.LocalLines.{none-among}
+use Rattle.rv_program.specs.lemmas.NameSetLaws.{none-passes, no-group-together, unused-group}
 use Rattle.rv_program.specs.lemmas.Programs.{length-program}
 
 -- Marks
@@ -45,6 +51,56 @@ below-differs Changed Moved below h = absurd below
 
 pub changed-differs : (mark : Mark) → IsBelow Changed mark → differs mark ≡ true
 changed-differs mark below = below-differs Changed mark below refl
+
+-- a line whose groups no added name is in uses none
+only_in : (behind : LineBehind) (set : Marks) → ((name : List ℕ) → added_by behind name ≡ true → Has set name) → (name : List ℕ) → (has_bucket set (bucket_of name) ≡ true) ⊎ (added_by behind name ≡ false)
+only_in behind set has name = at (added_by behind name) refl
+  where
+    at : (b : Bool) → added_by behind name ≡ b → (has_bucket set (bucket_of name) ≡ true) ⊎ (added_by behind name ≡ false)
+    at true e = inl (has name e)
+    at false e = inr e
+
+pub unused-by_buckets : (behind : LineBehind) (set : Marks) (names : List (List ℕ)) → ((name : List ℕ) → added_by behind name ≡ true → Has set name) → ((bucket : ℕ) → has_bucket set bucket ≡ true → may_have (brief_of_names names) bucket ≡ false) → list_any (added_by behind) names ≡ false
+unused-by_buckets behind set names has apart = none-passes (has_bucket set) (added_by behind) (only_in behind set has) names apart
+
+pub unused-by_groups : (behind : LineBehind) (set : Marks) (names : List (List ℕ)) → ((name : List ℕ) → added_by behind name ≡ true → Has set name) → ((bucket : ℕ) → has_bucket set bucket ≡ true → has_group (groups_used (brief_of_names names)) bucket ≡ false) → list_any (added_by behind) names ≡ false
+unused-by_groups behind set names has apart =
+    unused-by_buckets behind set names has (λ bucket is. unused-group (brief_of_names names) bucket (apart bucket is))
+
+-- nor do those of a block where none is in the groups of all of them
+pub block-unused : (lines : List (List ℕ)) (behind : LineBehind) (set : Marks) (begin end : ℕ) → end ≤ length lines → ((name : List ℕ) → added_by behind name ≡ true → Has set name) → ((bucket : ℕ) → has_bucket set bucket ≡ true → has_group (groups_together (take (end - begin) (drop begin (map groups_on lines)))) bucket ≡ false) → (i : ℕ) → begin < i → i ≤ end → uses_any (added_by behind) (program_of lines) i ≡ false
+block-unused lines behind set begin end last has none i past within =
+    ap (λ s. list_any (added_by behind) (names_used s.body)) (get_or-map statement_of lines (i - 1) [] no_statement short)
+    ∙ unused-by_groups behind set (names_used (statement_of line).body) has (λ bucket is. ap (λ g. has_group g bucket) (sym there) ∙ no-group-together block place bucket no_groups inside (none bucket is))
+  where
+    groups : List Groups
+    groups = map groups_on lines
+
+    block : List Groups
+    block = take (end - begin) (drop begin groups)
+
+    line : List ℕ
+    line = get_or lines (i - 1) []
+
+    place : ℕ
+    place = i - 1 - begin
+
+    short : i - 1 < length lines
+    short = omega (arith, past, within, last)
+
+    inside : place < length block
+    inside =
+        let rest : length (drop begin groups) ≡ length lines - begin = length-drop begin groups ∙ ap (λ n. n - begin) (length-map lines groups_on) in
+        let count : length block ≡ end - begin = length-take-le (end - begin) (drop begin groups) (omega (arith, rest, last)) in
+        omega (arith, count, past, within)
+
+    there : get_or block place no_groups ≡ groups_on line
+    there =
+        let same : begin + place ≡ i - 1 = omega (arith, past) in
+        get_or-take (end - begin) (drop begin groups) place no_groups (omega (arith, past, within))
+        ∙ get_or-drop begin groups place no_groups
+        ∙ ap (λ k. get_or groups k no_groups) same
+        ∙ get_or-map groups_on lines (i - 1) [] no_groups short
 
 -- Names that a statement defines
 
@@ -114,13 +170,31 @@ row-unused f n row row' are fails is =
     let next : suc n ≡ n + 1 = omega arith in
     is ∙ are ∙ sym (append-nil (lines_that f n)) ∙ ap (λ b. lines_that f n ++ (if b then suc n ∷ [] else [])) (sym (ap f next ∙ fails)) ∙ ap (lines_that f) next
 
+pub none-through : (f : ℕ → Bool) (n m : ℕ) → n ≤ m → ((i : ℕ) → n < i → i ≤ m → f i ≡ false) → lines_that f m ≡ lines_that f n
+none-through f n zero up none = ap (lines_that f) (let e : 0 ≡ n = omega (arith, up) in e)
+none-through f n (suc m) up none = at (cases_lt n (suc m)) (none-through f n m)
+  where
+    at : (n < suc m) ⊎ (suc m ≤ n) → (n ≤ m → ((i : ℕ) → n < i → i ≤ m → f i ≡ false) → lines_that f m ≡ lines_that f n) → lines_that f (suc m) ≡ lines_that f n
+    at (inl more) rest =
+        ap (λ b. lines_that f m ++ (if b then suc m ∷ [] else [])) (none (suc m) more (omega arith))
+        ∙ append-nil (lines_that f m)
+        ∙ rest (omega (arith, more)) (λ i past last. none i past (omega (arith, last)))
+    at (inr all) rest = ap (lines_that f) (let e : suc m ≡ n = omega (arith, all, up) in e)
+
 -- and what holds of each of them
-pub with-next : (f settled : ℕ → Bool) (n : ℕ) → ((i : ℕ) → 1 ≤ i → i ≤ n → settled i ≡ true → f i ≡ false) → (settled (n + 1) ≡ true → f (n + 1) ≡ false) → (i : ℕ) → 1 ≤ i → i ≤ n + 1 → settled i ≡ true → f i ≡ false
-with-next f settled n earlier here i first last h = at (cases_lt n i)
+pub with-next : (f settled : ℕ → Bool) (begin n : ℕ) → ((i : ℕ) → begin < i → i ≤ n → settled i ≡ true → f i ≡ false) → (settled (n + 1) ≡ true → f (n + 1) ≡ false) → (i : ℕ) → begin < i → i ≤ n + 1 → settled i ≡ true → f i ≡ false
+with-next f settled begin n earlier here i first last h = at (cases_lt n i)
   where
     at : (n < i) ⊎ (i ≤ n) → f i ≡ false
     at (inr before) = earlier i first before h
     at (inl past) = let is : i ≡ n + 1 = omega (arith, past, last) in ap f is ∙ here (sym (ap settled is) ∙ h)
+
+pub with-block : (f settled : ℕ → Bool) (n m : ℕ) → ((i : ℕ) → 1 ≤ i → i ≤ n → settled i ≡ true → f i ≡ false) → ((i : ℕ) → n < i → i ≤ m → settled i ≡ true → f i ≡ false) → (i : ℕ) → 1 ≤ i → i ≤ m → settled i ≡ true → f i ≡ false
+with-block f settled n m earlier block i first last h = at (cases_lt n i)
+  where
+    at : (n < i) ⊎ (i ≤ n) → f i ≡ false
+    at (inr before) = earlier i first before h
+    at (inl past) = block i past last h
 
 -- What a line adds, by the rows of the text
 

@@ -1,5 +1,5 @@
 -- Edits of a column of lines, and the edits that take them back.
-use Rattle.std.proofs.Common.{◌≡◌, ℕ, zero, suc, ◌<◌, ◌≤◌, List, [], ◌∷◌, length, set, get_or, None, arith, ap, refl}
+use Rattle.std.proofs.Common.{◌≡◌, ℕ, zero, suc, ◌<◌, ◌≤◌, List, [], ◌∷◌, length, map, set, get_or, None, arith, ap, refl}
 use Rattle.std.specs.Prelude.{insert, remove}
 use Rattle.rv_store.specs.internal.Column.{HasPlace}
 use Rattle.rv_program.specs.Text.{Edit, Insert, Delete, Replace, refusal_of}
@@ -22,6 +22,19 @@ pub set-back : {A : Type 0} (xs : List A) (i : ℕ) (a b : A) → b ≡ get_or x
 set-back [] i a b h = refl
 set-back (x ∷ xs) zero a b h = ap (λ y. y ∷ xs) h
 set-back (x ∷ xs) (suc i) a b h = ap (λ ys. x ∷ ys) (set-back xs i a b h)
+
+-- What stands beside each line moves with it
+
+pub map-insert : {A B : Type 0} (f : A → B) (xs : List A) (i : ℕ) (x : A) → map f (insert xs i x) ≡ insert (map f xs) i (f x)
+map-insert f xs zero x = refl
+map-insert f [] (suc i) x = refl
+map-insert f (y ∷ ys) (suc i) x = ap (λ zs. f y ∷ zs) (map-insert f ys i x)
+
+pub map-remove : {A B : Type 0} (f : A → B) (xs : List A) (i : ℕ) → map f (remove xs i) ≡ remove (map f xs) i
+map-remove f [] zero = refl
+map-remove f [] (suc i) = refl
+map-remove f (x ∷ xs) zero = refl
+map-remove f (x ∷ xs) (suc i) = ap (λ ys. f x ∷ ys) (map-remove f xs i)
 
 -- an edit that is not refused has its place
 pub has_place : (lines : List (List ℕ)) (edit : Edit) → refusal_of lines edit ≡ None → HasPlace lines edit

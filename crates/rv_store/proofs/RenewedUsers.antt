@@ -1,5 +1,5 @@
 -- Lines whose items are made anew, one after another.
-use Rattle.std.proofs.Common.{◌≡◌, ℕ, zero, suc, ◌+◌, ◌-◌, ◌*◌, ◌<◌, ◌≤◌, ◌⊎◌, inl, inr, nat_le, Bool, true, false, not, List, [], ◌∷◌, ◌++◌, length, map, set, get_or, take, drop, slice_get, Option, Some, None, if◌then◌else◌, append-nil, true≢false, arith, ap, sym, subst, ◌∙◌, refl}
+use Rattle.std.proofs.Common.{◌≡◌, ℕ, zero, suc, ◌+◌, ◌-◌, ◌*◌, ◌<◌, ◌≤◌, ◌⊎◌, inl, inr, Bool, true, false, List, [], ◌∷◌, ◌++◌, length, map, set, get_or, take, drop, slice_get, Option, Some, None, if◌then◌else◌, append-nil, true≢false, arith, ap, sym, subst, ◌∙◌, refl}
 use Rattle.std.specs.List.{sum_by}
 use Rattle.std.proofs.lemmas.Bool.{cases_lt, cases_Bool, le-leb, lt-leb, not_from_true, not_from_false}
 use Rattle.std.proofs.lemmas.List.{length-append, length-map, get_or-map, map-set, set-get_or, take_all}
@@ -11,7 +11,7 @@ use Rattle.rv_program.specs.declared.item.Item.{Item}
 use Rattle.rv_program.specs.declared.line_values.LineValues.{LineValues}
 use Rattle.rv_program.specs.Codes.{values_at, code_at}
 use Rattle.rv_program.specs.Layout.{shape_at}
-use Rattle.rv_program.specs.Program.{Program, program_of, body_at, for_lines, lines_that, lines_ahead}
+use Rattle.rv_program.specs.Program.{program_of, body_at, for_lines, lines_that, lines_ahead}
 use Rattle.rv_program.specs.Sameness.{same_values, same_code}
 use Rattle.rv_program.specs.internal.LinesAhead.{all_ahead, none_ahead, IsNext, next_ahead}
 use Rattle.rv_program.specs.internal.Items.{AreItems, IsItemPut}

@@ -14,7 +14,8 @@ use Rattle.rv_program.specs.Program.{Program, program_of}
 use Rattle.rv_program.specs.internal.Rows.{AreDefinitions, AreConstants, AreEquValues, AreShapes, ArePlaces, AreLocals, AreHighs, ArePairedHighs}
 use Rattle.rv_program.specs.internal.Still.{set_or_push}
 use Rattle.rv_store.specs.internal.Still.{IsStill}
-use Rattle.rv_store.specs.internal.StillLines.{IsStillLine, AreLinesPut, MayBePut, ArePartlyPut, IsAt, taken_back, MayWait}
+use Rattle.rv_store.specs.internal.Column.{taken_back}
+use Rattle.rv_store.specs.internal.StillLines.{IsStillLine, AreLinesPut, MayBePut, ArePartlyPut, IsAt, MayWait}
 use Rattle.rv_store.specs.internal.Surveys.{IsSurvey}
 use Rattle.rv_store.proofs.Columns.{set-back}
 use Rattle.rv_program.specs.lemmas.Programs.{length-for_lines, length-program}

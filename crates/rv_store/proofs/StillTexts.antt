@@ -1,9 +1,10 @@
 -- What is kept of a text where a line is new with which the others have to do by its names alone, and what such an edit may take.
-use Rattle.std.proofs.Common.{◌≡◌, ℕ, zero, suc, ◌+◌, ◌-◌, ◌==◌, ◌<◌, ◌≤◌, ◌⊎◌, inl, inr, Bool, true, false, not, ◌||◌, true≢false, List, [], ◌∷◌, ◌++◌, length, map, set, get_or, if◌then◌else◌, arith, ap, sym, subst, ◌∙◌, refl}
+use Rattle.std.proofs.Common.{◌≡◌, ℕ, zero, suc, ◌+◌, ◌-◌, ◌==◌, ◌<◌, ◌≤◌, ◌⊎◌, inl, inr, Bool, true, false, not, ◌||◌, true≢false, List, [], ◌∷◌, ◌++◌, length, map, set, insert, get_or, if◌then◌else◌, arith, ap, sym, subst, ◌∙◌, refl}
 use Rattle.std.specs.List.{list_any, sum_by}
 use Rattle.std.proofs.Math.Path.{fun_ext}
 use Rattle.std.proofs.lemmas.Bool.{cases_lt, not_from_true, le-leb, lt-leb, eq-eqb, ne_eqb, or_left, or_right}
 use Rattle.std.proofs.lemmas.List.{length-append}
+use Rattle.std.proofs.lemmas.List.Edits.{insert_end}
 use Rattle.std.proofs.lemmas.List.Sums.{sum_by-append}
 use Rattle.rv_stmt.specs.Statement.{statement_of}
 use Rattle.rv_program.specs.declared.item.Item.{Item}
@@ -52,6 +53,9 @@ end-set_or_push [] zero a e = refl
 end-set_or_push [] (suc i) a e = refl
 end-set_or_push (x ∷ xs) zero a e = absurd (omega (arith, e))
 end-set_or_push (x ∷ xs) (suc i) a e = ap (λ zs. x ∷ zs) (end-set_or_push xs i a (omega (arith, e)))
+
+pub inserted : {A : Type 0} (xs : List A) (i : ℕ) (a : A) → i ≡ length xs → insert xs i a ≡ set_or_push xs i a
+inserted xs i a end = ap (λ j. insert xs j a) end ∙ insert_end xs a ∙ end-set_or_push xs i a end
 
 pub map-set_or_push : {A B : Type 0} (f : A → B) (xs : List A) (i : ℕ) (a : A) → map f (set_or_push xs i a) ≡ set_or_push (map f xs) i (f a)
 map-set_or_push f [] i a = refl

@@ -1,12 +1,13 @@
 //! Lines at the end of a text with which other lines have to do by their names alone.
 
-ghost use Rattle.std.specs.Prelude.{◌≡◌, ◌≤◌, ◌+◌, ℕ, List, [], true, false, length, IfSome, IfOk};
+ghost use Rattle.std.specs.Prelude.{◌≡◌, ◌≤◌, ◌<◌, ◌+◌, ℕ, List, [], true, false, length, map, IfSome, IfOk};
 ghost use Rattle.std.specs.List.{list_any};
 ghost use Rattle.rv_stmt.specs.LentLabels.{name_lent};
 ghost use Rattle.rv_stmt.specs.Statement.{statement_of};
 ghost use Rattle.rv_program.specs.declared.limits.TheConstants.{MAX_LINES};
 ghost use Rattle.rv_store.specs.internal.Appended.{adds, is_earlier, TellEarlier, IsApart};
 ghost use Rattle.rv_store.specs.internal.Apart.{added_by, AreMarked};
+ghost use Rattle.rv_store.specs.internal.Column.{groups_on};
 ghost use Rattle.rv_program.specs.Definitions.{defines_symbol, place_in_body, is_defined};
 ghost use Rattle.rv_program.specs.internal.NameSets.{Has};
 ghost use Rattle.rv_program.specs.Program.{program_of, body_at, lines_that};
@@ -15,11 +16,14 @@ ghost use Rattle.rv_program.specs.Uses.{names_used};
 
 use rv_list::DefinitionPlace;
 use rv_program::{
-    Line, MAX_LINES, Mark, NameSet, NameTable, NameTest, any_name, bucket_of, entry_of, is_defined,
-    may_define, place_on,
+    Groups, Line, MAX_LINES, Mark, NameSet, NameTable, NameTest, any_name, bucket_of, entry_of,
+    is_defined, may_define, place_on,
 };
 use rv_stmt::{Body, LabelName, LabelSlice};
 use std::alloc::{AllocError, Global};
+
+// How many lines a search takes together.
+const BLOCK: usize = 32;
 
 // Whether a definition is on a line before this one.
 fn is_earlier(line: u32, place: DefinitionPlace) -> bool
@@ -101,28 +105,42 @@ impl LineBehind<'_> {
         Ok(added)
     }
 
-    // Whether a line uses a name that it adds. Lines that use none of the set are gone past without a look at their statements.
-    fn is_used_on(&self, line: &Line, added: &NameSet) -> bool
-        requires { (name : List ℕ) → added_by self.now name ≡ true → Has added.now name }
+    // Whether a line uses a name that it adds. One of which the groups, or else the buckets, say that it uses none is gone past.
+    #[inline]
+    fn is_used_on(&self, line: &Line, groups: Groups, added: &NameSet) -> bool
+        requires added { (name : List ℕ) → added_by self.now name ≡ true → Has added.now name }
+        requires groups { groups ≡ groups_on line.now }
         ensures { result ≡ list_any (added_by self.now) (names_used (statement_of line.now).body) }
     {
-        let brief = line.brief();
-        if !brief.symbols {
+        if !added.meets(groups) {
             return false;
         }
-        brief.names.meets(added) && any_name(&line.stmt().body, self)
+        line.brief().names.meets(added) && any_name(&line.stmt().body, self)
     }
 
-    // The lines that do, rising, or `None` if other lines take what one of them gives, or there is no memory for them.
-    fn users(&self, alloc: Global, lines: &[Line], added: &NameSet) -> Option<Vec<u32>>
+    // Adds those of the lines behind the first `begin`, up to line `end`, that do, to those before them. `None` if other lines take what one
+    // of them gives, or there is no memory for them.
+    fn add_users(
+        &self,
+        lines: &[Line],
+        groups: &[Groups],
+        added: &NameSet,
+        begin: usize,
+        end: usize,
+        users: &mut Vec<u32>,
+    ) -> Option<()>
         requires few { length lines.now ≤ MAX_LINES }
+        requires groups { groups.now ≡ map groups_on lines.now }
         requires added { (name : List ℕ) → added_by self.now name ≡ true → Has added.now name }
-        ensures users { IfSome result (λ row. row.items ≡ lines_that (uses_any (added_by self.now) (program_of lines.now)) (length lines.now)) }
-        ensures unsettled { IfSome result (λ _. (i : ℕ) → 1 ≤ i → i ≤ length lines.now → is_settled (body_at (program_of lines.now) i) ≡ true → uses_any (added_by self.now) (program_of lines.now) i ≡ false) }
+        requires first { begin ≤ end }
+        requires last { end ≤ length lines.now }
+        requires users { users.old.items ≡ lines_that (uses_any (added_by self.now) (program_of lines.now)) begin }
+        ensures users { IfSome result (λ _. users.new.items ≡ lines_that (uses_any (added_by self.now) (program_of lines.now)) end) }
+        ensures unsettled { IfSome result (λ _. (i : ℕ) → begin < i → i ≤ end → is_settled (body_at (program_of lines.now) i) ≡ true → uses_any (added_by self.now) (program_of lines.now) i ≡ false) }
     {
-        let mut users = Vec::new(alloc);
-        for (i, line) in lines.iter().enumerate() {
-            if self.is_used_on(line, added) {
+        for i in begin..end {
+            let line = &lines[i];
+            if self.is_used_on(line, groups[i], added) {
                 if is_settled(line) {
                     return None;
                 }
@@ -130,6 +148,33 @@ impl LineBehind<'_> {
                     return None;
                 };
             }
+        }
+        Some(())
+    }
+
+    // The lines that do, rising, or `None` if other lines take what one of them gives, or there is no memory for them. Blocks of lines of
+    // which the groups of all together say that none does are gone past.
+    fn users(
+        &self,
+        alloc: Global,
+        lines: &[Line],
+        groups: &[Groups],
+        added: &NameSet,
+    ) -> Option<Vec<u32>>
+        requires few { length lines.now ≤ MAX_LINES }
+        requires groups { groups.now ≡ map groups_on lines.now }
+        requires added { (name : List ℕ) → added_by self.now name ≡ true → Has added.now name }
+        ensures users { IfSome result (λ row. row.items ≡ lines_that (uses_any (added_by self.now) (program_of lines.now)) (length lines.now)) }
+        ensures unsettled { IfSome result (λ _. (i : ℕ) → 1 ≤ i → i ≤ length lines.now → is_settled (body_at (program_of lines.now) i) ≡ true → uses_any (added_by self.now) (program_of lines.now) i ≡ false) }
+    {
+        let mut users = Vec::new(alloc);
+        let mut begin = 0;
+        'lines: while begin < lines.len() {
+            let end = lines.len().min(begin + BLOCK);
+            if added.meets(Groups::together(&groups[begin..end])) {
+                self.add_users(lines, groups, added, begin, end, &mut users)?;
+            }
+            begin = end;
         }
         Some(users)
     }
@@ -157,17 +202,19 @@ impl Added {
     }
 }
 
-/// What a line behind a text adds to it; `definitions` says where names are defined, with that line or without it. `None` if another line
-/// may have to do with it otherwise than by a name: an `.equ` or a high half of the text uses one that it adds, or the line has a local
-/// label, or is a high half, or there is no memory to find out.
+/// What a line behind a text adds to it. `groups` are those of the names that each line uses, and `definitions` says where names are defined,
+/// with that line or without it. `None` if another line may have to do with it otherwise than by a name: an `.equ` or a high half of the text
+/// uses one that it adds, or the line has a local label, or is a high half, or there is no memory to find out.
 pub fn adds_apart(
     alloc: Global,
     lines: &[Line],
+    groups: &[Groups],
     names: &NameTable,
     definitions: &[DefinitionPlace],
     line: &Line,
 ) -> Option<Added>
     requires definitions { TellEarlier lines.now names.now definitions.now }
+    requires groups { groups.now ≡ map groups_on lines.now }
     requires few { length lines.now ≤ MAX_LINES }
     ensures apart { IfSome result (λ _. IsApart (program_of lines.now) (statement_of line.now)) }
     ensures nothing { IfSome result (λ added. added.any ≡ false → (name : List ℕ) → adds (program_of lines.now) (statement_of line.now) name ≡ false) }
@@ -192,6 +239,6 @@ pub fn adds_apart(
     if added.is_empty() {
         return Some(Added::nothing(alloc));
     }
-    let users = behind.users(alloc, lines, &added)?;
+    let users = behind.users(alloc, lines, groups, &added)?;
     Some(Added { any: true, users })
 }

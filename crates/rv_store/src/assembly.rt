@@ -65,7 +65,7 @@ fn assembled_by_lines<C: Count>(
         old,
         edit,
         &after,
-        &survey.lines,
+        survey.lines.as_slice(),
         items,
         &mut changed,
         counter,

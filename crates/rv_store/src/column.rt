@@ -1,43 +1,177 @@
-//! Edits of a column of lines, in place.
+//! The lines of a text in a column, which edits change in place.
 
-ghost use Rattle.std.specs.Prelude.{◌≡◌, IfOk, OnOk, OnErr, IsOk, vec_len, vec_capacity};
-ghost use Rattle.rv_store.specs.internal.Column.{HasPlace, HasRoom};
+ghost use Rattle.std.specs.Prelude.{◌≡◌, ◌≤◌, ◌<◌, [], length, map, get_or, insert, remove, take, set, IfOk, OnOk, OnErr, IsOk};
+ghost use Rattle.rv_store.specs.internal.Column.{groups_on, HasPlace, HasRoom, taken_back};
 ghost use Rattle.rv_program.specs.Edits.{edit_of_read};
+ghost use Rattle.rv_program.specs.internal.Still.{set_or_push};
 ghost use Rattle.rv_program.specs.Text.{lines_after};
 
-use rv_program::{Line, ReadEdit};
-use std::alloc::AllocError;
+use rv_program::{Groups, Line, ReadEdit};
+use std::alloc::{AllocError, Global};
+use std::marker::Model;
 use std::mem;
 
-/// Makes an edit in a column of lines, and answers the edit that takes it back. Only the lines behind its place are moved, and
-/// only a line that is put in may want memory. Where there is none for that, the lines stay.
-pub fn edit_lines(lines: &mut Vec<Line>, edit: ReadEdit) -> Result<ReadEdit, AllocError>
-    requires place { HasPlace lines.old.items (edit_of_read edit) }
-    ensures lines { OnOk result (lines.new.items ≡ lines_after lines.old.items (edit_of_read edit)) }
-    ensures stay { OnErr result (lines.new.items ≡ lines.old.items) }
-    ensures succeeds { HasRoom (vec_len lines.old) (vec_capacity lines.old) (edit_of_read edit) → IsOk result }
-    ensures back { IfOk result (λ undo. lines_after lines.new.items (edit_of_read undo) ≡ lines.old.items) }
-    ensures back_place { IfOk result (λ undo. HasPlace lines.new.items (edit_of_read undo)) }
-    ensures back_room { IfOk result (λ undo. HasRoom (vec_len lines.new) (vec_capacity lines.new) (edit_of_read undo)) }
-{
-    match edit {
-        ReadEdit::Insert(k, line) => {
-            lines.insert(k as usize - 1, line)?;
-            Ok(ReadEdit::Delete(k))
-        }
-        ReadEdit::Delete(k) => Ok(ReadEdit::Insert(k, lines.remove(k as usize - 1))),
-        ReadEdit::Replace(k, line) => {
-            let former = mem::replace(&mut lines[k as usize - 1], line);
-            Ok(ReadEdit::Replace(k, former))
-        }
-    }
+/// The lines of a text. Beside each stand the groups of the names that it uses: a search for the lines that use a name goes past most of the
+/// others without a look at them. Contracts see the lines, and for how many there is room.
+#[derive(Drop)]
+pub struct Column {
+    lines: Vec<Line>,
+    groups: Vec<Groups>,
 }
 
-/// Takes back an edit of a column of lines, by the edit that does so. A line that is put back has the room that it had.
-pub fn take_back(lines: &mut Vec<Line>, undo: ReadEdit)
-    requires place { HasPlace lines.old.items (edit_of_read undo) }
-    requires room { HasRoom (vec_len lines.old) (vec_capacity lines.old) (edit_of_read undo) }
-    ensures { lines.new.items ≡ lines_after lines.old.items (edit_of_read undo) }
+impl Model for Column {
+    ghost use Rattle.std.specs.Prelude.{◌≡◌, map, vec_capacity};
+    ghost use Rattle.rv_store.specs.internal.Column.{Listed, groups_on};
+
+    ghost Value = { Listed };
+
+    ghost view = { λ c. record { items = c.lines.items; room = vec_capacity c.lines; group_room = vec_capacity c.groups } };
+
+    ghost invariant = { λ c. c.groups.items ≡ map groups_on c.lines.items };
+}
+
+// The groups of the names that a line uses.
+fn groups_on(line: &Line) -> Groups
+    ensures { result ≡ groups_on line.now }
 {
-    let _ = edit_lines(lines, undo);
+    line.brief().names.groups()
+}
+
+impl Column {
+    /// No lines, which take no memory.
+    pub fn new(alloc: Global) -> Self
+        ensures { result.items ≡ [] }
+    {
+        Column {
+            lines: Vec::new(alloc),
+            groups: Vec::new(alloc),
+        }
+    }
+
+    /// How many lines there are.
+    pub fn len(&self) -> usize
+        ensures { result ≡ length self.now.items }
+    {
+        self.lines.len()
+    }
+
+    /// The lines.
+    pub fn as_slice(&self) -> &[Line]
+        ensures { result.now ≡ self.now.items }
+    {
+        self.lines.as_slice()
+    }
+
+    /// The groups of the names that each of them uses.
+    pub fn groups(&self) -> &[Groups]
+        ensures { result.now ≡ map groups_on self.now.items }
+    {
+        self.groups.as_slice()
+    }
+
+    // Puts a line in at a place. Where there is no memory for that, the lines stay.
+    fn insert(&mut self, place: usize, line: Line) -> Result<(), AllocError>
+        requires { place ≤ length self.old.items }
+        ensures ok { OnOk result (self.new.items ≡ insert self.old.items place line) }
+        ensures err { OnErr result (self.new.items ≡ self.old.items) }
+        ensures succeeds { length self.old.items < self.old.room → length self.old.items < self.old.group_room → IsOk result }
+    {
+        self.groups.insert(place, groups_on(&line))?;
+        match self.lines.insert(place, line) {
+            Ok(()) => Ok(()),
+            Err(e) => {
+                self.groups.remove(place);
+                Err(e.into())
+            }
+        }
+    }
+
+    // Takes out the line at a place, and keeps the room for it.
+    fn remove(&mut self, place: usize) -> Line
+        requires { place < length self.old.items }
+        ensures line { result ≡ get_or self.old.items place result }
+        ensures lines { self.new.items ≡ remove self.old.items place }
+        ensures room { length self.new.items < self.new.room }
+        ensures group_room { length self.new.items < self.new.group_room }
+    {
+        self.groups.remove(place);
+        self.lines.remove(place)
+    }
+
+    // Puts a line in the place of another one, and answers that.
+    fn replace(&mut self, place: usize, line: Line) -> Line
+        requires { place < length self.old.items }
+        ensures former { result ≡ get_or self.old.items place result }
+        ensures lines { self.new.items ≡ set self.old.items place line }
+    {
+        self.groups[place] = groups_on(&line);
+        mem::replace(&mut self.lines[place], line)
+    }
+
+    /// Makes an edit, and answers the edit that takes it back. Only the lines behind its place are moved, and only a line that is put in may
+    /// want memory. Where there is none for that, the lines stay.
+    pub fn edit(&mut self, edit: ReadEdit) -> Result<ReadEdit, AllocError>
+        requires place { HasPlace self.old.items (edit_of_read edit) }
+        ensures lines { OnOk result (self.new.items ≡ lines_after self.old.items (edit_of_read edit)) }
+        ensures stay { OnErr result (self.new.items ≡ self.old.items) }
+        ensures succeeds { HasRoom self.old (edit_of_read edit) → IsOk result }
+        ensures back { IfOk result (λ undo. lines_after self.new.items (edit_of_read undo) ≡ self.old.items) }
+        ensures back_place { IfOk result (λ undo. HasPlace self.new.items (edit_of_read undo)) }
+        ensures back_room { IfOk result (λ undo. HasRoom self.new (edit_of_read undo)) }
+    {
+        match edit {
+            ReadEdit::Insert(k, line) => {
+                self.insert(k as usize - 1, line)?;
+                Ok(ReadEdit::Delete(k))
+            }
+            ReadEdit::Delete(k) => Ok(ReadEdit::Insert(k, self.remove(k as usize - 1))),
+            ReadEdit::Replace(k, line) => {
+                let former = self.replace(k as usize - 1, line);
+                Ok(ReadEdit::Replace(k, former))
+            }
+        }
+    }
+
+    /// Takes back an edit, by the edit that does so. A line that is put back has the room that it had.
+    pub fn take_back(&mut self, undo: ReadEdit)
+        requires place { HasPlace self.old.items (edit_of_read undo) }
+        requires room { HasRoom self.old (edit_of_read undo) }
+        ensures { self.new.items ≡ lines_after self.old.items (edit_of_read undo) }
+    {
+        let _ = self.edit(undo);
+    }
+
+    /// Puts a line at a place, or behind the last one. Where there is no memory for that, the lines stay.
+    pub fn put(&mut self, place: usize, line: Line) -> Result<(), AllocError>
+        requires { place ≤ length self.old.items }
+        ensures ok { OnOk result (self.new.items ≡ set_or_push self.old.items place line) }
+        ensures err { OnErr result (self.new.items ≡ self.old.items) }
+    {
+        if place < self.len() {
+            self.replace(place, line);
+            return Ok(());
+        }
+        self.insert(place, line)
+    }
+
+    /// Puts back what stood at a place, or takes out the lines from there on where nothing did.
+    pub fn put_back(&mut self, place: usize, former: Option<Line>)
+        ensures { self.new.items ≡ taken_back self.old.items place former }
+    {
+        match former {
+            Some(line) if place < self.len() => {
+                self.replace(place, line);
+            }
+            Some(_) => {}
+            None => self.truncate(place),
+        }
+    }
+
+    /// Takes out the lines behind the first `count`.
+    pub fn truncate(&mut self, count: usize)
+        ensures { self.new.items ≡ take count self.old.items }
+    {
+        self.lines.truncate(count);
+        self.groups.truncate(count);
+    }
 }

@@ -52,7 +52,14 @@ pub fn apart_ending(
     if !stay_sections(base, &survey.ends, &ends) {
         return None;
     }
-    let added = adds_apart(alloc, &survey.lines, names, &survey.definitions, line)?;
+    let added = adds_apart(
+        alloc,
+        survey.lines.as_slice(),
+        survey.lines.groups(),
+        names,
+        &survey.definitions,
+        line,
+    )?;
     let place = last_place(base, &survey.ends, &ends, &shape);
     let still = Still {
         shape,

@@ -63,14 +63,14 @@ impl Survey {
     {
         let last = self.lines.len() - 1;
         settle_constant(
-            &self.lines,
+            self.lines.as_slice(),
             last,
             names,
             &self.definitions,
             &mut self.constants,
             counter,
         );
-        let lines = Lines::in_column(&self.lines);
+        let lines = Lines::in_column(self.lines.as_slice());
         let text = TextRows {
             base,
             lines: &lines,
@@ -141,7 +141,7 @@ impl Survey {
         }
         let number = self.lines.len() as u32;
         self.forget_equ(names, line, number);
-        let (earlier, _) = self.lines.split_at(number as usize - 1);
+        let (earlier, _) = self.lines.as_slice().split_at(number as usize - 1);
         let back = LineEdit::Delete(number);
         keep_places(&back, earlier, names, self.definitions.as_mut_slice());
     }

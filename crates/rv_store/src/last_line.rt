@@ -31,12 +31,13 @@ pub fn last_line(alloc: Global, base: u32, names: &NameTable, survey: &Survey) -
     requires few { length survey.now.lines.items ≤ MAX_LINES }
     ensures { IfSome result (IsLastLine base survey.now.lines.items) }
 {
-    let (line, earlier) = survey.lines.split_last()?;
+    let (line, earlier) = survey.lines.as_slice().split_last()?;
+    let (groups, _) = survey.lines.groups().split_at(earlier.len());
     let before = survey.ends.before(&survey.places[earlier.len()]);
     if !stay_sections(base, &before, &survey.ends) {
         return None;
     }
-    let added = adds_apart(alloc, earlier, names, &survey.definitions, line)?;
+    let added = adds_apart(alloc, earlier, groups, names, &survey.definitions, line)?;
     if !added.users.is_empty() {
         return None;
     }

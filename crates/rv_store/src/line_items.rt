@@ -76,7 +76,7 @@ fn item_put<C: Count>(
     ensures encoded_least { C.encoded_count counter.old ≤ C.encoded_count counter.new }
     ensures encoded_most { C.encoded_count counter.new ≤ C.encoded_count counter.old + 1 }
 {
-    let lines = Lines::in_column(&survey.lines);
+    let lines = Lines::in_column(survey.lines.as_slice());
     let rows = survey.rows(&lines, base, names);
     let item = item_of_line(alloc, &rows, k, counter)?;
     if k <= items.len() {
@@ -118,7 +118,7 @@ pub fn items_put<C: Count>(
         → AreCountedPut base survey.now.lines.items put.lines k users.now (counts_of C.parsed_count C.valued_count C.encoded_count counter.old) (counts_of C.parsed_count C.valued_count C.encoded_count counter.new) }
 {
     let items = item_put(alloc, base, names, survey, items, k, counter)?;
-    let lines = Lines::in_column(&survey.lines);
+    let lines = Lines::in_column(survey.lines.as_slice());
     let rows = survey.rows(&lines, base, names);
     let mut changed = Vec::new(alloc);
     let items = users_renewed(alloc, &rows, items, users, &mut changed, counter)?;

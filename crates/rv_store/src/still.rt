@@ -10,7 +10,8 @@ ghost use Rattle.rv_program.specs.Codes.{values_at, code_at};
 ghost use Rattle.rv_program.specs.internal.Items.{AreItems};
 ghost use Rattle.rv_program.specs.Program.{program_of, body_at, lines_that};
 ghost use Rattle.rv_program.specs.internal.Still.{set_or_push};
-ghost use Rattle.rv_store.specs.internal.StillLines.{IsStillLine, AreLinesPut, ArePartlyPut, IsFormerLine, taken_back};
+ghost use Rattle.rv_store.specs.internal.Column.{taken_back};
+ghost use Rattle.rv_store.specs.internal.StillLines.{IsStillLine, AreLinesPut, ArePartlyPut, IsFormerLine};
 ghost use Rattle.rv_store.specs.internal.Surveys.{IsSurvey};
 ghost use Rattle.rv_store.specs.internal.Users.{is_revalued, is_recoded};
 ghost use Rattle.rv_program.specs.internal.Work.{equ_operands, value_operands};
@@ -91,7 +92,7 @@ impl Survey {
             });
         }
         Ok(FormerLine {
-            line: Some(self.lines[place].share()?),
+            line: Some(self.lines.as_slice()[place].share()?),
             shape: Some(self.shapes[place]),
             place: Some(self.places[place]),
             ends,
@@ -108,7 +109,7 @@ impl Survey {
         ensures err { OnErr result (ArePartlyPut place self.old self.new) }
         ensures symbols { AreSameSymbols self.old self.new }
     {
-        set_or_push(&mut self.lines, place, line)?;
+        self.lines.put(place, line)?;
         set_or_push(&mut self.shapes, place, still.shape)?;
         set_or_push(&mut self.places, place, still.place)?;
         self.ends = still.ends;
@@ -120,7 +121,7 @@ impl Survey {
         ensures lines { (old : Survey) → ArePartlyPut place old self.old → IsFormerLine place old former → AreSameLines old self.new }
         ensures symbols { AreSameSymbols self.old self.new }
     {
-        put_back(&mut self.lines, place, former.line);
+        self.lines.put_back(place, former.line);
         put_back(&mut self.shapes, place, former.shape);
         put_back(&mut self.places, place, former.place);
         self.ends = former.ends;

@@ -26,7 +26,6 @@ mod shown;
 use crate::alike::are_alike;
 use crate::assembly::assembled;
 use crate::changed::Changed;
-use crate::column::{edit_lines, take_back};
 use crate::ending::{Ending, apart_ending};
 use crate::forgetting::{Remembered, has_many_others};
 use crate::last_line::{LastLine, last_line};
@@ -204,7 +203,12 @@ impl Store {
     {
         let survey = &self.survey;
         let place = k as usize - 1;
-        if !are_alike(&survey.lines[place], &survey.shapes[place], line, &shape) {
+        if !are_alike(
+            &survey.lines.as_slice()[place],
+            &survey.shapes[place],
+            line,
+            &shape,
+        ) {
             return None;
         }
         Some(Still {
@@ -309,7 +313,7 @@ impl Store {
     {
         let k = self.items.len();
         let items = self.items.deleted(k)?;
-        let line = self.survey.lines[k as usize - 1].share()?;
+        let line = self.survey.lines.as_slice()[k as usize - 1].share()?;
         self.survey.remove_last(&self.names, &line, last);
         self.items = items;
         Ok(Changed::of(Vec::new(self.alloc)))
@@ -360,7 +364,7 @@ impl Store {
         ensures memory { IfErr result (λ e. e ≡ EditError.Memory) }
         ensures counted { AreCountedAfter self.old.base self.old.lines (edit_of edit.now) (counts_of C.parsed_count C.valued_count C.encoded_count counter.old) (counts_of C.parsed_count C.valued_count C.encoded_count counter.new) }
     {
-        let undo = edit_lines(&mut self.survey.lines, read)?;
+        let undo = self.survey.lines.edit(read)?;
         match assembled(
             self.alloc,
             self.base,
@@ -380,7 +384,7 @@ impl Store {
                 Ok(changed)
             }
             Err(e) => {
-                take_back(&mut self.survey.lines, undo);
+                self.survey.lines.take_back(undo);
                 Err(e)
             }
         }

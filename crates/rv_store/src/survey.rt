@@ -18,6 +18,7 @@ ghost use Rattle.rv_program.specs.Text.{refusal_of, lines_after};
 ghost use Rattle.rv_program.specs.internal.ValueRows.{AreValueRows, base_of};
 ghost use Rattle.rv_program.specs.internal.Work.{equ_operands, high_operands, survey_operands, operands_through, work};
 
+use crate::column::Column;
 use crate::ends::Ends;
 use crate::parted_shapes::PartedShapes;
 use crate::places::Placed;
@@ -58,10 +59,9 @@ fn parted_shapes<'a>(
 /// What the lines of a text say, in rows: one value for each name, by its number, or one for each line. An edit that goes over the
 /// lines makes them anew from the first line on. But definitions move with the lines, a line keeps its shape where no constant changes it,
 /// and lines lie where they lay or move with their section, unless one begins elsewhere.
-#[derive(Drop)]
 pub struct Survey {
     /// The lines.
-    pub lines: Vec<Line>,
+    pub lines: Column,
     /// Where each name is defined.
     pub definitions: Vec<DefinitionPlace>,
     /// The constant that each name is, if it is one.
@@ -82,6 +82,24 @@ pub struct Survey {
     pub paired_highs: Vec<Entry>,
 }
 
+// What a derive would do, but proved once: each way out of a function that has a survey would drop its fields one by one.
+impl Drop for Survey {
+    fn drop(self) {
+        let Survey {
+            lines: _,
+            definitions: _,
+            constants: _,
+            shapes: _,
+            ends: _,
+            places: _,
+            locals: _,
+            equ_values: _,
+            highs: _,
+            paired_highs: _,
+        } = self;
+    }
+}
+
 impl Survey {
     /// That of no lines, which takes no memory.
     pub fn empty(alloc: Global) -> Self
@@ -89,7 +107,7 @@ impl Survey {
         ensures lines { result.lines.items ≡ [] }
     {
         Survey {
-            lines: Vec::new(alloc),
+            lines: Column::new(alloc),
             definitions: Vec::new(alloc),
             constants: Vec::new(alloc),
             shapes: Vec::new(alloc),
@@ -206,7 +224,7 @@ impl Survey {
         let highs = highs(alloc, before, &after, lines, counter)?;
         let paired_highs = paired_highs(alloc, &text, lines, &highs)?;
         Ok(Survey {
-            lines: Vec::new(alloc),
+            lines: Column::new(alloc),
             definitions,
             constants: sized.constants,
             shapes: sized.shapes,

@@ -59,6 +59,13 @@ every_group = record { low = 2 ^ 32 - 1; high = 2 ^ 32 - 1 }
 abbrev pub with_group : Groups → (bucket : ℕ) → Groups
 with_group groups bucket = groups_of (bit_or (bits_of groups) (2 ^ (bucket % 64)))
 
+-- with those of others
+abbrev pub with_groups : Groups → Groups → Groups
+with_groups groups others = groups_of (bit_or (bits_of groups) (bits_of others))
+
+abbrev pub groups_together : List Groups → Groups
+groups_together all = fold with_groups no_groups all
+
 abbrev pub has_group : Groups → (bucket : ℕ) → Bool
 has_group groups bucket = bit_at (bits_of groups) (bucket % 64) == 1
 
@@ -122,6 +129,15 @@ is_bucket (Some other) bucket = other == bucket
 abbrev pub may_have : UsedNames → (bucket : ℕ) → Bool
 may_have (Few first second) bucket = is_bucket first bucket || is_bucket second bucket
 may_have (Many groups) bucket = has_group groups bucket
+
+-- the groups of their buckets
+abbrev pub with_group_of : Groups → Option ℕ → Groups
+with_group_of groups None = groups
+with_group_of groups (Some bucket) = with_group groups bucket
+
+abbrev pub groups_used : UsedNames → Groups
+groups_used (Few first second) = with_group_of (with_group_of no_groups first) second
+groups_used (Many groups) = groups
 
 -- none of them is in a set
 abbrev pub IsOutside : UsedNames → Marks → Type 0

@@ -1,5 +1,5 @@
 -- Sets of names: what they have, and which tests no name of a line passes.
-use Rattle.std.proofs.Common.{◌≡◌, ℕ, zero, suc, ◌<◌, ◌+◌, ◌-◌, ◌*◌, ◌/◌, ◌%◌, ◌^◌, ◌==◌, max, ◌⊎◌, inl, inr, Bool, true, false, not, ◌||◌, List, [], ◌∷◌, length, replicate, get_or, slice_set, Some, None, true≢false, arith, ap, sym, ◌∙◌, refl}
+use Rattle.std.proofs.Common.{◌≡◌, ℕ, zero, suc, ◌<◌, ◌+◌, ◌-◌, ◌*◌, ◌/◌, ◌%◌, ◌^◌, ◌==◌, max, ◌⊎◌, inl, inr, Bool, true, false, not, ◌||◌, List, [], ◌∷◌, length, replicate, get_or, slice_set, Option, Some, None, true≢false, arith, ap, sym, ◌∙◌, refl}
 use Rattle.std.specs.Int.{bit_at}
 use Rattle.std.specs.Int.Bits.{bit_and, bit_or}
 use Rattle.std.specs.List.{list_any, fold}
@@ -11,7 +11,7 @@ use Rattle.rv_program.specs.declared.used_names.UsedNames.{UsedNames}
 use Rattle.rv_program.specs.declared.used_names.UsedNames.TheVariants.{Few, Many}
 use Rattle.rv_program.specs.declared.name_set.Mark.{Mark}
 use Rattle.rv_program.specs.declared.name_set.Mark.TheVariants.{Unknown}
-use Rattle.rv_program.specs.internal.NameSets.{next_bucket, bucket_of, bits_of, groups_of, no_groups, every_group, with_group, has_group, share_group, differs, AreGrouped, no_names, with_bucket, with_name, with_names, brief_of_names, is_bucket, may_have}
+use Rattle.rv_program.specs.internal.NameSets.{next_bucket, bucket_of, bits_of, groups_of, no_groups, every_group, with_group, with_groups, groups_together, has_group, share_group, differs, AreGrouped, no_names, with_bucket, with_name, with_names, brief_of_names, is_bucket, may_have, with_group_of, groups_used}
 
 not-false : (b : Bool) → not b ≡ false → b ≡ true
 not-false true h = refl
@@ -65,6 +65,40 @@ group-kept groups bucket other has =
     let low = bit_at-lt (2 ^ (bucket % 64)) (other % 64) in
     let is = with-bits groups bucket other in
     is-one (bit_at (bits_of (with_group groups bucket)) (other % 64)) (omega (arith, one, low, is))
+
+-- groups are among those that have others, too
+joined-bits : (groups others : Groups) (group : ℕ) → group < 64 → bit_at (bits_of (with_groups groups others)) group ≡ max (bit_at (bits_of groups) group) (bit_at (bits_of others) group)
+joined-bits groups others group below = bits-kept (bit_or (bits_of groups) (bits_of others)) group below ∙ bit_at_or (bits_of groups) (bits_of others) group
+
+pub group-in-first : (groups others : Groups) (bucket : ℕ) → has_group groups bucket ≡ true → has_group (with_groups groups others) bucket ≡ true
+group-in-first groups others bucket has =
+    let one = one-bit (bit_at (bits_of groups) (bucket % 64)) has in
+    let low = bit_at-lt (bits_of others) (bucket % 64) in
+    let is = joined-bits groups others (bucket % 64) (omega arith) in
+    is-one (bit_at (bits_of (with_groups groups others)) (bucket % 64)) (omega (arith, one, low, is))
+
+pub group-in-second : (groups others : Groups) (bucket : ℕ) → has_group others bucket ≡ true → has_group (with_groups groups others) bucket ≡ true
+group-in-second groups others bucket has =
+    let one = one-bit (bit_at (bits_of others) (bucket % 64)) has in
+    let low = bit_at-lt (bits_of groups) (bucket % 64) in
+    let is = joined-bits groups others (bucket % 64) (omega arith) in
+    is-one (bit_at (bits_of (with_groups groups others)) (bucket % 64)) (omega (arith, one, low, is))
+
+kept-in-all : (groups : Groups) (all : List Groups) (bucket : ℕ) → has_group groups bucket ≡ true → has_group (fold with_groups groups all) bucket ≡ true
+kept-in-all groups [] bucket has = has
+kept-in-all groups (g ∷ gs) bucket has = kept-in-all (with_groups groups g) gs bucket (group-in-first groups g bucket has)
+
+group-in-all : (groups : Groups) (all : List Groups) (i bucket : ℕ) (other : Groups) → i < length all → has_group (get_or all i other) bucket ≡ true → has_group (fold with_groups groups all) bucket ≡ true
+group-in-all groups [] i bucket other within has = absurd (let no : i < 0 = within in omega (arith, no))
+group-in-all groups (g ∷ gs) zero bucket other within has = kept-in-all (with_groups groups g) gs bucket (group-in-second groups g bucket has)
+group-in-all groups (g ∷ gs) (suc i) bucket other within has = group-in-all (with_groups groups g) gs i bucket other (omega (arith, within)) has
+
+pub no-group-together : (all : List Groups) (i bucket : ℕ) (other : Groups) → i < length all → has_group (groups_together all) bucket ≡ false → has_group (get_or all i other) bucket ≡ false
+no-group-together all i bucket other within none = at (has_group (get_or all i other) bucket) refl
+  where
+    at : (b : Bool) → has_group (get_or all i other) bucket ≡ b → has_group (get_or all i other) bucket ≡ false
+    at false e = e
+    at true e = absurd (true≢false (sym (group-in-all no_groups all i bucket other within e) ∙ none))
 
 pub group-of-every : (bucket : ℕ) → has_group every_group bucket ≡ true
 group-of-every bucket = is-one (bit_at (2 ^ 64 - 1) (bucket % 64)) (bit_at_ones 64 (bucket % 64) (omega arith))
@@ -138,6 +172,30 @@ bucket-kept (Few (Some first) (Some second)) bucket other has = at (or_split (fi
     at (inl is) = group-of-first first second bucket other is
     at (inr is) = group-of-second first second bucket other is
 bucket-kept (Many groups) bucket other has = group-kept groups bucket other has
+
+-- a line that may use a name of a bucket has its group
+group-kept-with : (groups : Groups) (bucket : Option ℕ) (other : ℕ) → has_group groups other ≡ true → has_group (with_group_of groups bucket) other ≡ true
+group-kept-with groups None other has = has
+group-kept-with groups (Some bucket) other has = group-kept groups bucket other has
+
+group-added-with : (groups : Groups) (bucket : Option ℕ) (other : ℕ) → is_bucket bucket other ≡ true → has_group (with_group_of groups bucket) other ≡ true
+group-added-with groups None other is = absurd (true≢false (sym is))
+group-added-with groups (Some bucket) other is = ap (has_group (with_group groups bucket)) (sym (eqb-true bucket other is)) ∙ group-added groups bucket
+
+group-used : (used : UsedNames) (bucket : ℕ) → may_have used bucket ≡ true → has_group (groups_used used) bucket ≡ true
+group-used (Few first second) bucket has = at (or_split (is_bucket first bucket) (is_bucket second bucket) has)
+  where
+    at : (is_bucket first bucket ≡ true) ⊎ (is_bucket second bucket ≡ true) → has_group (with_group_of (with_group_of no_groups first) second) bucket ≡ true
+    at (inl is) = group-kept-with (with_group_of no_groups first) second bucket (group-added-with no_groups first bucket is)
+    at (inr is) = group-added-with (with_group_of no_groups first) second bucket is
+group-used (Many groups) bucket has = has
+
+pub unused-group : (used : UsedNames) (bucket : ℕ) → has_group (groups_used used) bucket ≡ false → may_have used bucket ≡ false
+unused-group used bucket none = at (may_have used bucket) refl
+  where
+    at : (b : Bool) → may_have used bucket ≡ b → may_have used bucket ≡ false
+    at false e = e
+    at true e = absurd (true≢false (sym (group-used used bucket e) ∙ none))
 
 names-kept : (used : UsedNames) (names : List (List ℕ)) (bucket : ℕ) → may_have used bucket ≡ true → may_have (with_names used names) bucket ≡ true
 names-kept used [] bucket has = has

@@ -1,6 +1,20 @@
--- Edits of a column of lines.
-use Rattle.std.specs.Prelude.{ℕ, ◌+◌, ◌<◌, ◌≤◌, List, length}
+-- A column of lines, and edits of it.
+use Rattle.std.specs.Prelude.{ℕ, ◌+◌, ◌<◌, ◌≤◌, List, length, take, set, Option, Some, None}
+use Rattle.rv_stmt.specs.Statement.{statement_of}
+use Rattle.rv_program.specs.declared.groups.Groups.{Groups}
+use Rattle.rv_program.specs.internal.Briefs.{brief_of}
+use Rattle.rv_program.specs.internal.NameSets.{groups_used}
 use Rattle.rv_program.specs.Text.{Edit, Insert, Delete, Replace}
+
+-- the lines, and for how many of them and of their groups there is room
+pub record Listed : Type 0 where
+  pub items : List (List ℕ)
+  pub room : ℕ
+  pub group_room : ℕ
+
+-- the groups of the names that a line uses
+abbrev pub groups_on : List ℕ → Groups
+groups_on line = groups_used (brief_of (statement_of line)).names
 
 -- there are so many lines that the edit has its place
 abbrev pub HasPlace : List (List ℕ) → Edit → Type 0
@@ -8,8 +22,13 @@ HasPlace lines (Insert place line) = (1 ≤ place) × (place ≤ length lines + 
 HasPlace lines (Delete place) = (1 ≤ place) × (place ≤ length lines)
 HasPlace lines (Replace place line) = (1 ≤ place) × (place ≤ length lines)
 
--- where so many lines stand in a row that holds so many, the edit takes no memory
-abbrev pub HasRoom : (count capacity : ℕ) → Edit → Type 0
-HasRoom count capacity (Insert place line) = count < capacity
-HasRoom count capacity (Delete place) = Unit {0}
-HasRoom count capacity (Replace place line) = Unit {0}
+-- the edit takes no memory
+abbrev pub HasRoom : Listed → Edit → Type 0
+HasRoom column (Insert place line) = (length column.items < column.room) × (length column.items < column.group_room)
+HasRoom column (Delete place) = Unit {0}
+HasRoom column (Replace place line) = Unit {0}
+
+-- a row with what stood at a place, or without what was put behind its end
+abbrev pub taken_back : {A : Type 0} → List A → (place : ℕ) → Option A → List A
+taken_back row place None = take place row
+taken_back row place (Some a) = set row place a

@@ -1,5 +1,5 @@
 -- A line with which no other line has to do, and the rows of a text that get it in place.
-use Rattle.std.specs.Prelude.{◌≡◌, ℕ, suc, ◌+◌, ◌-◌, ◌<◌, ◌⊎◌, Bool, true, false, List, [], ◌∷◌, ◌++◌, length, get_or, take, set, Option, Some, None}
+use Rattle.std.specs.Prelude.{◌≡◌, ℕ, suc, ◌+◌, ◌-◌, ◌<◌, ◌⊎◌, Bool, true, false, List, [], ◌∷◌, ◌++◌, length, get_or, Option, Some, None}
 use Rattle.rv_layout.specs.Places.{IsLimited}
 use Rattle.rv_store.specs.declared.last_line.LastLine.{LastLine}
 use Rattle.rv_store.specs.declared.still.FormerLine.{FormerLine}
@@ -71,11 +71,6 @@ pub record IsFormerLine (place : ℕ) (s : Survey) (former : FormerLine) : Type 
   pub shape : IsAt s.shapes.items place former.shape
   pub lies : IsAt s.places.items place former.place
   pub ends : former.ends ≡ s.ends
-
--- a row with what stood at a place, or without what was put behind its end
-abbrev pub taken_back : {A : Type 0} → List A → (place : ℕ) → Option A → List A
-taken_back row place None = take place row
-taken_back row place (Some a) = set row place a
 
 -- Rows by names
 

@@ -72,7 +72,7 @@ impl Store {
     fn column(&self) -> Lines<'_>
         ensures { result ≡ self.now.lines }
     {
-        Lines::in_column(&self.survey.lines)
+        Lines::in_column(self.survey.lines.as_slice())
     }
 
     /// What names give in the expressions of line number `k`, if there is such a line: with it `operand_values` gives the values

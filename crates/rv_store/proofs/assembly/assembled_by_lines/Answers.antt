@@ -21,8 +21,8 @@ returns-in_err-items-clause-counted g c =
     let counts = counts_of g.C.Count.parsed_count g.C.Count.valued_count g.C.Count.encoded_count in
     let made = c.after.ensures in
     let renewed = c.renewed_items.ensures in
-    let count : length c.deref.result.now ≡ length c.args.survey.now.lines.items = ap length c.deref.ensures.value in
-    let values = subst (λ ls. g.C.Count.valued_count c.renewed_items.new.counter ≤ g.C.Count.valued_count c.after.new.counter + work compared_operands c.args.base c.args.old.now (edit_of c.args.edit.now) (length ls) + work value_operands c.args.base c.args.old.now (edit_of c.args.edit.now) (length ls)) c.deref.ensures.value renewed.values in
+    let count : length c.as_slice.result.now ≡ length c.args.survey.now.lines.items = ap length c.as_slice.ensures in
+    let values = subst (λ ls. g.C.Count.valued_count c.renewed_items.new.counter ≤ g.C.Count.valued_count c.after.new.counter + work compared_operands c.args.base c.args.old.now (edit_of c.args.edit.now) (length ls) + work value_operands c.args.base c.args.old.now (edit_of c.args.edit.now) (length ls)) c.as_slice.ensures renewed.values in
     counted-after c.args.base c.args.old.now c.args.survey.now.lines.items (edit_of c.args.edit.now) (counts c.args.counter.now) (counts c.renewed_items.new.counter) (g.C.Count.valued_count c.after.new.counter)
     c.requires.edited (renewed.parsed ∙ made.parsed) made.least made.most made.work renewed.valued_least (omega (arith, renewed.valued_few, count)) values
     (omega (arith, made.encoded, renewed.encoded_least)) (omega (arith, made.encoded, renewed.encoded_few, count)) (omega (arith, made.encoded, renewed.codes))
@@ -32,8 +32,8 @@ returns-clause-counted g c =
     let counts = counts_of g.C.Count.parsed_count g.C.Count.valued_count g.C.Count.encoded_count in
     let made = c.after.ensures in
     let renewed = c.renewed_items.ensures in
-    let count : length c.deref.result.now ≡ length c.args.survey.now.lines.items = ap length c.deref.ensures.value in
-    let values = subst (λ ls. g.C.Count.valued_count c.renewed_items.new.counter ≤ g.C.Count.valued_count c.after.new.counter + work compared_operands c.args.base c.args.old.now (edit_of c.args.edit.now) (length ls) + work value_operands c.args.base c.args.old.now (edit_of c.args.edit.now) (length ls)) c.deref.ensures.value renewed.values in
+    let count : length c.as_slice.result.now ≡ length c.args.survey.now.lines.items = ap length c.as_slice.ensures in
+    let values = subst (λ ls. g.C.Count.valued_count c.renewed_items.new.counter ≤ g.C.Count.valued_count c.after.new.counter + work compared_operands c.args.base c.args.old.now (edit_of c.args.edit.now) (length ls) + work value_operands c.args.base c.args.old.now (edit_of c.args.edit.now) (length ls)) c.as_slice.ensures renewed.values in
     counted-after c.args.base c.args.old.now c.args.survey.now.lines.items (edit_of c.args.edit.now) (counts c.args.counter.now) (counts c.renewed_items.new.counter) (g.C.Count.valued_count c.after.new.counter)
     c.requires.edited (renewed.parsed ∙ made.parsed) made.least made.most made.work renewed.valued_least (omega (arith, renewed.valued_few, count)) values
     (omega (arith, made.encoded, renewed.encoded_least)) (omega (arith, made.encoded, renewed.encoded_few, count)) (omega (arith, made.encoded, renewed.codes))

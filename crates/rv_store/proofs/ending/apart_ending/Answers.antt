@@ -1,10 +1,11 @@
-use Rattle.std.proofs.Common.{◌≡◌, ℕ, ◌<◌, false, List, [], ◌∷◌, ◌++◌, length, arith, sym, subst}
+use Rattle.std.proofs.Common.{◌≡◌, ℕ, ◌<◌, false, List, [], ◌∷◌, ◌++◌, length, map, arith, ap, sym, subst, ◌∙◌}
 use Rattle.rv_stmt.specs.Statement.{statement_of}
 use Rattle.rv_layout.specs.declared.measured.Measured.{Measured}
 use Rattle.rv_layout.specs.Places.{IsLimited, AreLimited}
 use Rattle.rv_store.specs.declared.ends.Ends.{Ends}
 use Rattle.rv_program.specs.declared.limits.TheConstants.{MAX_LINES}
 use Rattle.rv_store.specs.internal.Appended.{adds, TellEarlier, IsApart}
+use Rattle.rv_store.specs.internal.Column.{groups_on}
 use Rattle.rv_store.specs.internal.Ends.{ends_of, IsBehind}
 use Rattle.rv_program.specs.Program.{program_of, lines_that}
 use Rattle.rv_store.specs.internal.Still.{uses_any}
@@ -32,9 +33,12 @@ advance-requires-clause-short c =
 
 pub adds_apart-requires-clause-definitions : goal.adds_apart-requires-clause-definitions
 adds_apart-requires-clause-definitions c =
-    subst (TellEarlier c.deref.result.now c.args.names.now) (sym c.deref-2.ensures.value)
-    (subst (λ ls. TellEarlier ls c.args.names.now c.args.survey.now.definitions.items) (sym c.deref.ensures.value)
+    subst (TellEarlier c.as_slice.result.now c.args.names.now) (sym c.deref.ensures.value)
+    (subst (λ ls. TellEarlier ls c.args.names.now c.args.survey.now.definitions.items) (sym c.as_slice.ensures)
     (tell-text c.args.survey.now.lines.items c.args.names.now c.args.survey.now.definitions.items c.requires.definitions))
+
+pub adds_apart-requires-clause-groups : goal.adds_apart-requires-clause-groups
+adds_apart-requires-clause-groups c = c.groups.ensures ∙ ap (map groups_on) (sym c.as_slice.ensures)
 
 pub stay_sections-requires-clause-ends_before : goal.stay_sections-requires-clause-ends_before
 stay_sections-requires-clause-ends_before c =
@@ -60,8 +64,8 @@ returns c =
     let shapes = c.args.survey.now.shapes.items in
     let all = ends-with shapes c.args.shape c.args.survey.now.ends c.advance.new.self c.requires.ends c.advance.ensures in
     ending-line c.args.base c.args.survey.now.lines.items c.args.line.now shapes c.args.survey.now.ends _ _ c.requires.shapes c.requires.limited c.requires.few
-    (subst (λ ls. IsApart (program_of ls) (statement_of c.args.line.now)) c.deref.ensures.value c.in_ok-added.ensures.apart)
-    (subst (λ ls. c.in_ok-added.added.any ≡ false → (name : List ℕ) → adds (program_of ls) (statement_of c.args.line.now) name ≡ false) c.deref.ensures.value c.in_ok-added.ensures.nothing)
+    (subst (λ ls. IsApart (program_of ls) (statement_of c.args.line.now)) c.as_slice.ensures c.in_ok-added.ensures.apart)
+    (subst (λ ls. c.in_ok-added.added.any ≡ false → (name : List ℕ) → adds (program_of ls) (statement_of c.args.line.now) name ≡ false) c.as_slice.ensures c.in_ok-added.ensures.nothing)
     c.requires.shape c.requires.limited_shape c.requires.ends all (c.stay_sections.ensures c.if-not-stay_sections.false)
     (c.last_place-place.ensures shapes (behind c.args.survey.now.lines.items shapes c.args.shape c.args.survey.now.ends c.advance.new.self c.requires.shapes c.requires.limited c.requires.limited_shape c.requires.few c.requires.ends all))
-    (subst (λ ls. c.in_ok-added.added.users.items ≡ lines_that (uses_any (adds (program_of ls) (statement_of c.args.line.now)) (program_of ls)) (length ls)) c.deref.ensures.value c.in_ok-added.ensures.users)
+    (subst (λ ls. c.in_ok-added.added.users.items ≡ lines_that (uses_any (adds (program_of ls) (statement_of c.args.line.now)) (program_of ls)) (length ls)) c.as_slice.ensures c.in_ok-added.ensures.users)

@@ -1,7 +1,10 @@
-use Rattle.std.proofs.Common.{◌≡◌, ◌≤◌, ◌==◌, ℕ, Bool, true, true≢false, List, [], ◌∷◌, ◌++◌, length, arith, ap, sym, subst, ◌∙◌, refl}
+use Rattle.std.proofs.Common.{◌≡◌, ◌≤◌, ◌==◌, ℕ, Bool, true, true≢false, List, [], ◌∷◌, ◌++◌, length, map, take, arith, ap, sym, subst, ◌∙◌, refl}
+use Rattle.std.proofs.Math.Seq.{take-append_seam}
+use Rattle.std.proofs.lemmas.List.{take-map}
 use Rattle.rv_program.specs.Program.{program_of}
 use Rattle.rv_store.specs.declared.survey.Survey.{Survey}
 use Rattle.rv_store.specs.internal.Appended.{TellEarlier}
+use Rattle.rv_store.specs.internal.Column.{groups_on}
 use Rattle.rv_store.specs.internal.Ends.{ends_of}
 use Rattle.rv_store.specs.internal.Surveys.{IsSurvey}
 use Rattle.rv_store.proofs.ApartLines.{tell-longer}
@@ -23,7 +26,7 @@ surveyed base lines line names s whole are = subst (λ ls. IsSurvey base (progra
 pub index-requires : goal.index-requires
 index-requires c =
     let s = c.args.survey.now in
-    omega (arith, c.in_ok-line.ensures.cases.1, ap length c.deref.ensures.value, s.places.ok.0, count-places c.args.base s.lines.items c.args.names.now s c.requires.survey)
+    omega (arith, c.in_ok-line.ensures.cases.1, ap length c.as_slice.ensures, s.places.ok.0, count-places c.args.base s.lines.items c.args.names.now s c.requires.survey)
 
 pub stay_sections-requires-clause-ends_before : goal.stay_sections-requires-clause-ends_before
 stay_sections-requires-clause-ends_before c =
@@ -31,7 +34,7 @@ stay_sections-requires-clause-ends_before c =
     let base = c.args.base in
     let lines = c.in_ok-line.earlier.now in
     let line = c.in_ok-line.line.now in
-    let whole : s.lines.items ≡ lines ++ line ∷ [] = sym c.deref.ensures.value ∙ c.in_ok-line.ensures.cases.0 in
+    let whole : s.lines.items ≡ lines ++ line ∷ [] = sym c.as_slice.ensures ∙ c.in_ok-line.ensures.cases.0 in
     let few : length (lines ++ line ∷ []) ≤ 16384 = omega (arith, c.requires.few, ap length whole) in
     let are = surveyed base lines line c.args.names.now s whole c.requires.survey in
     together-before (shapes base lines line) (shape base lines line) (omega (arith, few-without base lines line c.args.names.now s few are, count-shapes base lines line)) (limited-with base lines line c.args.names.now s few are)
@@ -43,7 +46,7 @@ stay_sections-requires-clause-ends c =
     let base = c.args.base in
     let lines = c.in_ok-line.earlier.now in
     let line = c.in_ok-line.line.now in
-    let whole : s.lines.items ≡ lines ++ line ∷ [] = sym c.deref.ensures.value ∙ c.in_ok-line.ensures.cases.0 in
+    let whole : s.lines.items ≡ lines ++ line ∷ [] = sym c.as_slice.ensures ∙ c.in_ok-line.ensures.cases.0 in
     let few : length (lines ++ line ∷ []) ≤ 16384 = omega (arith, c.requires.few, ap length whole) in
     let are = surveyed base lines line c.args.names.now s whole c.requires.survey in
     together-all (shapes base lines line) (shape base lines line) (omega (arith, few-without base lines line c.args.names.now s few are, count-shapes base lines line)) (limited-with base lines line c.args.names.now s few are)
@@ -54,9 +57,19 @@ adds_apart-requires-clause-definitions c =
     let s = c.args.survey.now in
     let lines = c.in_ok-line.earlier.now in
     let line = c.in_ok-line.line.now in
-    let whole : s.lines.items ≡ lines ++ line ∷ [] = sym c.deref.ensures.value ∙ c.in_ok-line.ensures.cases.0 in
-    subst (TellEarlier lines c.args.names.now) (sym c.deref-2.ensures.value)
+    let whole : s.lines.items ≡ lines ++ line ∷ [] = sym c.as_slice.ensures ∙ c.in_ok-line.ensures.cases.0 in
+    subst (TellEarlier lines c.args.names.now) (sym c.deref.ensures.value)
     (tell-longer lines c.args.names.now s.definitions.items line (surveyed c.args.base lines line c.args.names.now s whole c.requires.survey).definitions)
+
+pub adds_apart-requires-clause-groups : goal.adds_apart-requires-clause-groups
+adds_apart-requires-clause-groups c =
+    let lines = c.in_ok-line.earlier.now in
+    let line = c.in_ok-line.line.now in
+    let whole : c.args.survey.now.lines.items ≡ lines ++ line ∷ [] = sym c.as_slice.ensures ∙ c.in_ok-line.ensures.cases.0 in
+    c.split_at.ensures.front
+    ∙ ap (take (length lines)) (c.groups.ensures ∙ ap (map groups_on) whole)
+    ∙ take-map groups_on (length lines) (lines ++ line ∷ [])
+    ∙ ap (map groups_on) (take-append_seam lines (line ∷ []))
 
 pub returns : goal.returns
 returns c =
@@ -64,7 +77,7 @@ returns c =
     let base = c.args.base in
     let lines = c.in_ok-line.earlier.now in
     let line = c.in_ok-line.line.now in
-    let whole : s.lines.items ≡ lines ++ line ∷ [] = sym c.deref.ensures.value ∙ c.in_ok-line.ensures.cases.0 in
+    let whole : s.lines.items ≡ lines ++ line ∷ [] = sym c.as_slice.ensures ∙ c.in_ok-line.ensures.cases.0 in
     let few : length (lines ++ line ∷ []) ≤ 16384 = omega (arith, c.requires.few, ap length whole) in
     let are = surveyed base lines line c.args.names.now s whole c.requires.survey in
     is-last_line base lines line (limited-with base lines line c.args.names.now s few are) (few-without base lines line c.args.names.now s few are) _ s.ends s.lines.items whole

@@ -1,11 +1,6 @@
-use Rattle.std.proofs.Common.{rules, ◌≡◌, ℕ, ◌-◌, List, length, insert, arith, ap, ◌∙◌}
-use Rattle.std.proofs.lemmas.List.Edits.{insert_end}
-use Rattle.rv_program.specs.internal.Still.{set_or_push}
-use Rattle.rv_store.proofs.StillTexts.{set-set_or_push, end-set_or_push}
+use Rattle.std.proofs.Common.{rules, ◌-◌, arith, ◌∙◌}
+use Rattle.rv_store.proofs.StillTexts.{set-set_or_push, inserted}
 use Rattle.rv_store.proofs.line_items.item_put.Goals as goal
-
-inserted : {A : Type 0} (xs : List A) (i : ℕ) (a : A) → i ≡ length xs → insert xs i a ≡ set_or_push xs i a
-inserted xs i a end = ap (λ j. insert xs j a) end ∙ insert_end xs a ∙ end-set_or_push xs i a end
 
 pub returns-in_err-item-clause-parsed : goal.returns-in_err-item-clause-parsed
 returns-in_err-item-clause-parsed g c = c.item_of_line.ensures.parsed

@@ -1,11 +1,11 @@
-use Rattle.std.proofs.Common.{◌≡◌, ℕ, ◌-◌, List, [], ◌∷◌, ◌++◌, arith, ap, subst, sym, ◌∙◌}
+use Rattle.std.proofs.Common.{◌≡◌, ℕ, List, [], ◌∷◌, ◌++◌, ap, subst, sym, ◌∙◌}
 use Rattle.rv_text.specs.Counting.{Counts}
 use Rattle.rv_program.specs.declared.item.Item.{Item}
 use Rattle.rv_program.specs.Codes.{values_at, code_at}
 use Rattle.rv_program.specs.Counted.{counts_of}
 use Rattle.rv_program.specs.Program.{program_of, lines_that}
 use Rattle.rv_store.specs.internal.Users.{first_by, is_recoded, AreItemsBy, AreTold, AreUsersCounted}
-use Rattle.rv_store.proofs.RenewedUsers.{IsTold, put-told, counted-item, put-first, put-last, put-next}
+use Rattle.rv_store.proofs.RenewedUsers.{put-told, counted-item, put-first, put-last, put-next}
 use Rattle.rv_store.proofs.line_items.items_put.Goals as goal
 
 -- what holds of the rows of a text holds of the text
@@ -41,7 +41,7 @@ item_put-requires-clause-next g c = put-next c.requires.put
 
 pub users_renewed-requires-clause-told : goal.users_renewed-requires-clause-told
 users_renewed-requires-clause-told g c =
-    told-of c.args.base _ c.args.survey.now.lines.items _ c.args.users.now c.in_ok-items.items.items c.rows-rows.ensures.base (c.rows-rows.ensures.lines ∙ c.in_column-lines.ensures ∙ c.deref.ensures.value)
+    told-of c.args.base _ c.args.survey.now.lines.items _ c.args.users.now c.in_ok-items.items.items c.rows-rows.ensures.base (c.rows-rows.ensures.lines ∙ c.in_column-lines.ensures ∙ c.as_slice.ensures)
     (put-told c.requires.put c.in_ok-items.items.items c.in_ok-items.ensures.items).told
 
 pub returns-in_err-items-clause-counted : goal.returns-in_err-items-clause-counted
@@ -70,7 +70,7 @@ returns-in_err-items-2-clause-counted g c = λ put.
       encoded_least = one.encoded_least;
       encoded_most = one.encoded_most;
     })
-    (counted-of c.args.base _ c.args.survey.now.lines.items _ c.args.users.now c.in_ok-items.items.items c.rows-rows.ensures.base (c.rows-rows.ensures.lines ∙ c.in_column-lines.ensures ∙ c.deref.ensures.value)
+    (counted-of c.args.base _ c.args.survey.now.lines.items _ c.args.users.now c.in_ok-items.items.items c.rows-rows.ensures.base (c.rows-rows.ensures.lines ∙ c.in_column-lines.ensures ∙ c.as_slice.ensures)
     (counts c.item_put.new.counter) (counts c.users_renewed.new.counter) c.users_renewed.ensures.counted told.told)
 
 pub returns-in_err-push-clause-counted : goal.returns-in_err-push-clause-counted
@@ -86,7 +86,7 @@ returns-in_err-push-clause-counted g c = λ put.
       encoded_least = one.encoded_least;
       encoded_most = one.encoded_most;
     })
-    (counted-of c.args.base _ c.args.survey.now.lines.items _ c.args.users.now c.in_ok-items.items.items c.rows-rows.ensures.base (c.rows-rows.ensures.lines ∙ c.in_column-lines.ensures ∙ c.deref.ensures.value)
+    (counted-of c.args.base _ c.args.survey.now.lines.items _ c.args.users.now c.in_ok-items.items.items c.rows-rows.ensures.base (c.rows-rows.ensures.lines ∙ c.in_column-lines.ensures ∙ c.as_slice.ensures)
     (counts c.item_put.new.counter) (counts c.users_renewed.new.counter) c.users_renewed.ensures.counted told.told)
 
 pub returns-clause-counted : goal.returns-clause-counted
@@ -102,14 +102,14 @@ returns-clause-counted g c = λ put.
       encoded_least = one.encoded_least;
       encoded_most = one.encoded_most;
     })
-    (counted-of c.args.base _ c.args.survey.now.lines.items _ c.args.users.now c.in_ok-items.items.items c.rows-rows.ensures.base (c.rows-rows.ensures.lines ∙ c.in_column-lines.ensures ∙ c.deref.ensures.value)
+    (counted-of c.args.base _ c.args.survey.now.lines.items _ c.args.users.now c.in_ok-items.items.items c.rows-rows.ensures.base (c.rows-rows.ensures.lines ∙ c.in_column-lines.ensures ∙ c.as_slice.ensures)
     (counts c.item_put.new.counter) (counts c.users_renewed.new.counter) c.users_renewed.ensures.counted told.told)
 
 pub returns-clause-items : goal.returns-clause-items
 returns-clause-items g c =
     let told = put-told c.requires.put c.in_ok-items.items.items c.in_ok-items.ensures.items in
     told.renewed c.in_ok-items-2.items.items
-    (items-of c.args.base _ c.args.survey.now.lines.items _ c.args.users.now c.in_ok-items.items.items c.rows-rows.ensures.base (c.rows-rows.ensures.lines ∙ c.in_column-lines.ensures ∙ c.deref.ensures.value)
+    (items-of c.args.base _ c.args.survey.now.lines.items _ c.args.users.now c.in_ok-items.items.items c.rows-rows.ensures.base (c.rows-rows.ensures.lines ∙ c.in_column-lines.ensures ∙ c.as_slice.ensures)
     c.in_ok-items-2.items.items c.in_ok-items-2.ensures.items told.told)
 
 pub returns-clause-changed : goal.returns-clause-changed
@@ -117,5 +117,5 @@ returns-clause-changed g c = λ put.
     let told = put-told put c.in_ok-items.items.items c.in_ok-items.ensures.items in
     c.of.ensures ∙ c.in_ok-push.ensures.items
     ∙ ap (λ xs. xs ++ c.args.k ∷ [])
-    (changed-of c.args.base _ c.args.survey.now.lines.items _ c.args.users.now c.in_ok-items.items.items c.rows-rows.ensures.base (c.rows-rows.ensures.lines ∙ c.in_column-lines.ensures ∙ c.deref.ensures.value)
+    (changed-of c.args.base _ c.args.survey.now.lines.items _ c.args.users.now c.in_ok-items.items.items c.rows-rows.ensures.base (c.rows-rows.ensures.lines ∙ c.in_column-lines.ensures ∙ c.as_slice.ensures)
     c.users_renewed.new.changed.items c.in_ok-items-2.ensures.changed told.told ∙ told.recoded)

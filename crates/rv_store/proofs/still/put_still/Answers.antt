@@ -4,7 +4,7 @@ use Rattle.rv_store.specs.internal.Appended.{AreSymbols}
 use Rattle.rv_program.specs.declared.item.Item.{Item}
 use Rattle.rv_program.specs.Codes.{code_at}
 use Rattle.rv_program.specs.internal.Items.{AreItems}
-use Rattle.rv_program.specs.Program.{program_of, body_at, lines_that}
+use Rattle.rv_program.specs.Program.{program_of, lines_that}
 use Rattle.rv_store.specs.declared.still.Still.{Still}
 use Rattle.rv_store.specs.internal.StillLines.{IsStillLine}
 use Rattle.rv_store.specs.internal.Users.{is_recoded, ArePut, AreCountedPut}

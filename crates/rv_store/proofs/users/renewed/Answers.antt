@@ -1,4 +1,4 @@
-use Rattle.std.proofs.Common.{◌≡◌, ◌-◌, [], true≢false, length, arith, ap, sym, ◌∙◌, refl}
+use Rattle.std.proofs.Common.{◌-◌, [], true≢false, arith, ap, sym, ◌∙◌}
 use Rattle.std.proofs.lemmas.List.{get_or_default}
 use Rattle.rv_program.specs.internal.ValueRows.{body_in}
 use Rattle.rv_program.specs.lemmas.CountedLines.{value_operands-few}

@@ -1,4 +1,4 @@
-use Rattle.std.proofs.Common.{◌≡◌, ℕ, ◌+◌, ◌-◌, ◌≤◌, ◌*◌, ◌^◌, List, [], ◌∷◌, length, get_or, take, drop, arith, subst, sym}
+use Rattle.std.proofs.Common.{ℕ, ◌+◌, ◌-◌, ◌≤◌, ◌*◌, ◌^◌, List, ◌∷◌, length, get_or, take, drop, arith, subst, sym}
 use Rattle.rv_program.specs.declared.item.Item.{Item}
 use Rattle.rv_program.specs.Counted.{counts_of}
 use Rattle.rv_store.specs.internal.Users.{AreTold, AreThrough}

@@ -1,4 +1,4 @@
-use Rattle.std.proofs.Common.{◌≡◌, ◌≤◌, ℕ, length}
+use Rattle.std.proofs.Common.{ℕ, length}
 use Rattle.rv_program.specs.Counted.{counts_of}
 use Rattle.rv_program.specs.internal.ValueRows.{base_of}
 use Rattle.rv_store.specs.internal.Users.{AreTold, AreThrough, AreUsersCounted}

@@ -1,32 +1,28 @@
-use Rattle.std.proofs.Common.{◌≡◌, ◌+◌, ℕ, Bool, true, false, List, length, true≢false, arith, ap, sym, ◌∙◌}
-use Rattle.std.specs.List.{list_any}
-use Rattle.rv_program.specs.Program.{program_of, statement_at, body_at}
-use Rattle.rv_program.specs.Uses.{names_used}
-use Rattle.rv_program.specs.lemmas.LocalLines.{statement-of-line}
+use Rattle.std.proofs.Common.{◌≡◌, ◌≤◌, ◌<◌, ◌-◌, ℕ, Bool, false, length, take, drop, arith, ap, sym, ◌∙◌}
+use Rattle.rv_program.specs.Program.{program_of, body_at}
+use Rattle.rv_program.specs.internal.NameSets.{groups_together, has_group}
 use Rattle.rv_store.specs.internal.Apart.{added_by}
 use Rattle.rv_store.specs.internal.Still.{is_settled, uses_any}
-use Rattle.rv_store.proofs.ApartLines.{row-used, row-unused, with-next}
+use Rattle.rv_store.proofs.ApartLines.{block-unused, none-through, with-block}
 use Rattle.rv_store.proofs.apart.LineBehind.users.Goals as goal
-use Rattle.rv_store.proofs.apart.LineBehind.users.Goals.{then-is_used_on+else-is_settled+in-Ok, else-is_used_on}
 
-pub loop-i-preserved : goal.loop-i-preserved
-loop-i-preserved c =
+pub lines-preserved : goal.lines-preserved
+lines-preserved c =
     let lines = c.args.lines.now in
     let p = program_of lines in
     let behind = c.args.self.now in
-    let n = c.loop-i.i in
+    let begin = c.lines.begin in
+    let end = c.min-end.result in
     let test : ℕ → Bool = uses_any (added_by behind) p in
     let settled : ℕ → Bool = λ i. is_settled (body_at p i) in
-    let statement = statement-of-line lines n c.index-lines-i.result (omega (arith, c.loop-i-test.true)) c.index-lines-i.is in
-    let used : c.is_used_on.result ≡ test (n + 1) = c.is_used_on.ensures ∙ ap (λ s. list_any (added_by behind) (names_used s.body)) (sym statement) in
+    let last : end ≤ length lines = omega (arith, c.min-end.ensures) in
+    let up : begin ≤ end = omega (arith, c.min-end.ensures, c.lines-test.true) in
+    let unused : (i : ℕ) → begin < i → i ≤ end → test i ≡ false = block-unused lines behind c.args.added.now begin end last c.requires.added (λ bucket has.
+    ap (λ gs. has_group (groups_together (take (end - begin) (drop begin gs))) bucket) (sym c.requires.groups)
+    ∙ ap (λ g. has_group g bucket) (sym c.together.ensures)
+    ∙ c.meets.ensures c.if-meets.false bucket has) in
     record {
-      within = omega (arith, c.loop-i-test.true);
-      users = elim c.if-is_used_on.branch [
-        | then-is_used_on+else-is_settled+in-Ok w ↦ row-used test n c.loop-i.users.items _ c.loop-i.invariant.users (sym used ∙ w.if-is_used_on.true) (ap (λ v. v.items) w.users-is ∙ w.in-Ok.ensures.items)
-        | else-is_used_on w ↦ row-unused test n c.loop-i.users.items _ c.loop-i.invariant.users (sym used ∙ w.if-is_used_on.false) (ap (λ v. v.items) w.users-is)
-      ];
-      unsettled = with-next test settled n c.loop-i.invariant.unsettled (elim c.if-is_used_on.branch [
-        | then-is_used_on+else-is_settled+in-Ok w ↦ λ h. absurd (true≢false (sym h ∙ ap (λ s. is_settled s.body) statement ∙ sym w.is_settled.ensures ∙ w.if-is_settled.false))
-        | else-is_used_on w ↦ λ h. sym used ∙ w.if-is_used_on.false
-      ]);
+      within = last;
+      users = c.lines.invariant.users ∙ sym (none-through test begin end up unused);
+      unsettled = with-block test settled begin end c.lines.invariant.unsettled (λ i past within h. unused i past within);
     }

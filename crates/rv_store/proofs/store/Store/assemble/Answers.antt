@@ -20,7 +20,7 @@ invariant_of-self-in-Ok g c =
     let base = c.self.inside.base in
     let edit = edit_of c.args.edit.now in
     let former : List (List ℕ) = map (λ i. i.line) c.self.inside.items.items in
-    let lines : List (List ℕ) = c.edit_lines.new.lines.items in
+    let lines : List (List ℕ) = c.edit.new.self.items in
     let allowed : refusal_of former edit ≡ None = ap (λ t. refusal_of t.lines edit) c.self.view_is ∙ c.requires.allowed in
     let edited : lines ≡ lines_after former edit =
     c.in_ok-undo.ensures.lines ∙ ap (λ ls. lines_after ls (edit_of_read c.args.read)) c.self.invariant.listed ∙ ap (lines_after former) c.requires.read in

@@ -81,9 +81,9 @@ invariant_of-self c =
     c.in_ok-items.items.items c.len-k.result c.in_ok-items.ensures.items c.len-k.ensures.value
     c.remove_last.new.self (c.remove_last.ensures.lines base is)
     (c.remove_last.ensures.survey base is
-    (c.in_ok-line.ensures ∙ c.index.ensures
-    ∙ (λ i. get_or (is.whole i) (let place : c.len-k.result - 1 ≡ length c.requires.lines = omega (arith, c.len-k.ensures.value, count-items) in place i) c.index.result.now)
-    ∙ get_or-append_seam c.requires.lines c.requires.line [] c.index.result.now)
+    (c.in_ok-line.ensures ∙ c.index-as_slice-k.is
+    ∙ (λ i. get_or ((c.as_slice.ensures ∙ is.whole) i) (let place : c.len-k.result - 1 ≡ length c.requires.lines = omega (arith, c.len-k.ensures.value, count-items) in place i) c.index-as_slice-k.result)
+    ∙ get_or-append_seam c.requires.lines c.requires.line [] c.index-as_slice-k.result)
     (surveyed base names survey items c.self.invariant c.args.self.now c.self.view_is c.args.last.now c.requires))
 
 pub returns-clause-ok : goal.returns-clause-ok

@@ -24,7 +24,7 @@ pub returns-in_err-sized-clause-work : goal.returns-in_err-sized-clause-work
 returns-in_err-sized-clause-work g c =
     let count = g.C.Count.valued_count in
     let before = c.before-before.ensures in
-    let same = c.as_slice-lines.ensures.value in
+    let same = c.as_slice-lines.ensures in
     rw same at
     (survey_counted c.before-before.result c.args.base c.args.old.now c.as_slice-lines.result.now (edit_of c.args.edit.now) before.base before.lines before.edit (same ∙ c.requires.edited)
     (count c.args.counter.now) (count c.shapes.new.counter) (count c.shapes.new.counter) (count c.shapes.new.counter) c.shapes.ensures.work (omega arith) (omega arith))
@@ -33,7 +33,7 @@ pub returns-in_err-placed-clause-work : goal.returns-in_err-placed-clause-work
 returns-in_err-placed-clause-work g c =
     let count = g.C.Count.valued_count in
     let before = c.before-before.ensures in
-    let same = c.as_slice-lines.ensures.value in
+    let same = c.as_slice-lines.ensures in
     rw same at
     (survey_counted c.before-before.result c.args.base c.args.old.now c.as_slice-lines.result.now (edit_of c.args.edit.now) before.base before.lines before.edit (same ∙ c.requires.edited)
     (count c.args.counter.now) (count c.shapes.new.counter) (count c.shapes.new.counter) (count c.shapes.new.counter) c.shapes.ensures.work (omega arith) (omega arith))
@@ -63,7 +63,7 @@ after-requires-clause-parted g c = c.deref-4.ensures.value ∙ c.parted_shapes-p
 pub after-requires-clause-few : goal.after-requires-clause-few
 after-requires-clause-few g c =
     let count = length_of_shapes c.as_slice-lines.result.now c.in_ok-sized.sized.shapes.items c.in_ok-sized.ensures.shapes in
-    omega (arith, ap length c.deref-4.ensures.value, count, ap length c.as_slice-lines.ensures.value, c.requires.few)
+    omega (arith, ap length c.deref-4.ensures.value, count, ap length c.as_slice-lines.ensures, c.requires.few)
 
 pub by_rows-requires-clause-ends : goal.by_rows-requires-clause-ends
 by_rows-requires-clause-ends g c = c.in_ok-placed.ensures.ends ∙ ap ends_of c.deref-4.ensures.value
@@ -79,7 +79,7 @@ pub returns-in_err-locals-clause-work : goal.returns-in_err-locals-clause-work
 returns-in_err-locals-clause-work g c =
     let count = g.C.Count.valued_count in
     let before = c.before-before.ensures in
-    let same = c.as_slice-lines.ensures.value in
+    let same = c.as_slice-lines.ensures in
     rw same at
     (survey_counted c.before-before.result c.args.base c.args.old.now c.as_slice-lines.result.now (edit_of c.args.edit.now) before.base before.lines before.edit (same ∙ c.requires.edited)
     (count c.args.counter.now) (count c.shapes.new.counter) (count c.shapes.new.counter) (count c.shapes.new.counter) c.shapes.ensures.work (omega arith) (omega arith))
@@ -89,8 +89,8 @@ returns-clause-work g c =
     let count = g.C.Count.valued_count in
     let before = c.before-before.result in
     let lines = c.args.self.now.lines.items in
-    let shaped = subst (λ ls. count c.shapes.new.counter + shape_operands (edit_on before) ≤ count c.args.counter.now + work constant_operands (base_before before) (lines_before before) (edit_on before) (length ls)) c.as_slice-lines.ensures.value c.shapes.ensures.work in
-    let rest = subst (λ ls. count c.by_rows.new.counter ≤ count c.shapes.new.counter + operands_through equ_operands (program_of ls) (length ls) + work high_operands (base_before before) (lines_before before) (edit_on before) (length ls)) c.as_slice-lines.ensures.value c.by_rows.ensures.work in
+    let shaped = subst (λ ls. count c.shapes.new.counter + shape_operands (edit_on before) ≤ count c.args.counter.now + work constant_operands (base_before before) (lines_before before) (edit_on before) (length ls)) c.as_slice-lines.ensures c.shapes.ensures.work in
+    let rest = subst (λ ls. count c.by_rows.new.counter ≤ count c.shapes.new.counter + operands_through equ_operands (program_of ls) (length ls) + work high_operands (base_before before) (lines_before before) (edit_on before) (length ls)) c.as_slice-lines.ensures c.by_rows.ensures.work in
     survey_counted before c.args.base c.args.old.now lines (edit_of c.args.edit.now) c.before-before.ensures.base c.before-before.ensures.lines c.before-before.ensures.edit c.requires.edited
     (count c.args.counter.now) (count c.shapes.new.counter) (count c.shapes.new.counter + operands_through equ_operands (program_of lines) (length lines)) (count c.by_rows.new.counter) shaped (omega arith) rest
 

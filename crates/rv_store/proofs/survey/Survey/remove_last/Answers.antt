@@ -14,7 +14,7 @@ returns-clause-survey c base is named are =
     let forgotten = c.forget_last.new.self in
     let symbols = by_names c.args.last.now.defines refl in
     let place : c.len-place.result - 1 ≡ length is.lines =
-    omega (arith, c.len-place.ensures, forgotten.lines.ok.0, ap length c.forget_last.ensures.lines.lines, ap length is.whole, count-longer is.lines is.line) in
+    omega (arith, c.len-place.ensures, ap length c.forget_last.ensures.lines.lines, ap length is.whole, count-longer is.lines is.line) in
     survey-without is.still c.args.names.now c.args.self.now _ all
     (record { definitions = symbols.definitions; constants = symbols.constants; equ_values = symbols.equ_values })
     (c.truncate-2.ensures.items ∙ (λ i. take (place i) (c.forget_last.ensures.lines.shapes i)))

@@ -8,17 +8,17 @@ settle_constant-requires-clause-before g c =
     let all = c.args.self.now.lines.items in
     let names = c.args.names.now in
     let row = c.args.self.now.constants.items in
-    let count : c.len-last.result - 1 ≡ length all - 1 = omega (arith, c.len-last.ensures, c.args.self.now.lines.ok.0) in
-    subst (λ k. AreConstants (program_of c.deref.result.now) k names row) (sym count)
-    (subst (λ ls. AreConstants (program_of ls) (length all - 1) names row) (sym c.deref.ensures.value) c.requires.symbols.constants)
+    let count : c.len-last.result - 1 ≡ length all - 1 = omega (arith, c.len-last.ensures) in
+    subst (λ k. AreConstants (program_of c.as_slice.result.now) k names row) (sym count)
+    (subst (λ ls. AreConstants (program_of ls) (length all - 1) names row) (sym c.as_slice.ensures) c.requires.symbols.constants)
 
 pub settle_equ-requires-clause-before : goal.settle_equ-requires-clause-before
 settle_equ-requires-clause-before g c =
     let all = c.args.self.now.lines.items in
     let names = c.args.names.now in
     let row = c.args.self.now.equ_values.items in
-    let count : c.len-last.result - 1 ≡ length all - 1 = omega (arith, c.len-last.ensures, c.args.self.now.lines.ok.0) in
-    let lines = c.in_column-lines.ensures ∙ c.deref-3.ensures.value in
+    let count : c.len-last.result - 1 ≡ length all - 1 = omega (arith, c.len-last.ensures) in
+    let lines = c.in_column-lines.ensures ∙ c.as_slice-2.ensures in
     subst (λ k. AreEquValues c.args.base (program_of c.in_column-lines.result) k names row) (sym count)
     (subst (λ ls. AreEquValues c.args.base (program_of ls) (length all - 1) names row) (sym lines) c.requires.symbols.equ_values)
 
@@ -26,13 +26,13 @@ pub returns-clause-symbols : goal.returns-clause-symbols
 returns-clause-symbols g c =
     let all = c.args.self.now.lines.items in
     let names = c.args.names.now in
-    let lines = c.in_column-lines.ensures ∙ c.deref-3.ensures.value in
-    let last : c.len-last.result - 1 + 1 ≡ length all = omega (arith, c.len-last.ensures, c.args.self.now.lines.ok.0, c.requires.some) in
+    let lines = c.in_column-lines.ensures ∙ c.as_slice-2.ensures in
+    let last : c.len-last.result - 1 + 1 ≡ length all = omega (arith, c.len-last.ensures, c.requires.some) in
     record {
       definitions = c.requires.symbols.definitions;
       constants =
           subst (λ k. AreConstants (program_of all) k names c.settle_constant.new.row.items) last
-          (subst (λ ls. AreConstants (program_of ls) (c.len-last.result - 1 + 1) names c.settle_constant.new.row.items) c.deref.ensures.value c.settle_constant.ensures.after);
+          (subst (λ ls. AreConstants (program_of ls) (c.len-last.result - 1 + 1) names c.settle_constant.new.row.items) c.as_slice.ensures c.settle_constant.ensures.after);
       equ_values =
           subst (λ k. AreEquValues c.args.base (program_of all) k names c.settle_equ.new.row.items) last
           (subst (λ ls. AreEquValues c.args.base (program_of ls) (c.len-last.result - 1 + 1) names c.settle_equ.new.row.items) lines c.settle_equ.ensures.after);

@@ -26,7 +26,7 @@ pub returns-in_err-define_line-clause-part : goal.returns-in_err-define_line-cla
 returns-in_err-define_line-clause-part g c lines was =
     let line = c.args.line.now in
     let old = c.args.self.now in
-    let here = behind lines line old.lines.items c.len-number.result was.more (omega (arith, c.len-number.ensures, old.lines.ok.0)) in
+    let here = behind lines line old.lines.items c.len-number.result was.more (omega (arith, c.len-number.ensures)) in
     in_part-written c.args.base lines line was.last c.args.names.now c.define_line.new.names old _ c.define_line.ensures.names was.symbols refl refl
     (subst (λ k. HoldsPart c.define_line.new.names c.define_line.new.row.items k (in_row c.args.names.now old.definitions.items Nowhere)) here c.define_line.ensures.part)
 
@@ -34,7 +34,7 @@ pub returns-in_err-lengthen_rows-clause-part : goal.returns-in_err-lengthen_rows
 returns-in_err-lengthen_rows-clause-part g c lines was =
     let line = c.args.line.now in
     let old = c.args.self.now in
-    let here = behind lines line old.lines.items c.len-number.result was.more (omega (arith, c.len-number.ensures, old.lines.ok.0)) in
+    let here = behind lines line old.lines.items c.len-number.result was.more (omega (arith, c.len-number.ensures)) in
     in_part-waiting c.args.base lines line was.last c.define_line.new.names c.lengthen_rows.new.self
     (c.lengthen_rows.ensures.symbols c.args.base (program_of (lines ++ line ∷ [])) (length lines)
     (written c.args.base lines c.args.names.now c.define_line.new.names line c.len-number.result old _ was here c.define_line.ensures.names c.in_ok-define_line.ensures.row refl refl))
@@ -45,7 +45,7 @@ settle_last-requires-clause-symbols g c =
     let old = c.args.self.now in
     let lines = c.requires.unsettled.0 in
     let was = c.requires.unsettled.1 in
-    let here = behind lines line old.lines.items c.len-number.result was.more (omega (arith, c.len-number.ensures, old.lines.ok.0)) in
+    let here = behind lines line old.lines.items c.len-number.result was.more (omega (arith, c.len-number.ensures)) in
     let all : c.lengthen_rows.new.self.lines.items ≡ lines ++ line ∷ [] = c.lengthen_rows.ensures.lines.lines ∙ was.more in
     let count : length lines ≡ length c.lengthen_rows.new.self.lines.items - 1 = omega (arith, ap length all, count-longer lines line) in
     subst (λ k. AreSymbols c.args.base (program_of c.lengthen_rows.new.self.lines.items) k c.define_line.new.names c.lengthen_rows.new.self) count
@@ -66,7 +66,7 @@ returns-else-brief-clause-symbols g c =
     let old = c.args.self.now in
     let lines = c.requires.unsettled.0 in
     let was = c.requires.unsettled.1 in
-    let here = behind lines line old.lines.items c.len-number.result was.more (omega (arith, c.len-number.ensures, old.lines.ok.0)) in
+    let here = behind lines line old.lines.items c.len-number.result was.more (omega (arith, c.len-number.ensures)) in
     let equ : is_equ (statement_of line).body ≡ false = sym (ap (λ b. b.equ) c.brief.ensures) ∙ c.if-brief.false in
     of-all c.args.base lines c.define_line.new.names line old.lines.items _ was.more
     (symbols-no_equ c.args.base lines line was.last c.define_line.new.names _ equ
@@ -76,6 +76,6 @@ pub returns-else-brief-clause-part : goal.returns-else-brief-clause-part
 returns-else-brief-clause-part g c lines was =
     let line = c.args.line.now in
     let old = c.args.self.now in
-    let here = behind lines line old.lines.items c.len-number.result was.more (omega (arith, c.len-number.ensures, old.lines.ok.0)) in
+    let here = behind lines line old.lines.items c.len-number.result was.more (omega (arith, c.len-number.ensures)) in
     in_part-waiting c.args.base lines line was.last c.define_line.new.names _
     (written c.args.base lines c.args.names.now c.define_line.new.names line c.len-number.result old _ was here c.define_line.ensures.names c.in_ok-define_line.ensures.row refl refl)

@@ -1,0 +1,11 @@
+use Rattle.std.proofs.Common.{take, map, ap, sym, ◌∙◌}
+use Rattle.std.proofs.lemmas.List.{take-map}
+use Rattle.rv_store.specs.internal.Column.{groups_on}
+use Rattle.rv_store.proofs.column.Column.truncate.Goals as goal
+
+pub invariant_of-self : goal.invariant_of-self
+invariant_of-self c =
+    c.truncate-2.ensures.items
+    ∙ ap (take c.args.count) c.self.invariant
+    ∙ take-map groups_on c.args.count c.self.inside.lines.items
+    ∙ ap (map groups_on) (sym c.truncate.ensures.items)
