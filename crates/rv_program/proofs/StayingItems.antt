@@ -50,11 +50,11 @@ module _ (base : ℕ) (lines : List (List ℕ)) (edit : Edit) (k : ℕ) (item : 
       (subst (λ ls. IsItem base ls k item) (sym same_lines) (stays allowed first (subst (λ ls. k ≤ length ls) same_lines last) h))
 
   -- whether a line that stood somewhere is reencoded, by its item
-  pub stood-reencoded : (o : Option ℕ) (none : Bool) → o ≡ line_before_edit edit k → is_some o ≡ not none → none ≡ false → (values : LineValues) (shape : Measured) → values ≡ values_at base (program_after lines edit) k → shape ≡ shape_at (program_after lines edit) k → (same : Bool) → Decides same (values ≡ item.values.value) → (not same || not (same_shape shape item.shape)) ≡ is_reencoded base lines edit k
+  pub stood-reencoded : (o : Option ℕ) (none : Bool) → o ≡ line_before_edit edit k → is_some o ≡ not none → none ≡ false → (values : LineValues) (shape : Measured) → values ≡ values_at base (program_after lines edit) k → shape ≡ shape_at (program_after lines edit) k → (same : Bool) → Decides same (values ≡ item.values) → (not same || not (same_shape shape item.shape)) ≡ is_reencoded base lines edit k
   stood-reencoded o none here test stands values shape are is same decides =
       let (j, at) = stood_somewhere o none test stands in
       let kept : IsItem base lines j item = former.kept j (sym here ∙ at) in
-      let tested : same ≡ same_values values item.values.value = same_from_decides _ _ decides (same_values-Decides values item.values.value) in
+      let tested : same ≡ same_values values item.values = same_from_decides _ _ decides (same_values-Decides values item.values) in
       (λ i. not (tested i) || not (same_shape shape item.shape))
       ∙ (λ i. not (same_values (are i) (kept.values i)) || not (same_shape (is i) (kept.shape i)))
       ∙ sym (ap (is_new_or (differs_in_values base (program_of lines) (program_after lines edit) k)) (sym here ∙ at))

@@ -20,7 +20,6 @@ pub mod highs;
 mod invalidation;
 mod item;
 mod jumps;
-mod kept_code;
 mod laws;
 mod limits;
 mod line;

@@ -15,14 +15,12 @@ ghost use Rattle.rv_program.specs.internal.ValueRows.{AreValueRows, base_of};
 use crate::before::Before;
 use crate::edit_error::EditError;
 use crate::item::Item;
-use crate::kept_code::KeptCode;
 use crate::line_values::LineValues;
 use crate::text_lines::operands_are_few_on;
 use crate::value_rows::{ValueRows, shape_on};
 use rv_layout::Measured;
 use rv_text::Count;
 use std::alloc::{AllocError, Global};
-use std::rc::Rc;
 
 // Whether a line is new, or has other values or another shape than it had.
 fn is_reencoded(
@@ -77,8 +75,8 @@ pub fn renewed<C: Count>(
     Ok(Some(Item {
         line: former.line.share()?,
         shape,
-        values: Rc::new(alloc, values)?,
-        code: KeptCode::new(alloc, code)?,
+        values,
+        code,
     }))
 }
 
@@ -92,7 +90,7 @@ fn is_changed(before: &Before<'_, '_>, line: u32, former: &Item, item: &Item) ->
     if before.edit.line_before(line).is_none() {
         return true;
     }
-    !item.code.coded().is_same(former.code.coded())
+    !item.code.is_same(&former.code)
 }
 
 /// Adds a line to the changed ones if it is new or has another code than it had.

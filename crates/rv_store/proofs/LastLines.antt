@@ -252,7 +252,7 @@ module _ {base : ℕ} {lines : List (List ℕ)} {line : List ℕ} {there : Still
       subst (AreItems base lines) (sym (without-last items (length lines) few)) (record {
         lines = sym (take-map (λ i. i.line) (length lines) items) ∙ ap (take (length lines)) are.lines ∙ take-append_seam lines (line ∷ []);
         shapes = item-row (λ i. i.shape) (shape_at without) (shape_at whole) items (shape-still still) are.shapes;
-        values = item-row (λ i. i.values.value) (values_at base without) (values_at base whole) items (λ i there. values-still still i there (unused i there)) are.values;
+        values = item-row (λ i. i.values) (values_at base without) (values_at base whole) items (λ i there. values-still still i there (unused i there)) are.values;
         codes = item-row (λ i. i.code) (code_at base without) (code_at base whole) items (λ i there. code-still still i there (unused i there)) are.codes;
       })
 

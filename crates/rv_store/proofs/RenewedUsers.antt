@@ -193,8 +193,8 @@ module _ {base : ℕ} {text : List (List ℕ)} {told : List ℕ} {begun : List I
         ∙ at-for_lines (first_by n f g) (length text) (u - 1) (part former) (omega (arith, within, items-count))
         ∙ ap (first_by n f g) line ∙ by_other f g n u after
 
-    pub value-before : (former : Item) → slice_get items (u - 1) ≡ Some former → former.values.value ≡ given.valued u
-    value-before former there = part-there (λ i. i.values.value) value given.valued former there through.are.values
+    pub value-before : (former : Item) → slice_get items (u - 1) ≡ Some former → former.values ≡ given.valued u
+    value-before former there = part-there (λ i. i.values) value given.valued former there through.are.values
 
     code-before : (former : Item) → slice_get items (u - 1) ≡ Some former → former.code ≡ given.coded u
     code-before former there = part-there (λ i. i.code) code given.coded former there through.are.codes
@@ -238,7 +238,7 @@ module _ {base : ℕ} {text : List (List ℕ)} {told : List ℕ} {begun : List I
                 are = subst (AreItemsBy text (first_by u value given.valued) (first_by u code given.coded)) (sym put) (record {
                   lines = map-set (λ i. i.line) items (u - 1) item ∙ (λ j. set (are.lines j) (u - 1) (is.line j)) ∙ set-get_or text (u - 1) [];
                   shapes = map-set (λ i. i.shape) items (u - 1) item ∙ (λ j. set (are.shapes j) (u - 1) (is.shape j)) ∙ shapes-stay;
-                  values = map-set (λ i. i.values.value) items (u - 1) item ∙ ap (λ row. set row (u - 1) item.values.value) are.values ∙ row-set value given.valued n u (length text) item.values.value after user-last between is.values;
+                  values = map-set (λ i. i.values) items (u - 1) item ∙ ap (λ row. set row (u - 1) item.values) are.values ∙ row-set value given.valued n u (length text) item.values after user-last between is.values;
                   codes = map-set (λ i. i.code) items (u - 1) item ∙ ap (λ row. set row (u - 1) item.code) are.codes ∙ row-set code given.coded n u (length text) item.code after user-last code-between is.code;
                 });
                 listed = listed renewed.2 renewed.3 (cases_Bool (same_code (code u) (given.coded u)));
@@ -266,7 +266,7 @@ module _ {base : ℕ} {text : List (List ℕ)} {told : List ℕ} {begun : List I
     -- what it may take
     module _ (former : Item) (there : slice_get items (u - 1) ≡ Some former) (old middle new : Counts) (counted : AreUsersCounted base text told begun given n old middle) (parsed : new.parsed ≡ middle.parsed)
         (valued_least : middle.valued ≤ new.valued) (valued_most : new.valued ≤ middle.valued + value_operands (body_at (program_of text) u)) (valued_few : new.valued ≤ middle.valued + 1000)
-        (encoded_least : middle.encoded ≤ new.encoded) (encoded_most : new.encoded ≤ middle.encoded + 1) (unencoded : value u ≡ former.values.value → new.encoded ≡ middle.encoded) where
+        (encoded_least : middle.encoded ≤ new.encoded) (encoded_most : new.encoded ≤ middle.encoded + 1) (unencoded : value u ≡ former.values → new.encoded ≡ middle.encoded) where
       sum-here : sum_by (λ i. value_operands (body_at (program_of text) i)) (lines_that given.test u) ≡ sum_by (λ i. value_operands (body_at (program_of text) i)) (lines_that given.test n) + value_operands (body_at (program_of text) u)
       sum-here =
           ap (sum_by (λ i. value_operands (body_at (program_of text) i))) (next-passes given.test n u after next.between next.passes)

@@ -237,7 +237,7 @@ module _ {base : ℕ} (lines : List (List ℕ)) {k : ℕ} (line : List ℕ) {tou
         are = subst (AreItemsBy after values codes) (sym put.items) (record {
           lines = map-set_or_push (λ i. i.line) items (k - 1) item ∙ (λ j. set_or_push (are.lines j) (k - 1) (named j));
           shapes = part-still (λ i. i.shape) (shape_at p) (shape_at q) items item (λ i other. sym (shape-still is i other)) are.shapes put.is.shape;
-          values = part-still (λ i. i.values.value) (values_at base p) values items item (λ i other. sym (but_here (values_at base q) (values_at base p) i other.differs)) are.values (put.is.values ∙ sym (at_here (values_at base q) (values_at base p)));
+          values = part-still (λ i. i.values) (values_at base p) values items item (λ i other. sym (but_here (values_at base q) (values_at base p) i other.differs)) are.values (put.is.values ∙ sym (at_here (values_at base q) (values_at base p)));
           codes = part-still (λ i. i.code) (code_at base p) codes items item (λ i other. sym (but_here (code_at base q) (code_at base p) i other.differs)) are.codes (put.is.code ∙ sym (at_here (code_at base q) (code_at base p)));
         });
         others = λ i first before none.

@@ -46,7 +46,12 @@ fn item_of_line<C: Count>(
     let code = rows.code(alloc, line, &values, counter)?;
     let shape = shape_on(rows, line);
     let line = rows.symbols.text.lines.line(line);
-    Ok(Item::made(alloc, line, shape, values, code)?)
+    Ok(Item {
+        line: line.share()?,
+        shape,
+        values,
+        code,
+    })
 }
 
 // The items of a text with that of line `k`, which is made by the survey of the text: in the place of the one that was there, or

@@ -131,7 +131,7 @@ impl Store {
         ensures { option_map (λ c. c.now) result ≡ at_line self.now.lines k (code_at self.now.base (program_of self.now.lines) k) }
     {
         match self.items.get(k) {
-            Some(item) => Some(item.code.coded()),
+            Some(item) => Some(&item.code),
             None => None,
         }
     }
@@ -329,12 +329,12 @@ impl Store {
     {
         match edit {
             ReadEdit::Insert(k, line) => {
-                let item = Item::entered(self.alloc, line.share()?)?;
+                let item = Item::entered(line.share()?);
                 Ok(self.items.inserted(*k, item)?)
             }
             ReadEdit::Delete(k) => Ok(self.items.deleted(*k)?),
             ReadEdit::Replace(k, line) => {
-                let item = Item::entered(self.alloc, line.share()?)?;
+                let item = Item::entered(line.share()?);
                 Ok(self.items.replaced(*k, item)?)
             }
         }

@@ -39,7 +39,7 @@ fn renewed<C: Count>(
     ensures valued_few { C.valued_count counter.new ≤ C.valued_count counter.old + 1000 }
     ensures encoded_least { C.encoded_count counter.old ≤ C.encoded_count counter.new }
     ensures encoded_most { C.encoded_count counter.new ≤ C.encoded_count counter.old + 1 }
-    ensures unencoded { values_at (base_of rows.now) (program_of rows.now.symbols.text.lines.now) line ≡ former.now.values.value → C.encoded_count counter.new ≡ C.encoded_count counter.old }
+    ensures unencoded { values_at (base_of rows.now) (program_of rows.now.symbols.text.lines.now) line ≡ former.now.values → C.encoded_count counter.new ≡ C.encoded_count counter.old }
 {
     operands_are_few_on(&rows.symbols.text, line);
     let values = rows.values(alloc, line, counter)?;
@@ -47,12 +47,17 @@ fn renewed<C: Count>(
         return Ok(None);
     }
     let code = rows.code(alloc, line, &values, counter)?;
-    if !code.is_same(former.code.coded()) {
+    if !code.is_same(&former.code) {
         changed.push(line)?;
     }
     let shape = shape_on(rows, line);
     let line = rows.symbols.text.lines.line(line);
-    Ok(Some(Item::made(alloc, line, shape, values, code)?))
+    Ok(Some(Item {
+        line: line.share()?,
+        shape,
+        values,
+        code,
+    }))
 }
 
 // The items of a text with that of a line that uses a touched name, made anew where its values are others.
@@ -80,7 +85,7 @@ fn user_renewed<C: Count>(
     ensures encoded_least { C.encoded_count counter.old ≤ C.encoded_count counter.new }
     ensures encoded_most { C.encoded_count counter.new ≤ C.encoded_count counter.old + 1 }
     ensures unencoded { (former : Item) → slice_get items.items (line - 1) ≡ Some former
-        → values_at (base_of rows.now) (program_of rows.now.symbols.text.lines.now) line ≡ former.values.value → C.encoded_count counter.new ≡ C.encoded_count counter.old }
+        → values_at (base_of rows.now) (program_of rows.now.symbols.text.lines.now) line ≡ former.values → C.encoded_count counter.new ≡ C.encoded_count counter.old }
 {
     let Some(former) = items.get(line) else {
         unreachable!();

@@ -28,7 +28,7 @@ one_item_more base text k items item within are is =
           map-append (λ i. i.line) items (item ∷ []) ∙ ap (λ xs. xs ++ item.line ∷ []) are.lines
           ∙ ap (λ x. take k text ++ x ∷ []) (is.line ∙ ap (λ j. get_or text j []) place) ∙ sym (take_more text k [] within);
       shapes = one_more (λ i. i.shape) (shape_at (program_of text)) k items item are.shapes is.shape;
-      values = one_more (λ i. i.values.value) (values_at base (program_of text)) k items item are.values is.values;
+      values = one_more (λ i. i.values) (values_at base (program_of text)) k items item are.values is.values;
       codes = one_more (λ i. i.code) (code_at base (program_of text)) k items item are.codes is.code;
     }
 
@@ -58,6 +58,6 @@ item_of_line base text items i other are first last =
     record {
       line = sym (get_or-map (λ item. item.line) items (i - 1) other [] within) ∙ ap (λ ls. get_or ls (i - 1) []) are.lines;
       shape = part_of_line (λ item. item.shape) (shape_at (program_of text)) items i other (are.shapes ∙ ap (for_lines (shape_at (program_of text))) count) first there;
-      values = part_of_line (λ item. item.values.value) (values_at base (program_of text)) items i other (are.values ∙ ap (for_lines (values_at base (program_of text))) count) first there;
+      values = part_of_line (λ item. item.values) (values_at base (program_of text)) items i other (are.values ∙ ap (for_lines (values_at base (program_of text))) count) first there;
       code = part_of_line (λ item. item.code) (code_at base (program_of text)) items i other (are.codes ∙ ap (for_lines (code_at base (program_of text))) count) first there;
     }

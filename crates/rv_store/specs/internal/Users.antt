@@ -23,7 +23,7 @@ first_by n f g i = if nat_le i n then f i else g i
 pub record AreItemsBy (text : List (List ℕ)) (valued : ℕ → LineValues) (coded : ℕ → Coded) (items : List Item) : Type 0 where
   pub lines : map (λ i. i.line) items ≡ text
   pub shapes : map (λ i. i.shape) items ≡ for_lines (shape_at (program_of text)) (length text)
-  pub values : map (λ i. i.values.value) items ≡ for_lines valued (length text)
+  pub values : map (λ i. i.values) items ≡ for_lines valued (length text)
   pub codes : map (λ i. i.code) items ≡ for_lines coded (length text)
 
 -- a line has other values or another code than these
@@ -51,9 +51,9 @@ pub record AreTold (base : ℕ) (text : List (List ℕ)) (told : List ℕ) (item
 -- what becomes of its item: it stays where its values do, or is made anew
 abbrev pub IsRenewed : (base : ℕ) → (text : List (List ℕ)) → (line : ℕ) → (former : Item) → Option Item → (changed changed' : List ℕ) → Type 0
 IsRenewed base text line former None changed changed' =
-    (values_at base (program_of text) line ≡ former.values.value) × (changed' ≡ changed)
+    (values_at base (program_of text) line ≡ former.values) × (changed' ≡ changed)
 IsRenewed base text line former (Some item) changed changed' =
-    (values_at base (program_of text) line ≡ former.values.value → ⊥) × IsItem base text line item
+    (values_at base (program_of text) line ≡ former.values → ⊥) × IsItem base text line item
     × (code_at base (program_of text) line ≡ former.code → changed' ≡ changed)
     × ((code_at base (program_of text) line ≡ former.code → ⊥) → changed' ≡ changed ++ line ∷ [])
 

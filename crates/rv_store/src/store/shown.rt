@@ -66,7 +66,7 @@ impl LineSource for StoreLines<'_> {
             text: item.line.text(),
             stmt: item.line.stmt(),
             place: self.store.place(self.passed),
-            code: item.code.coded(),
+            code: &item.code,
         }
     }
 }
@@ -76,7 +76,7 @@ fn is_loud(item: &Item) -> bool
     ensures { result ≡ is_loud item.now }
 {
     let brief = item.line.brief();
-    brief.labels || brief.equ || item.code.is_faulty()
+    brief.labels || brief.equ || item.code.fault.is_some()
 }
 
 // Whether something in this place may be misplaced there: an instruction at an odd address, or bytes in `.bss`.

@@ -10,7 +10,7 @@ returns-then-not-is_same c =
     let before = c.args.before.now in
     let shape = c.args.shape in
     let old = c.args.former.now.shape in
-    let decides : Decides c.is_same.result (c.args.values.now ≡ c.args.former.now.values.value) = rw (← c.deref.ensures) c.is_same.ensures in
+    let decides : Decides c.is_same.result (c.args.values.now ≡ c.args.former.now.values) = c.is_same.ensures in
     let by_item =
     stood-reencoded (base_before before) (lines_before before) (edit_on before) c.args.line c.args.former.now c.requires.former c.line_before.result c.is_none.result
     c.line_before.ensures c.is_none.ensures c.if-is_none.false c.args.values.now shape c.requires.values c.requires.shape c.is_same.result decides in
@@ -22,7 +22,7 @@ returns-else-not-is_same c =
     let shape = c.args.shape in
     let old = c.args.former.now.shape in
     let differ : c.ne.result ≡ not (same_shape shape old) = c.ne.ensures in
-    let decides : Decides c.is_same.result (c.args.values.now ≡ c.args.former.now.values.value) = rw (← c.deref.ensures) c.is_same.ensures in
+    let decides : Decides c.is_same.result (c.args.values.now ≡ c.args.former.now.values) = c.is_same.ensures in
     let by_item =
     stood-reencoded (base_before before) (lines_before before) (edit_on before) c.args.line c.args.former.now c.requires.former c.line_before.result c.is_none.result
     c.line_before.ensures c.is_none.ensures c.if-is_none.false c.args.values.now shape c.requires.values c.requires.shape c.is_same.result decides in

@@ -46,24 +46,6 @@ returns-in_err-share-clause-counted g c =
     (sym c.is_reencoded.ensures ∙ c.if-not-is_reencoded.false)
     (count c.code.new.counter) c.code.ensures.parsed c.code.ensures.valued c.code.ensures.least c.code.ensures.most
 
-pub returns-in_err-new-clause-counted : goal.returns-in_err-new-clause-counted
-returns-in_err-new-clause-counted g c =
-    let count = counts_of g.C.Count.parsed_count g.C.Count.valued_count g.C.Count.encoded_count in
-    encoded_line c.args.before.now c.args.rows.now.symbols.text.lines.now c.requires.after.lines (c.args.line - 1) c.args.line (omega (arith, c.requires.first))
-    c.operands_are_few_on.ensures c.requires.invalidated
-    (count c.args.counter.now) (count c.values.new.counter) c.values.ensures.parsed c.values.ensures.least c.values.ensures.most c.values.ensures.encoded
-    (sym c.is_reencoded.ensures ∙ c.if-not-is_reencoded.false)
-    (count c.code.new.counter) c.code.ensures.parsed c.code.ensures.valued c.code.ensures.least c.code.ensures.most
-
-pub returns-in_err-new-2-clause-counted : goal.returns-in_err-new-2-clause-counted
-returns-in_err-new-2-clause-counted g c =
-    let count = counts_of g.C.Count.parsed_count g.C.Count.valued_count g.C.Count.encoded_count in
-    encoded_line c.args.before.now c.args.rows.now.symbols.text.lines.now c.requires.after.lines (c.args.line - 1) c.args.line (omega (arith, c.requires.first))
-    c.operands_are_few_on.ensures c.requires.invalidated
-    (count c.args.counter.now) (count c.values.new.counter) c.values.ensures.parsed c.values.ensures.least c.values.ensures.most c.values.ensures.encoded
-    (sym c.is_reencoded.ensures ∙ c.if-not-is_reencoded.false)
-    (count c.code.new.counter) c.code.ensures.parsed c.code.ensures.valued c.code.ensures.least c.code.ensures.most
-
 pub returns-clause-counted : goal.returns-clause-counted
 returns-clause-counted g c =
     let count = counts_of g.C.Count.parsed_count g.C.Count.valued_count g.C.Count.encoded_count in

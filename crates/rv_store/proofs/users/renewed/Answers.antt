@@ -7,20 +7,20 @@ use Rattle.rv_store.proofs.users.renewed.Goals.{then-not-is_same+in_ok-push, els
 
 pub returns-clause-renewed : goal.returns-clause-renewed
 returns-clause-renewed g c = (
-  λ same. true≢false (sym (c.is_same.ensures.1 (c.in_ok-values.ensures.values ∙ same ∙ sym c.deref.ensures)) ∙ c.if-is_same.false),
+  λ same. true≢false (sym (c.is_same.ensures.1 (c.in_ok-values.ensures.values ∙ same)) ∙ c.if-is_same.false),
   record {
-    line = c.in_ok-made.ensures.line ∙ c.line-line.ensures ∙ get_or_default c.args.rows.now.symbols.text.lines.now (c.args.line - 1) _ [] (omega (arith, c.requires.first, c.requires.last));
-    shape = c.in_ok-made.ensures.shape ∙ c.shape_on-shape.ensures;
-    values = c.in_ok-made.ensures.values ∙ c.in_ok-values.ensures.values;
-    code = c.in_ok-made.ensures.code ∙ c.in_ok-code.ensures.code;
+    line = c.in_ok-share.ensures ∙ c.line-line.ensures ∙ get_or_default c.args.rows.now.symbols.text.lines.now (c.args.line - 1) _ [] (omega (arith, c.requires.first, c.requires.last));
+    shape = c.shape_on-shape.ensures;
+    values = c.in_ok-values.ensures.values;
+    code = c.in_ok-code.ensures.code;
   },
   λ same. elim c.if-not-is_same.branch [
-    | then-not-is_same+in_ok-push w ↦ absurd (true≢false (sym (c.is_same-2.ensures.1 (c.in_ok-code.ensures.code ∙ same ∙ sym c.coded.ensures)) ∙ w.if-not-is_same.true))
+    | then-not-is_same+in_ok-push w ↦ absurd (true≢false (sym (c.is_same-2.ensures.1 (c.in_ok-code.ensures.code ∙ same)) ∙ w.if-not-is_same.true))
     | else-not-is_same w ↦ ap (λ v. v.items) w.changed-is
   ],
   λ differs. elim c.if-not-is_same.branch [
     | then-not-is_same+in_ok-push w ↦ ap (λ v. v.items) w.changed-is ∙ w.in_ok-push.ensures.items
-    | else-not-is_same w ↦ absurd (differs (sym c.in_ok-code.ensures.code ∙ c.is_same-2.ensures.0 w.if-not-is_same.false ∙ c.coded.ensures))
+    | else-not-is_same w ↦ absurd (differs (sym c.in_ok-code.ensures.code ∙ c.is_same-2.ensures.0 w.if-not-is_same.false))
   ],
 )
 

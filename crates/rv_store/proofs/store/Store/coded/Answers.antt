@@ -9,7 +9,7 @@ pub returns-in-Some : goal.returns-in-Some
 returns-in-Some c =
     let lines = c.args.self.now.lines in
     let coded : map (λ i. i.code) c.self.inside.items.items ≡ for_lines (code_at c.args.self.now.base (program_of lines)) (length lines) = rw (← c.self.view_is) c.self.invariant.assembled.codes in
-    rw c.coded.ensures (ap (option_map (λ i. i.code)) c.in-Some.ensures ∙ part_at_line lines (code_at c.args.self.now.base (program_of lines)) (λ i. i.code) c.self.inside.items.items c.args.k coded)
+    ap (option_map (λ i. i.code)) c.in-Some.ensures ∙ part_at_line lines (code_at c.args.self.now.base (program_of lines)) (λ i. i.code) c.self.inside.items.items c.args.k coded
 
 pub returns-in-None : goal.returns-in-None
 returns-in-None c =

@@ -11,7 +11,7 @@ returns-in_ok-inserted-in-Insert-clause-items c =
     let old = c.args.self.now in
     let view : map (λ i. i.line) c.self.inside.items.items ≡ old.lines = ap (λ t. t.lines) c.self.view_is in
     ap (map (λ i. i.line)) c.in_ok-inserted-in-Insert.ensures.items
-    ∙ lines-inserted old.lines c.in-Insert.k c.in-Insert.line c.self.inside.items.items c.in_ok-item-in-Insert.item view (c.in_ok-item-in-Insert.ensures ∙ c.in_ok-share-in-Insert.ensures)
+    ∙ lines-inserted old.lines c.in-Insert.k c.in-Insert.line c.self.inside.items.items c.entered-item.result view (c.entered-item.ensures ∙ c.in_ok-share-in-Insert.ensures)
     ∙ ap (λ e. lines_after old.lines (edit_of_read e)) (sym c.in-Insert.is)
 
 pub returns-in_ok-inserted-in-Insert-clause-former : goal.returns-in_ok-inserted-in-Insert-clause-former
@@ -22,7 +22,7 @@ returns-in_ok-inserted-in-Insert-clause-former c =
     let allowed : refusal_of old.lines (Insert c.in-Insert.k c.in-Insert.line) ≡ None = ap (λ e. refusal_of old.lines (edit_of_read e)) (sym c.in-Insert.is) ∙ c.requires.allowed in
     subst (λ e. AreFormer old.base old.lines (edit_of_read e) 0 c.in_ok-inserted-in-Insert.field-0.items) (sym c.in-Insert.is)
     (subst (AreFormer old.base old.lines (Insert c.in-Insert.k c.in-Insert.line) 0) (sym c.in_ok-inserted-in-Insert.ensures.items)
-    (former-inserted old.base old.lines c.in-Insert.k c.in-Insert.line items c.in_ok-item-in-Insert.item are allowed (c.in_ok-item-in-Insert.ensures ∙ c.in_ok-share-in-Insert.ensures)))
+    (former-inserted old.base old.lines c.in-Insert.k c.in-Insert.line items c.entered-item.result are allowed (c.entered-item.ensures ∙ c.in_ok-share-in-Insert.ensures)))
 
 pub returns-in_ok-deleted-in-Delete-clause-items : goal.returns-in_ok-deleted-in-Delete-clause-items
 returns-in_ok-deleted-in-Delete-clause-items c =
@@ -47,7 +47,7 @@ returns-in_ok-replaced-in-Replace-clause-items c =
     let old = c.args.self.now in
     let view : map (λ i. i.line) c.self.inside.items.items ≡ old.lines = ap (λ t. t.lines) c.self.view_is in
     ap (map (λ i. i.line)) c.in_ok-replaced-in-Replace.ensures.items
-    ∙ lines-replaced old.lines c.in-Replace.k c.in-Replace.line c.self.inside.items.items c.in_ok-item-in-Replace.item view (c.in_ok-item-in-Replace.ensures ∙ c.in_ok-share-in-Replace.ensures)
+    ∙ lines-replaced old.lines c.in-Replace.k c.in-Replace.line c.self.inside.items.items c.entered-item-in-Replace.result view (c.entered-item-in-Replace.ensures ∙ c.in_ok-share-in-Replace.ensures)
     ∙ ap (λ e. lines_after old.lines (edit_of_read e)) (sym c.in-Replace.is)
 
 pub returns-in_ok-replaced-in-Replace-clause-former : goal.returns-in_ok-replaced-in-Replace-clause-former
@@ -58,4 +58,4 @@ returns-in_ok-replaced-in-Replace-clause-former c =
     let allowed : refusal_of old.lines (Replace c.in-Replace.k c.in-Replace.line) ≡ None = ap (λ e. refusal_of old.lines (edit_of_read e)) (sym c.in-Replace.is) ∙ c.requires.allowed in
     subst (λ e. AreFormer old.base old.lines (edit_of_read e) 0 c.in_ok-replaced-in-Replace.field-0.items) (sym c.in-Replace.is)
     (subst (AreFormer old.base old.lines (Replace c.in-Replace.k c.in-Replace.line) 0) (sym c.in_ok-replaced-in-Replace.ensures.items)
-    (former-replaced old.base old.lines c.in-Replace.k c.in-Replace.line items c.in_ok-item-in-Replace.item are allowed (c.in_ok-item-in-Replace.ensures ∙ c.in_ok-share-in-Replace.ensures)))
+    (former-replaced old.base old.lines c.in-Replace.k c.in-Replace.line items c.entered-item-in-Replace.result are allowed (c.entered-item-in-Replace.ensures ∙ c.in_ok-share-in-Replace.ensures)))

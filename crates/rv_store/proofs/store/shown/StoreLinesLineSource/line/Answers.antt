@@ -23,4 +23,4 @@ returns-clause-value c =
     (c.text.ensures.text ∙ item.line)
     (c.stmt.ensures ∙ ap statement_of item.line ∙ stmt)
     c.place.ensures
-    (c.coded.ensures ∙ item.code))
+    item.code)
