@@ -17,6 +17,12 @@ inserted-removed [] i x within is = absurd (let no : i < 0 = within in omega (ar
 inserted-removed (y ∷ xs) zero x within is = ap (λ z. z ∷ xs) is
 inserted-removed (y ∷ xs) (suc i) x within is = ap (λ ys. y ∷ ys) (inserted-removed xs i x (let w : suc i < suc (length xs) = within in omega (arith, w)) is)
 
+-- what is there already
+pub set-same : {A : Type 0} (xs : List A) (i : ℕ) (a : A) → a ≡ get_or xs i a → set xs i a ≡ xs
+set-same [] i a h = refl
+set-same (x ∷ xs) zero a h = ap (λ y. y ∷ xs) h
+set-same (x ∷ xs) (suc i) a h = ap (λ ys. x ∷ ys) (set-same xs i a h)
+
 -- what was there is put back
 pub set-back : {A : Type 0} (xs : List A) (i : ℕ) (a b : A) → b ≡ get_or xs i b → set (set xs i a) i b ≡ xs
 set-back [] i a b h = refl

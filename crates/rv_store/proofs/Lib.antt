@@ -21,10 +21,7 @@ pub mod LastDefinitions
 pub mod LastLines
 pub mod LongerPrograms
 pub mod LongerTexts
-pub mod MovedPlaces
-pub mod PartedShapes
 pub mod PassedItems
-pub mod PlacesAfter
 pub mod QuietLines
 pub mod RememberedNames
 pub mod RenewedUsers

@@ -17,7 +17,7 @@ use Rattle.rv_store.specs.internal.Still.{IsStill}
 use Rattle.rv_store.specs.internal.Column.{taken_back}
 use Rattle.rv_store.specs.internal.StillLines.{IsStillLine, AreLinesPut, MayBePut, ArePartlyPut, IsAt, MayWait}
 use Rattle.rv_store.specs.internal.Surveys.{IsSurvey}
-use Rattle.rv_store.proofs.Columns.{set-back}
+use Rattle.rv_store.proofs.Columns.{set-back, set-same}
 use Rattle.rv_program.specs.lemmas.Programs.{length-for_lines, length-program}
 use Rattle.rv_store.proofs.StillLaws.{shape-still, locals-still, highs-still, paired_highs-still}
 use Rattle.rv_store.proofs.StillTexts.{set-set_or_push, end-set_or_push, row-still, symbols-still}
@@ -28,11 +28,6 @@ in_any_error (Ok x) q = tt
 in_any_error (Err e) q = q
 
 -- Rows with something in place, and without it
-
-set-same : {A : Type 0} (xs : List A) (i : ℕ) (a : A) → a ≡ get_or xs i a → set xs i a ≡ xs
-set-same [] i a h = refl
-set-same (x ∷ xs) zero a h = ap (λ y. y ∷ xs) h
-set-same (x ∷ xs) (suc i) a h = ap (λ ys. x ∷ ys) (set-same xs i a h)
 
 pub back : {A : Type 0} (old new : List A) (place : ℕ) (former : Option A) → MayBePut place old new → IsAt old place former → taken_back new place former ≡ old
 back old new place None (inl same) end = ap (take place) same ∙ take_all place old (omega (arith, end))

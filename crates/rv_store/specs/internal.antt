@@ -9,7 +9,6 @@ pub mod Ends
 pub mod Forgetting
 pub mod FormerShapes
 pub mod KeptConstants
-pub mod MovedPlaces
 pub mod Passed
 pub mod Still
 pub mod StillLines

@@ -3,12 +3,10 @@
 ghost use Rattle.std.specs.Prelude.{◌≡◌, ◌≤◌, ◌^◌, []};
 ghost use Rattle.rv_layout.specs.Places.{size_at, IsLimited};
 ghost use Rattle.rv_store.specs.internal.Ends.{ends_of, next_offset, ends_after, ends_before};
-ghost use Rattle.rv_store.specs.internal.MovedPlaces.{ends_moved};
 
 use rv_layout::{Measured, SECTIONS, section_number};
 use rv_list::LinePlace;
 use rv_stmt::Sect;
-use std::array;
 
 /// After some lines of a text: the section of the next one, and the offset at which each section ends.
 #[derive(Clone, Copy)]
@@ -54,16 +52,6 @@ impl Ends {
         ensures { result ≡ size_at (next_offset self.now) shape.now }
     {
         size_at(self.next_offset(), shape)
-    }
-
-    /// The same as the sections are displaced there, each by its number in `by`, which counts modulo 2 ^ 32.
-    pub fn displaced(&self, by: &[u32; SECTIONS]) -> Ends
-        ensures { result ≡ ends_moved self.now by.now }
-    {
-        Ends {
-            section: self.section,
-            offsets: array::from_fn(|section| self.offsets[section].wrapping_add(by[section])),
-        }
     }
 
     /// Those before a line that lies there, where these are behind it.

@@ -1,6 +1,6 @@
 //! The shapes of the lines of a text, with its constants.
 
-ghost use Rattle.std.specs.Prelude.{◌≡◌, ◌≤◌, ◌<◌, ◌+◌, ◌*◌, ◌-◌, ◌^◌, ◌&&◌, ◌||◌, true, false, length, get_or, set, IfOk};
+ghost use Rattle.std.specs.Prelude.{◌≡◌, ◌≤◌, ◌<◌, ◌+◌, ◌*◌, ◌-◌, ◌^◌, ◌&&◌, ◌||◌, true, false, length, get_or, set, IfOk, IsTrue};
 ghost use Rattle.std.specs.List.{list_any};
 ghost use Rattle.rv_stmt.specs.Statement.{statement_of};
 ghost use Rattle.rv_layout.specs.Places.{IsLimited, AreLimited};
@@ -34,8 +34,8 @@ use std::alloc::{AllocError, Global};
 pub struct ShapeRows {
     pub shapes: Vec<Measured>,
     pub constants: Vec<Option<i64>>,
-    /// The shapes are known to be those before an edit, but for the line that it puts in.
-    pub kept: bool,
+    /// The shapes are known to be those before an edit.
+    pub same: bool,
 }
 
 // The constants on a line of a text after an edit, and the line that it was before it.
@@ -149,6 +149,17 @@ fn former_shapes(
     Ok(row)
 }
 
+// Whether an edit puts a line in the place of another one of its shape, so that the shapes stay.
+fn keeps_shape(before: &Before<'_, '_>, shape: &Measured) -> bool
+    requires { IsBefore before.now }
+    ensures { IsTrue result → former_shapes before.now.shapes.now (edit_on before.now) shape.now ≡ before.now.shapes.now }
+{
+    match before.edit {
+        LineEdit::Replace(k, _) => before.shapes[k as usize - 1] == *shape,
+        LineEdit::Insert(_, _) | LineEdit::Delete(_) => false,
+    }
+}
+
 // Whether a line has a part in the constants: its shape may follow from them, or it may define one. Its statement is not looked at.
 fn has_part(line: &Line) -> bool
     ensures { result ≡ (is_sized (statement_of line.now).body || is_equ (statement_of line.now).body) }
@@ -181,7 +192,7 @@ fn settle_line<C: Count>(
     ensures shapes { rows.new.shapes.items ≡ set rows.old.shapes.items i (shape_at (program_of lines.now) (i + 1)) }
     ensures constants { AreConstants (program_of lines.now) (i + 1) names.now rows.new.constants.items }
     ensures as_many { length rows.new.constants.items ≡ length definitions.now }
-    ensures kept { rows.new.kept ≡ rows.old.kept }
+    ensures same { rows.new.same ≡ rows.old.same }
     ensures least { C.valued_count counter.old ≤ C.valued_count counter.new }
     ensures two { C.valued_count counter.new ≤ C.valued_count counter.old + 2 }
     ensures work { C.valued_count counter.new + work size_operands (base_before before.now) (lines_before before.now) (edit_on before.now) i + shape_operands_through (edit_on before.now) (i + 1)
@@ -217,7 +228,7 @@ fn settled_shapes<C: Count>(
     requires valued { C.valued_count counter.old ≤ 2 ^ 63 + 1 }
     ensures shapes { IfOk result (λ r. AreShapes (program_of lines.now) r.shapes.items) }
     ensures limited { IfOk result (λ r. AreLimited r.shapes.items) }
-    ensures kept { IfOk result (λ r. r.kept ≡ true → r.shapes.items ≡ former_shapes before.now.shapes.now (edit_on before.now) shape) }
+    ensures same { IfOk result (λ r. r.same ≡ true → r.shapes.items ≡ before.now.shapes.now) }
     ensures constants { IfOk result (λ r. AreConstants (program_of lines.now) (length lines.now) before.now.symbols.text.names.now r.constants.items) }
     ensures least { C.valued_count counter.old ≤ C.valued_count counter.new }
     ensures most { C.valued_count counter.new ≤ C.valued_count counter.old + 2 * length lines.now }
@@ -232,7 +243,7 @@ fn settled_shapes<C: Count>(
     let mut rows = ShapeRows {
         shapes,
         constants,
-        kept: false,
+        same: false,
     };
     for i in 0..lines.len() {
         lines[i].data_are_few();
@@ -257,15 +268,16 @@ fn kept_shapes(
     requires kept { edits_constants (lines_before before.now) (edit_on before.now) ≡ false }
     ensures shapes { IfOk result (λ r. AreShapes (program_of lines.now) r.shapes.items) }
     ensures limited { IfOk result (λ r. AreLimited r.shapes.items) }
-    ensures kept { IfOk result (λ r. r.kept ≡ true → r.shapes.items ≡ former_shapes before.now.shapes.now (edit_on before.now) shape) }
+    ensures same { IfOk result (λ r. r.same ≡ true → r.shapes.items ≡ before.now.shapes.now) }
     ensures constants { IfOk result (λ r. AreConstants (program_of lines.now) (length lines.now) before.now.symbols.text.names.now r.constants.items) }
 {
+    let same = keeps_shape(before, &shape);
     let shapes = former_shapes(alloc, before, lines.len(), shape)?;
     let constants = Vec::from_slice(alloc, before.symbols.constants)?;
     Ok(ShapeRows {
         shapes,
         constants,
-        kept: true,
+        same,
     })
 }
 
@@ -291,7 +303,7 @@ pub fn shapes<C: Count>(
     requires valued { C.valued_count counter.old ≤ 2 ^ 63 + 1 }
     ensures shapes { IfOk result (λ r. AreShapes (program_of lines.now) r.shapes.items) }
     ensures limited { IfOk result (λ r. AreLimited r.shapes.items) }
-    ensures kept { IfOk result (λ r. r.kept ≡ true → r.shapes.items ≡ former_shapes before.now.shapes.now (edit_on before.now) shape) }
+    ensures same { IfOk result (λ r. r.same ≡ true → r.shapes.items ≡ before.now.shapes.now) }
     ensures constants { IfOk result (λ r. AreConstants (program_of lines.now) (length lines.now) before.now.symbols.text.names.now r.constants.items) }
     ensures least { C.valued_count counter.old ≤ C.valued_count counter.new }
     ensures most { C.valued_count counter.new ≤ C.valued_count counter.old + 2 * length lines.now }

@@ -1,14 +1,11 @@
 //! What is kept of the lines of a text.
 
 ghost use Rattle.std.specs.Prelude.{◌≡◌, ℕ, ◌≤◌, ◌<◌, ◌+◌, ◌*◌, ◌^◌, ◌++◌, List, [], None, length, true, IfOk};
-ghost use Rattle.rv_layout.specs.declared.measured.Measured.{Measured};
 ghost use Rattle.rv_layout.specs.Places.{section_base_of, section_end_of, IsLimited, AreLimited, is_base};
 ghost use Rattle.rv_layout.specs.Sections.{sections};
 ghost use Rattle.rv_program.specs.internal.Before.{IsBefore, base_before, lines_before, edit_on};
-ghost use Rattle.rv_store.specs.internal.Column.{HasPlace};
 ghost use Rattle.rv_program.specs.Edits.{edit_of};
 ghost use Rattle.rv_store.specs.internal.Ends.{ends_of, place_by_shapes};
-ghost use Rattle.rv_store.specs.internal.FormerShapes.{former_shapes};
 ghost use Rattle.rv_program.specs.internal.NewShapes.{IsNewShape, shape_operands};
 ghost use Rattle.rv_program.specs.Program.{program_of, for_lines};
 ghost use Rattle.rv_program.specs.internal.Rows.{Grows, AreDefinitions, AreConstants, AreShapes, AreLocals};
@@ -20,9 +17,7 @@ ghost use Rattle.rv_program.specs.internal.Work.{equ_operands, high_operands, su
 
 use crate::column::Column;
 use crate::ends::Ends;
-use crate::parted_shapes::PartedShapes;
 use crate::places::Placed;
-use crate::places_after::PlacedBefore;
 use crate::section_bases::bases;
 use crate::shapes::{ShapeRows, shapes};
 use rv_fix::Entry;
@@ -39,26 +34,35 @@ use rv_program::{
 use rv_text::Count;
 use std::alloc::{AllocError, Global};
 
-// The shapes before an edit and after it, apart.
-fn parted_shapes<'a>(
-    before: &'a [Measured],
-    sized: &'a ShapeRows,
-    edit: &LineEdit<'_>,
-) -> PartedShapes<'a>
-    requires place { (lines : List (List ℕ)) × (length lines ≡ length before.now) × HasPlace lines (edit_of edit.now) }
-    requires edited { sized.now.kept ≡ true → (shape : Measured) × (sized.now.shapes.items ≡ former_shapes before.now (edit_of edit.now) shape) }
-    ensures before { before.now ≡ result.first.now ++ result.former.now ++ result.rest.now }
-    ensures after { sized.now.shapes.items ≡ result.first.now ++ result.middle.now ++ result.rest.now }
+// Where lines of these shapes lie. Where the shapes are those before an edit, they lie where they lay, and the sections end where they
+// ended.
+fn placed(
+    alloc: Global,
+    base: u32,
+    sized: &ShapeRows,
+    ends: &Ends,
+    places: &[LinePlace],
+) -> Result<Placed, AllocError>
+    requires base { is_base base ≡ true }
+    requires few { length sized.now.shapes.items ≤ MAX_LINES }
+    requires limited { AreLimited sized.now.shapes.items }
+    requires ends { sized.now.same ≡ true → ends.now ≡ ends_of sized.now.shapes.items }
+    requires places { sized.now.same ≡ true → places.now ≡ for_lines (place_by_shapes base sized.now.shapes.items) (length sized.now.shapes.items) }
+    ensures ends { IfOk result (λ p. p.ends ≡ ends_of sized.now.shapes.items) }
+    ensures places { IfOk result (λ p. p.places.items ≡ for_lines (place_by_shapes base sized.now.shapes.items) (length sized.now.shapes.items)) }
 {
-    if sized.kept {
-        return PartedShapes::of_edit(before, &sized.shapes, edit);
+    if !sized.same {
+        return Placed::of(alloc, base, &sized.shapes);
     }
-    PartedShapes::of(before, &sized.shapes)
+    Ok(Placed {
+        ends: *ends,
+        places: Vec::from_slice(alloc, places)?,
+    })
 }
 
 /// What the lines of a text say, in rows: one value for each name, by its number, or one for each line. An edit that goes over the
-/// lines makes them anew from the first line on. But definitions move with the lines, a line keeps its shape where no constant changes it,
-/// and lines lie where they lay or move with their section, unless one begins elsewhere.
+/// lines makes them anew from the first line on. But definitions and local labels move with the lines, and a line keeps its shape where no
+/// constant changes it.
 pub struct Survey {
     /// The lines.
     pub lines: Column,
@@ -157,8 +161,7 @@ impl Survey {
         let definitions = definitions_after(alloc, &self.definitions, old, lines, edit, names)?;
         let before = self.before(old, base, names, edit);
         let sized = shapes(alloc, &before, lines, &definitions, shape, counter)?;
-        let parted = parted_shapes(&self.shapes, &sized, edit);
-        let placed = Placed::after(alloc, base, &self.placed(), &sized.shapes, &parted)?;
+        let placed = placed(alloc, base, &sized, &self.ends, &self.places)?;
         let locals = locals_after(alloc, &before, lines)?;
         Survey::by_rows(
             alloc,
@@ -235,19 +238,6 @@ impl Survey {
             highs,
             paired_highs,
         })
-    }
-
-    // The lines and where they lie.
-    fn placed(&self) -> PlacedBefore<'_>
-        ensures shapes { result.shapes.now ≡ self.now.shapes.items }
-        ensures places { result.places.now ≡ self.now.places.items }
-        ensures ends { result.ends.now ≡ self.now.ends }
-    {
-        PlacedBefore {
-            shapes: &self.shapes,
-            places: &self.places,
-            ends: &self.ends,
-        }
     }
 
     // The text of these lines with what its symbols are.

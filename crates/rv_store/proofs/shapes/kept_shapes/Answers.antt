@@ -21,3 +21,6 @@ returns-clause-constants c =
     let lines = c.args.lines.now in
     subst (λ row. AreConstants (program_of lines) (length lines) before.symbols.text.names.now row) (sym c.in_ok-constants.ensures.items)
     (constants-are before c.requires.before lines c.requires.after c.requires.kept)
+
+pub returns-clause-same : goal.returns-clause-same
+returns-clause-same c = λ same. c.in_ok-shapes.ensures ∙ c.keeps_shape-same.ensures same

@@ -29,7 +29,7 @@ loop-i-init g c =
       limited = tt;
       constants = rw none (constants-none (program_of c.args.lines.now) c.args.before.now.symbols.text.names.now (length c.args.definitions.now) c.requires.definitions.within);
       as_many = rw none (length-replicate (length c.args.definitions.now) None);
-      kept = refl;
+      same = refl;
       least = omega arith;
       most = omega arith;
       work = omega (arith, through-start (lines_before c.args.before.now) (edit_on c.args.before.now) c.requires.before.allowed);
@@ -94,7 +94,7 @@ loop-i-preserved g c =
             limited = limited-next program i so_far.limited limited;
             constants = subst (λ r. AreConstants program (i + 1) c.args.before.now.symbols.text.names.now r.constants.items) (sym w.rows-is) settled.constants;
             as_many = ap (λ r. length r.constants.items) w.rows-is ∙ settled.as_many;
-            kept = ap (λ r. r.kept) w.rows-is ∙ settled.kept ∙ so_far.kept;
+            same = ap (λ r. r.same) w.rows-is ∙ settled.same ∙ so_far.same;
             least = omega (arith, so_far.least, settled.least, counter);
             most = omega (arith, so_far.most, settled.two, counter);
             work = omega (arith, so_far.work, settled.work, operands, same, same', counter);
@@ -114,7 +114,7 @@ loop-i-preserved g c =
             limited = limited-next program i so_far.limited limited;
             constants = constants-stay lines i here.result c.args.before.now.symbols.text.names.now c.if-has_part.rows.constants.items c.loop-i-test.true here.is none.1 (subst (λ r. AreConstants program i c.args.before.now.symbols.text.names.now r.constants.items) (sym w.rows-is) so_far.constants);
             as_many = ap (λ r. length r.constants.items) w.rows-is ∙ so_far.as_many;
-            kept = ap (λ r. r.kept) w.rows-is ∙ so_far.kept;
+            same = ap (λ r. r.same) w.rows-is ∙ so_far.same;
             least = omega (arith, so_far.least, counter);
             most = omega (arith, so_far.most, counter);
             work = omega (arith, so_far.work, part, operands, same, same', counter);
@@ -177,5 +177,5 @@ returns-in_err-shapes-clause-work g c =
     let before = c.args.before.now in
     omega (arith, nothing-shaped (base_before before) (lines_before before) (edit_on before) c.requires.before.allowed (length c.args.lines.now) (ap length c.requires.after))
 
-pub returns-clause-kept : goal.returns-clause-kept
-returns-clause-kept g c = λ kept. absurd (true≢false (sym kept ∙ c.loop-i.invariant.kept))
+pub returns-clause-same : goal.returns-clause-same
+returns-clause-same g c = λ same. absurd (true≢false (sym same ∙ c.loop-i.invariant.same))

@@ -19,7 +19,7 @@ invariant-loop-i g l = record {
   limited : AreLimited (for_lines (shape_at (program_of l.lines)) l.i);
   constants : AreConstants (program_of l.lines) l.i l.before.symbols.text.names.now l.rows.constants.items;
   as_many : length l.rows.constants.items ≡ length l.definitions;
-  kept : l.rows.kept ≡ false;
+  same : l.rows.same ≡ false;
   least : g.C.Count.valued_count l.initial.counter ≤ g.C.Count.valued_count l.counter;
   most : g.C.Count.valued_count l.counter ≤ g.C.Count.valued_count l.initial.counter + 2 * l.i;
   work : g.C.Count.valued_count l.counter + shape_operands_through (edit_on l.before) l.i ≤ g.C.Count.valued_count l.initial.counter

@@ -6,7 +6,6 @@ use Rattle.rv_store.specs.internal.Ends.{ends_of, place_by_shapes}
 use Rattle.rv_program.specs.internal.NewShapes.{IsNewShape, shape_operands}
 use Rattle.rv_program.specs.Program.{program_of, for_lines}
 use Rattle.rv_program.specs.internal.Work.{equ_operands, constant_operands, high_operands, operands_through, work}
-use Rattle.rv_store.proofs.Columns.{has_place}
 use Rattle.rv_store.proofs.Stores.{survey_grown}
 use Rattle.rv_program.specs.lemmas.SurveyWork.{survey_counted}
 use Rattle.rv_program.specs.lemmas.ShapeWork.{nothing-surveyed}
@@ -38,41 +37,28 @@ returns-in_err-placed-clause-work g c =
     (survey_counted c.before-before.result c.args.base c.args.old.now c.as_slice-lines.result.now (edit_of c.args.edit.now) before.base before.lines before.edit (same ∙ c.requires.edited)
     (count c.args.counter.now) (count c.shapes.new.counter) (count c.shapes.new.counter) (count c.shapes.new.counter) c.shapes.ensures.work (omega arith) (omega arith))
 
-pub after-requires-clause-few_before : goal.after-requires-clause-few_before
-after-requires-clause-few_before g c =
-    omega (arith, ap length c.placed.ensures.shapes, length_of_shapes c.args.old.now c.args.self.now.shapes.items c.requires.old.shapes, c.requires.old_few)
-
-pub after-requires-clause-limited_before : goal.after-requires-clause-limited_before
-after-requires-clause-limited_before g c = subst AreLimited (sym c.placed.ensures.shapes) c.requires.old.limited
-
-pub after-requires-clause-ends_before : goal.after-requires-clause-ends_before
-after-requires-clause-ends_before g c = c.placed.ensures.ends ∙ c.requires.old.ends ∙ ap ends_of (sym c.placed.ensures.shapes)
-
-pub after-requires-clause-places_before : goal.after-requires-clause-places_before
-after-requires-clause-places_before g c =
-    c.placed.ensures.places
-    ∙ unplaced c.args.base (program_of c.args.old.now) c.args.self.now.shapes.items c.args.self.now.places.items c.requires.old.shapes c.requires.old.places
-    ∙ ap (λ ms. for_lines (place_by_shapes c.args.base ms) (length ms)) (sym c.placed.ensures.shapes)
-
-pub after-requires-clause-parted_before : goal.after-requires-clause-parted_before
-after-requires-clause-parted_before g c = c.placed.ensures.shapes ∙ sym c.deref-3.ensures.value ∙ c.parted_shapes-parted.ensures.before
-
-pub after-requires-clause-parted : goal.after-requires-clause-parted
-after-requires-clause-parted g c = c.deref-4.ensures.value ∙ c.parted_shapes-parted.ensures.after
-
-pub after-requires-clause-few : goal.after-requires-clause-few
-after-requires-clause-few g c =
+pub placed-requires-clause-few : goal.placed-requires-clause-few
+placed-requires-clause-few g c =
     let count = length_of_shapes c.as_slice-lines.result.now c.in_ok-sized.sized.shapes.items c.in_ok-sized.ensures.shapes in
-    omega (arith, ap length c.deref-4.ensures.value, count, ap length c.as_slice-lines.ensures, c.requires.few)
+    omega (arith, count, ap length c.as_slice-lines.ensures, c.requires.few)
+
+pub placed-requires-clause-ends : goal.placed-requires-clause-ends
+placed-requires-clause-ends g c = λ same.
+    c.requires.old.ends ∙ ap ends_of (sym (c.in_ok-sized.ensures.same same ∙ c.before-before.ensures.shapes))
+
+pub placed-requires-clause-places : goal.placed-requires-clause-places
+placed-requires-clause-places g c = λ same.
+    c.deref-3.ensures.value
+    ∙ unplaced c.args.base (program_of c.args.old.now) c.args.self.now.shapes.items c.args.self.now.places.items c.requires.old.shapes c.requires.old.places
+    ∙ ap (λ ms. for_lines (place_by_shapes c.args.base ms) (length ms)) (sym (c.in_ok-sized.ensures.same same ∙ c.before-before.ensures.shapes))
 
 pub by_rows-requires-clause-ends : goal.by_rows-requires-clause-ends
-by_rows-requires-clause-ends g c = c.in_ok-placed.ensures.ends ∙ ap ends_of c.deref-4.ensures.value
+by_rows-requires-clause-ends g c = c.in_ok-placed.ensures.ends
 
 pub by_rows-requires-clause-places : goal.by_rows-requires-clause-places
 by_rows-requires-clause-places g c =
     let shapes = c.in_ok-sized.sized.shapes.items in
     c.in_ok-placed.ensures.places
-    ∙ ap (λ ms. for_lines (place_by_shapes c.args.base ms) (length ms)) c.deref-4.ensures.value
     ∙ ap (λ base. for_lines (place_by_shapes base shapes) (length shapes)) (sym c.before-before.ensures.base)
 
 pub returns-in_err-locals-clause-work : goal.returns-in_err-locals-clause-work
@@ -123,9 +109,3 @@ shapes-requires-clause-shape g c =
     let before = c.before-before.ensures in
     subst (λ ls. IsNewShape ls (edit_on c.before-before.result) c.args.shape) (sym before.lines)
     (subst (λ e. IsNewShape c.args.old.now e c.args.shape) (sym before.edit) c.requires.shape)
-
-pub parted_shapes-parted-requires-clause-place : goal.parted_shapes-parted-requires-clause-place
-parted_shapes-parted-requires-clause-place g c =
-    let lines = c.args.old.now in
-    let count = ap length c.deref-3.ensures.value ∙ length_of_shapes lines c.args.self.now.shapes.items c.requires.old.shapes in
-    (lines, sym count, has_place lines (edit_of c.args.edit.now) c.requires.allowed)
