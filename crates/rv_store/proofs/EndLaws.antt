@@ -2,7 +2,6 @@
 use Rattle.std.proofs.Common.{◌≡◌, ℕ, zero, suc, ◌+◌, ◌-◌, ◌^◌, ◌%◌, ◌<◌, ◌≤◌, ◌==◌, true, List, [], ◌∷◌, ◌++◌, length, take, get_or, set, slice_index, if◌then◌else◌, arith, ap, sym, ◌∙◌, refl, subst, ◌⊎◌, inl, inr}
 use Rattle.std.proofs.Math.Nat.{pow-le-pow_right}
 use Rattle.std.proofs.lemmas.Nat.{mod_below, pow_pos}
-use Rattle.std.specs.List.{All}
 use Rattle.std.proofs.lemmas.Bool.{cases_eq, eq-eqb, ne_eqb}
 use Rattle.std.proofs.lemmas.Grind.{same_number_lists}
 use Rattle.std.proofs.lemmas.List.{take_more, get_or_default, get_or-set_same, get_or-set_other, length-set}
@@ -12,17 +11,16 @@ use Rattle.rv_stmt.specs.declared.section.Sect.{Sect}
 use Rattle.rv_stmt.specs.declared.section.Sect.TheVariants.{Text}
 use Rattle.rv_layout.specs.declared.measured.Measured.{Measured}
 use Rattle.rv_layout.specs.declared.measured.Measured.TheVariants.{Bytes, Align, Switch, Nothing, Faulty}
-use Rattle.rv_layout.specs.Places.{section_after, offset_after, section_through, offset_through, size_at, offset_of, section_end_of, section_base_of, sum_below, is_base, IsLimited, AreLimited}
+use Rattle.rv_layout.specs.Advances.{wrap}
+use Rattle.rv_layout.specs.Places.{section_after, offset_after, section_through, offset_through, size_at, section_end_of, section_base_of, sum_below, is_base, IsLimited, AreLimited}
 use Rattle.rv_layout.specs.Sections.{sections, section_number}
 use Rattle.rv_layout.specs.BaseLaws.{base-bound, base_from-fits, sum_below-grows}
 use Rattle.rv_layout.specs.PlaceLaws.{part_within, ends_together, number_below}
 use Rattle.rv_store.specs.declared.ends.Ends.{Ends}
 use Rattle.rv_store.specs.declared.places.Reached.{Reached}
 use Rattle.rv_list.specs.declared.view.LinePlace.{LinePlace}
-use Rattle.rv_store.specs.internal.Ends.{by_section, ends_of, ends_at, base_by_ends, next_offset, ends_after, next_place, place_by_shapes}
-use Rattle.rv_program.specs.Program.{for_lines}
+use Rattle.rv_store.specs.internal.Ends.{by_section, ends_of, ends_at, base_by_ends, next_offset, ends_after, next_place, place_by_shapes, AreBases}
 use Rattle.rv_store.proofs.EndBases.{at-number, base-ends}
-use Rattle.rv_program.specs.lemmas.Programs.{at-for_lines, length-for_lines}
 
 -- Limits
 
@@ -142,17 +140,13 @@ module _ (r : Reached) (count : length r.ends.offsets ≡ sections) where
   no-bytes-on m (inl is) = nothing-on ∙ ap (ends_after (ends_at r)) (sym is)
   no-bytes-on m (inr (fault, is)) = nothing-on ∙ ap (ends_after (ends_at r)) (sym is)
 
-  -- the place of the next line
-  pub place-apart : (bases : List ℕ) (m : Measured) (size : ℕ) → r.base ≡ slice_index bases here → size ≡ size_at (next_offset (ends_at r)) m → record { section = r.ends.section; address = r.base + r.offset; size = size } ≡ next_place bases (ends_at r) m
-  place-apart bases m size base is =
-      ap (λ b. record { section = r.ends.section; address = b + r.offset; size = size }) base
-      ∙ ap (λ x. record { section = r.ends.section; address = slice_index bases here + x; size = size }) (sym at-offset)
-      ∙ ap (λ n. record { section = r.ends.section; address = slice_index bases here + next_offset (ends_at r); size = n }) is
+  -- the place of the next line, whose address does not wrap
+  pub place-apart : (bases : List ℕ) (m : Measured) (size : ℕ) → r.base ≡ slice_index bases here → slice_index bases here + next_offset (ends_at r) < 2 ^ 32 → size ≡ size_at (next_offset (ends_at r)) m → record { section = r.ends.section; address = wrap (r.base + r.offset); size = size } ≡ next_place bases (ends_at r) m
+  place-apart bases m size base short is =
+      let address : wrap (r.base + r.offset) ≡ slice_index bases here + next_offset (ends_at r) = omega (arith, base, at-offset, short) in
+      λ j. record { section = r.ends.section; address = address j; size = is j }
 
 -- The places
-
-abbrev pub AreBases : (base : ℕ) → List Measured → List ℕ → Type 0
-AreBases base ms bases = (t : ℕ) → t < sections → slice_index bases t ≡ section_base_of base ms t
 
 pub bases-AreBases : (base : ℕ) (ms : List Measured) (ends : Ends) (bases : List ℕ) → ends ≡ ends_of ms → ((t : ℕ) → t < sections → slice_index bases t ≡ base_by_ends base ends t) → AreBases base ms bases
 bases-AreBases base ms ends bases e at t l = at t l ∙ ap (λ o. base_by_ends base o t) e ∙ base-ends base ms t l
@@ -197,12 +191,3 @@ next_place-fits base ms i bases based few limited are =
     let fits = base_from-fits base (section_end_of ms) t sections (number_below s) (omega arith) (base-bound base based) enough in
     let begins = are t (number_below s) in
     record { address = omega (arith, x, part, fits, begins); short = next-short ms i few limited }
-
--- the places of lines are small
-pub places-small : (base : ℕ) (ms : List Measured) (n : ℕ) → AreLimited ms → All (λ p. p.size ≤ 65536) (for_lines (place_by_shapes base ms) n)
-places-small base ms n h = λ k d l.
-    let within : k < n = omega (arith, l, length-for_lines (place_by_shapes base ms) n) in
-    let here = at-for_lines (place_by_shapes base ms) n k d within in
-    let small = size_at-small (offset_of ms (suc k)) (get_or ms (suc k - 1) Nothing) (at-IsLimited ms (suc k - 1) h) in
-    let size = ap (λ (p : LinePlace). p.size) here in
-    omega (arith, small, size)

@@ -1,10 +1,10 @@
 //! Where the lines of a text lie.
 
-ghost use Rattle.std.specs.Prelude.{◌≡◌, ◌≤◌, ◌<◌, ◌+◌, ◌^◌, ℕ, suc, All, List, [], ◌∷◌, ◌++◌, length, slice_index, true, IfOk, IfSome, IsTrue};
+ghost use Rattle.std.specs.Prelude.{◌≡◌, ◌≤◌, ◌<◌, ◌+◌, ◌^◌, ℕ, suc, List, [], ◌∷◌, ◌++◌, length, slice_index, true, IfOk, IfSome, IsTrue};
 ghost use Rattle.rv_layout.specs.declared.measured.Measured.{Measured};
-ghost use Rattle.rv_layout.specs.Places.{section_of, address_of, line_size_of, size_at, sum_below, is_base, IsLimited, AreLimited};
+ghost use Rattle.rv_layout.specs.Places.{size_at, sum_below, is_base, IsLimited, AreLimited};
 ghost use Rattle.rv_layout.specs.Sections.{sections, section_number};
-ghost use Rattle.rv_store.specs.internal.Ends.{ends_of, ends_after, ends_at, end_in, base_by_ends, next_offset, next_place, place_by_shapes, IsBehind};
+ghost use Rattle.rv_store.specs.internal.Ends.{ends_of, ends_after, ends_at, end_in, base_by_ends, next_offset, next_place, place_by_shapes, AreBases, IsBehind};
 ghost use Rattle.rv_program.specs.Program.{for_lines};
 
 use crate::ends::Ends;
@@ -92,48 +92,33 @@ impl Reached {
     }
 }
 
-// Where the sections end after all lines. They count as if all sections began at 0.
-fn total_ends(shapes: &[Measured]) -> Ends
-    requires few { length shapes.now ≤ 16384 }
-    requires limited { AreLimited shapes.now }
-    ensures { result ≡ ends_of shapes.now }
-{
-    let bases = [0; SECTIONS];
-    let mut reached = Reached::of(Ends::start(), &bases);
-    for shape in shapes {
-        reached.advance(&bases, shape);
-    }
-    reached.ends()
-}
-
-// Where the lines lie, by their shapes: addresses from `base` on. The sections end at `ends` after all of them.
+// Where lines of these shapes lie if the sections begin at these addresses, and where the sections end. Addresses count modulo 2 ^ 32.
 fn places(
     alloc: Global,
-    base: u32,
+    bases: &[u32; SECTIONS],
     shapes: &[Measured],
-    ends: &Ends,
-) -> Result<Vec<LinePlace>, AllocError>
-    requires base { is_base base ≡ true }
+) -> Result<Placed, AllocError>
     requires few { length shapes.now ≤ 16384 }
     requires limited { AreLimited shapes.now }
-    requires ends { ends.now ≡ ends_of shapes.now }
-    ensures places { IfOk result (λ row. row.items ≡ for_lines (λ i. record { section = section_of shapes.now i; address = address_of base shapes.now i; size = line_size_of shapes.now i }) (length shapes.now)) }
-    ensures small { IfOk result (λ row. All (λ p. p.size ≤ 65536) row.items) }
+    ensures ends { IfOk result (λ p. p.ends ≡ ends_of shapes.now) }
+    ensures places { IfOk result (λ p. (base : ℕ) → is_base base ≡ true → AreBases base shapes.now bases.now → p.places.items ≡ for_lines (place_by_shapes base shapes.now) (length shapes.now)) }
 {
-    let bases = bases(ends, base);
-    let mut reached = Reached::of(Ends::start(), &bases);
+    let mut reached = Reached::of(Ends::start(), bases);
     let mut row = row_for(alloc, shapes.len())?;
     for shape in shapes {
         let section = reached.ends.section;
-        let address = reached.base + reached.offset;
-        let size = reached.advance(&bases, shape);
+        let address = reached.base.wrapping_add(reached.offset);
+        let size = reached.advance(bases, shape);
         row.push_reserved(LinePlace {
             section,
             address,
             size,
         });
     }
-    Ok(row)
+    Ok(Placed {
+        ends: reached.ends(),
+        places: row,
+    })
 }
 
 /// Whether all sections begin where they began before lines were added.
@@ -163,16 +148,25 @@ pub struct Placed {
 }
 
 impl Placed {
-    /// Where lines of these shapes lie: addresses from `base` on.
-    pub fn of(alloc: Global, base: u32, shapes: &[Measured]) -> Result<Placed, AllocError>
+    /// Where lines of these shapes lie: addresses from `base` on. The ends are a guess: the lines are gone over once more where the sections
+    /// do not begin where these tell.
+    pub fn of(
+        alloc: Global,
+        base: u32,
+        guess: &Ends,
+        shapes: &[Measured],
+    ) -> Result<Placed, AllocError>
         requires base { is_base base ≡ true }
+        requires guess { sum_below (end_in guess.now) sections ≤ 2 ^ 30 }
         requires few { length shapes.now ≤ 16384 }
         requires limited { AreLimited shapes.now }
         ensures ends { IfOk result (λ p. p.ends ≡ ends_of shapes.now) }
         ensures places { IfOk result (λ p. p.places.items ≡ for_lines (place_by_shapes base shapes.now) (length shapes.now)) }
     {
-        let ends = total_ends(shapes);
-        let places = places(alloc, base, shapes, &ends)?;
-        Ok(Placed { ends, places })
+        let placed = places(alloc, &bases(guess, base), shapes)?;
+        if stay_sections(base, guess, &placed.ends) {
+            return Ok(placed);
+        }
+        places(alloc, &bases(&placed.ends, base), shapes)
     }
 }

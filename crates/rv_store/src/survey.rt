@@ -1,11 +1,11 @@
 //! What is kept of the lines of a text.
 
 ghost use Rattle.std.specs.Prelude.{◌≡◌, ℕ, ◌≤◌, ◌<◌, ◌+◌, ◌*◌, ◌^◌, ◌++◌, List, [], None, length, true, IfOk};
-ghost use Rattle.rv_layout.specs.Places.{section_base_of, section_end_of, IsLimited, AreLimited, is_base};
+ghost use Rattle.rv_layout.specs.Places.{section_base_of, section_end_of, sum_below, IsLimited, AreLimited, is_base};
 ghost use Rattle.rv_layout.specs.Sections.{sections};
 ghost use Rattle.rv_program.specs.internal.Before.{IsBefore, base_before, lines_before, edit_on};
 ghost use Rattle.rv_program.specs.Edits.{edit_of};
-ghost use Rattle.rv_store.specs.internal.Ends.{ends_of, place_by_shapes};
+ghost use Rattle.rv_store.specs.internal.Ends.{ends_of, end_in, place_by_shapes};
 ghost use Rattle.rv_program.specs.internal.NewShapes.{IsNewShape, shape_operands};
 ghost use Rattle.rv_program.specs.Program.{program_of, for_lines};
 ghost use Rattle.rv_program.specs.internal.Rows.{Grows, AreDefinitions, AreConstants, AreShapes, AreLocals};
@@ -34,8 +34,7 @@ use rv_program::{
 use rv_text::Count;
 use std::alloc::{AllocError, Global};
 
-// Where lines of these shapes lie. Where the shapes are those before an edit, they lie where they lay, and the sections end where they
-// ended.
+// Where the lines of a text after an edit lie, by the ends and the places before it: where no shape changed, they lie where they lay.
 fn placed(
     alloc: Global,
     base: u32,
@@ -46,13 +45,14 @@ fn placed(
     requires base { is_base base ≡ true }
     requires few { length sized.now.shapes.items ≤ MAX_LINES }
     requires limited { AreLimited sized.now.shapes.items }
+    requires guess { sum_below (end_in ends.now) sections ≤ 2 ^ 30 }
     requires ends { sized.now.same ≡ true → ends.now ≡ ends_of sized.now.shapes.items }
     requires places { sized.now.same ≡ true → places.now ≡ for_lines (place_by_shapes base sized.now.shapes.items) (length sized.now.shapes.items) }
     ensures ends { IfOk result (λ p. p.ends ≡ ends_of sized.now.shapes.items) }
     ensures places { IfOk result (λ p. p.places.items ≡ for_lines (place_by_shapes base sized.now.shapes.items) (length sized.now.shapes.items)) }
 {
     if !sized.same {
-        return Placed::of(alloc, base, &sized.shapes);
+        return Placed::of(alloc, base, ends, &sized.shapes);
     }
     Ok(Placed {
         ends: *ends,

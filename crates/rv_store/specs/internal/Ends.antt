@@ -3,7 +3,7 @@ use Rattle.std.specs.Prelude.{◌≡◌, ℕ, ◌+◌, ◌-◌, ◌<◌, List, [
 use Rattle.std.specs.List.{range_with_len}
 use Rattle.rv_stmt.specs.declared.section.Sect.TheVariants.{Text}
 use Rattle.rv_layout.specs.declared.measured.Measured.{Measured}
-use Rattle.rv_layout.specs.Places.{section_after, section_through, size_at, section_of, line_size_of, section_end_of, base_from, address_of, AreLimited}
+use Rattle.rv_layout.specs.Places.{section_after, section_through, size_at, section_of, line_size_of, section_end_of, section_base_of, base_from, address_of, AreLimited}
 use Rattle.rv_layout.specs.Sections.{sections, section_number}
 use Rattle.rv_store.specs.declared.ends.Ends.{Ends}
 use Rattle.rv_store.specs.declared.places.Reached.{Reached}
@@ -58,6 +58,10 @@ next_place bases ends m = record {
 -- the place of line `i`
 abbrev pub place_by_shapes : (base : ℕ) → List Measured → (i : ℕ) → LinePlace
 place_by_shapes base ms i = record { section = section_of ms i; address = address_of base ms i; size = line_size_of ms i }
+
+-- the sections of a text whose lines have these shapes begin at these addresses
+abbrev pub AreBases : (base : ℕ) → List Measured → (bases : List ℕ) → Type 0
+AreBases base ms bases = (t : ℕ) → t < sections → slice_index bases t ≡ section_base_of base ms t
 
 -- a line of this shape stands behind lines of these shapes, after which the sections end at the one ends, and with it at the others
 pub record IsBehind (m : Measured) (before total : Ends) (ms : List Measured) : Type 0 where

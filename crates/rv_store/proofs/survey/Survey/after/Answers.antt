@@ -1,11 +1,13 @@
-use Rattle.std.proofs.Common.{◌≤◌, ◌+◌, length, ap, sym, subst, ◌∙◌, arith}
-use Rattle.rv_layout.specs.Places.{AreLimited}
+use Rattle.std.proofs.Common.{◌≤◌, ◌+◌, ◌^◌, length, ap, sym, subst, ◌∙◌, arith}
+use Rattle.rv_layout.specs.Places.{sum_below}
+use Rattle.rv_layout.specs.Sections.{sections}
 use Rattle.rv_program.specs.internal.Before.{base_before, lines_before, edit_on}
 use Rattle.rv_program.specs.Edits.{edit_of}
-use Rattle.rv_store.specs.internal.Ends.{ends_of, place_by_shapes}
+use Rattle.rv_store.specs.internal.Ends.{ends_of, end_in, place_by_shapes}
 use Rattle.rv_program.specs.internal.NewShapes.{IsNewShape, shape_operands}
 use Rattle.rv_program.specs.Program.{program_of, for_lines}
 use Rattle.rv_program.specs.internal.Work.{equ_operands, constant_operands, high_operands, operands_through, work}
+use Rattle.rv_store.proofs.EndBases.{ends-together}
 use Rattle.rv_store.proofs.Stores.{survey_grown}
 use Rattle.rv_program.specs.lemmas.SurveyWork.{survey_counted}
 use Rattle.rv_program.specs.lemmas.ShapeWork.{nothing-surveyed}
@@ -41,6 +43,11 @@ pub placed-requires-clause-few : goal.placed-requires-clause-few
 placed-requires-clause-few g c =
     let count = length_of_shapes c.as_slice-lines.result.now c.in_ok-sized.sized.shapes.items c.in_ok-sized.ensures.shapes in
     omega (arith, count, ap length c.as_slice-lines.ensures, c.requires.few)
+
+pub placed-requires-clause-guess : goal.placed-requires-clause-guess
+placed-requires-clause-guess g c =
+    let count = length_of_shapes c.args.old.now c.args.self.now.shapes.items c.requires.old.shapes in
+    subst (λ e. sum_below (end_in e) sections ≤ 2 ^ 30) (sym c.requires.old.ends) (ends-together c.args.self.now.shapes.items c.requires.old.limited (omega (arith, count, c.requires.old_few)))
 
 pub placed-requires-clause-ends : goal.placed-requires-clause-ends
 placed-requires-clause-ends g c = λ same.
