@@ -93,11 +93,7 @@ impl Reached {
 }
 
 // Where lines of these shapes lie if the sections begin at these addresses, and where the sections end. Addresses count modulo 2 ^ 32.
-fn places(
-    alloc: Global,
-    bases: &[u32; SECTIONS],
-    shapes: &[Measured],
-) -> Result<Placed, AllocError>
+fn places(alloc: Global, bases: &[u32; SECTIONS], shapes: &[Measured]) -> Result<Placed, AllocError>
     requires few { length shapes.now ≤ 16384 }
     requires limited { AreLimited shapes.now }
     ensures ends { IfOk result (λ p. p.ends ≡ ends_of shapes.now) }
