@@ -28,6 +28,7 @@ pub mod RenewedUsers
 pub mod Rooms
 pub mod ShapeRows
 pub mod ShownLines
+pub mod StillCounts
 pub mod StillLaws
 pub mod StillRows
 pub mod StillTexts

@@ -1,20 +1,18 @@
 //! Lines with which other lines have to do by their names alone: in the place of another one or behind the last one, only that line and those
 //! that use such a name are made.
 
-ghost use Rattle.std.specs.Prelude.{◌≡◌, ◌≤◌, ◌+◌, ◌-◌, ◌*◌, ◌^◌, [], ◌∷◌, ◌++◌, length, IfOk, IfErr, OnOk, OnErr};
-ghost use Rattle.std.specs.List.{sum_by};
-ghost use Rattle.rv_stmt.specs.Statement.{statement_of};
+ghost use Rattle.std.specs.Prelude.{◌≡◌, ◌≤◌, ◌+◌, ◌-◌, ◌^◌, [], ◌∷◌, ◌++◌, length, IfOk, IfErr, OnOk, OnErr};
 ghost use Rattle.rv_program.specs.declared.limits.TheConstants.{MAX_LINES};
 ghost use Rattle.rv_store.specs.internal.Appended.{AreSameLines, AreSameSymbols, AreSymbols};
-ghost use Rattle.rv_program.specs.Codes.{values_at, code_at};
+ghost use Rattle.rv_program.specs.Codes.{code_at};
+ghost use Rattle.rv_program.specs.Counted.{counts_of};
 ghost use Rattle.rv_program.specs.internal.Items.{AreItems};
-ghost use Rattle.rv_program.specs.Program.{program_of, body_at, lines_that};
+ghost use Rattle.rv_program.specs.Program.{program_of, lines_that};
 ghost use Rattle.rv_program.specs.internal.Still.{set_or_push};
 ghost use Rattle.rv_store.specs.internal.Column.{taken_back};
 ghost use Rattle.rv_store.specs.internal.StillLines.{IsStillLine, AreLinesPut, ArePartlyPut, IsFormerLine};
 ghost use Rattle.rv_store.specs.internal.Surveys.{IsSurvey};
-ghost use Rattle.rv_store.specs.internal.Users.{is_revalued, is_recoded};
-ghost use Rattle.rv_program.specs.internal.Work.{equ_operands, value_operands};
+ghost use Rattle.rv_store.specs.internal.Users.{is_recoded, AreCountedStill};
 
 use crate::changed::Changed;
 use crate::ends::Ends;
@@ -164,15 +162,7 @@ pub fn put_still<C: Count>(
     ensures items { IfOk result (λ r. AreItems base (set_or_push survey.old.lines.items (k - 1) line) r.0.items) }
     ensures changed { IfOk result (λ r. r.1.lines ≡ lines_that (is_recoded base (set_or_push survey.old.lines.items (k - 1) line) (code_at base (program_of survey.old.lines.items))) (k - 1) ++ k ∷ []) }
     ensures memory { IfErr result (λ e. e ≡ EditError.Memory) }
-    ensures parsed { C.parsed_count counter.new ≡ C.parsed_count counter.old }
-    ensures valued_least { C.valued_count counter.old ≤ C.valued_count counter.new }
-    ensures valued_most { C.valued_count counter.new ≤ C.valued_count counter.old + 2 * equ_operands (statement_of line).body + value_operands (statement_of line).body
-        + sum_by (λ i. value_operands (body_at (program_of (set_or_push survey.old.lines.items (k - 1) line)) i)) users.now }
-    ensures valued_few { C.valued_count counter.new ≤ C.valued_count counter.old + 2 + 1000 * k }
-    ensures encoded_least { C.encoded_count counter.old ≤ C.encoded_count counter.new }
-    ensures encoded_most { C.encoded_count counter.new ≤ C.encoded_count counter.old + 1
-        + length (lines_that (is_revalued base (set_or_push survey.old.lines.items (k - 1) line) (values_at base (program_of survey.old.lines.items))) (k - 1)) }
-    ensures encoded_few { C.encoded_count counter.new ≤ C.encoded_count counter.old + k }
+    ensures counted { AreCountedStill base survey.old.lines.items k line users.now (counts_of C.parsed_count C.valued_count C.encoded_count counter.old) (counts_of C.parsed_count C.valued_count C.encoded_count counter.new) }
 {
     let new = line.share()?;
     survey.put_line(k as usize - 1, line, still)?;

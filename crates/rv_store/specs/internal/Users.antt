@@ -2,6 +2,7 @@
 use Rattle.std.specs.Prelude.{◌≡◌, ℕ, ◌+◌, ◌-◌, ◌*◌, ◌≤◌, nat_le, Bool, false, not, List, [], ◌∷◌, ◌++◌, length, map, slice_get, set, Option, Some, None, if◌then◌else◌}
 use Rattle.std.specs.List.{sum_by}
 use Rattle.rv_text.specs.Counting.{Counts}
+use Rattle.rv_stmt.specs.Statement.{statement_of}
 use Rattle.rv_fix.specs.declared.coded.Coded.{Coded}
 use Rattle.rv_program.specs.declared.item.Item.{Item}
 use Rattle.rv_program.specs.declared.line_values.LineValues.{LineValues}
@@ -11,7 +12,7 @@ use Rattle.rv_program.specs.Program.{program_of, body_at, for_lines, lines_that,
 use Rattle.rv_program.specs.Sameness.{same_values, same_code}
 use Rattle.rv_program.specs.internal.Items.{IsItem, AreItems}
 use Rattle.rv_program.specs.internal.Still.{set_or_push}
-use Rattle.rv_program.specs.internal.Work.{value_operands}
+use Rattle.rv_program.specs.internal.Work.{equ_operands, value_operands}
 use Rattle.rv_store.specs.declared.still.Still.{Still}
 use Rattle.rv_store.specs.internal.StillLines.{IsStillLine}
 
@@ -106,4 +107,15 @@ pub record AreCountedPut (base : ℕ) (text lines : List (List ℕ)) (k : ℕ) (
   pub valued_few : new.valued ≤ old.valued + 1000 * k
   pub encoded_least : old.encoded ≤ new.encoded
   pub encoded_most : new.encoded ≤ old.encoded + 1 + length (lines_that (is_revalued base text (values_at base (program_of lines))) (k - 1))
+  pub encoded_few : new.encoded ≤ old.encoded + k
+
+-- the same where the line is put, and what it defines is computed: two values more for an `.equ`
+pub record AreCountedStill (base : ℕ) (lines : List (List ℕ)) (k : ℕ) (line users : List ℕ) (old new : Counts) : Type 0 where
+  pub parsed : new.parsed ≡ old.parsed
+  pub valued_least : old.valued ≤ new.valued
+  pub valued_most : new.valued ≤ old.valued + 2 * equ_operands (statement_of line).body + value_operands (statement_of line).body
+      + sum_by (λ i. value_operands (body_at (program_of (set_or_push lines (k - 1) line)) i)) users
+  pub valued_few : new.valued ≤ old.valued + 2 + 1000 * k
+  pub encoded_least : old.encoded ≤ new.encoded
+  pub encoded_most : new.encoded ≤ old.encoded + 1 + length (lines_that (is_revalued base (set_or_push lines (k - 1) line) (values_at base (program_of lines))) (k - 1))
   pub encoded_few : new.encoded ≤ old.encoded + k

@@ -7,15 +7,15 @@ use Rattle.rv_program.specs.internal.Items.{AreItems}
 use Rattle.rv_program.specs.Program.{program_of, lines_that}
 use Rattle.rv_store.specs.declared.still.Still.{Still}
 use Rattle.rv_store.specs.internal.StillLines.{IsStillLine}
-use Rattle.rv_store.specs.internal.Users.{is_recoded, ArePut, AreCountedPut}
-use Rattle.rv_text.specs.Counting.{Counts}
+use Rattle.rv_store.specs.internal.Users.{is_recoded, ArePut}
 use Rattle.rv_program.specs.Counted.{counts_of}
 use Rattle.rv_program.specs.internal.Still.{set_or_push}
 use Rattle.rv_store.specs.internal.Surveys.{IsSurvey}
-use Rattle.rv_program.specs.internal.Work.{equ_operands, value_operands}
+use Rattle.rv_program.specs.internal.Work.{equ_operands}
 use Rattle.rv_program.specs.lemmas.Programs.{length-program}
 use Rattle.rv_store.proofs.StillRows.{in_any_error, partly, partly-none, partly-still, symbols-of, symbols-same, count-shapes, count-places, unsettled, may-wait, survey-put}
-use Rattle.rv_store.proofs.StillTexts.{within-next, body-put}
+use Rattle.rv_store.proofs.StillCounts.{counted-defined, counted-put}
+use Rattle.rv_store.proofs.StillTexts.{within-next}
 use Rattle.rv_store.proofs.still.put_still.Goals as goal
 
 pub put_line-requires-clause-lines : goal.put_line-requires-clause-lines
@@ -97,34 +97,6 @@ returns-in-Ok-clause-changed g c =
     c.in-Ok.ensures.changed (put-whole c.args.base lines c.args.k c.args.line c.args.still.now c.args.users.now c.args.items.now.items c.define_last.new.self.lines.items c.requires.still whole c.requires.items)
     ∙ (λ j. lines_that (is_recoded c.args.base (whole j) (code_at c.args.base (program_of lines))) (c.args.k - 1) ++ c.args.k ∷ [])
 
--- what is counted, by the lines with it
-counted-by : (base : ℕ) (all after lines : List (List ℕ)) (k : ℕ) (users : List ℕ) (old new : Counts) → all ≡ after → AreCountedPut base all lines k users old new → AreCountedPut base after lines k users old new
-counted-by base all after lines k users old new is = subst (λ t. AreCountedPut base t lines k users old new) is
-
-encoded-within : (old middle new before : ℕ) → middle ≡ old → new ≤ middle + 1 + before → new ≤ old + 1 + before
-encoded-within old middle new before one all = omega (arith, one, all)
-
-valued-within : (old middle new equs before operands body users : ℕ) → middle ≤ old + 2 * equs → new ≤ middle + operands + users → operands ≡ body → equs ≡ before → new ≤ old + 2 * before + body + users
-valued-within old middle new equs before operands body users one all is same = omega (arith, one, all, is, same)
-
-pub returns-in-Ok-clause-valued_most : goal.returns-in-Ok-clause-valued_most
-returns-in-Ok-clause-valued_most g c =
-    let lines : List (List ℕ) = c.args.survey.now.lines.items in
-    let whole = c.define_last.ensures.lines.lines ∙ c.in_ok-put_line.ensures.ok.lines in
-    let counts = counts_of g.C.Count.parsed_count g.C.Count.valued_count g.C.Count.encoded_count in
-    let all = counted-by c.args.base c.define_last.new.self.lines.items (set_or_push lines (c.args.k - 1) c.args.line) lines c.args.k c.args.users.now (counts c.define_last.new.counter) (counts c.items_put.new.counter) whole
-    (c.items_put.ensures.counted (put-whole c.args.base lines c.args.k c.args.line c.args.still.now c.args.users.now c.args.items.now.items c.define_last.new.self.lines.items c.requires.still whole c.requires.items)) in
-    valued-within _ _ _ _ _ _ _ _ c.define_last.ensures.operands all.valued_most (ap value_operands (body-put lines c.args.line c.requires.still.still)) (ap (λ l. equ_operands (statement_of l).body) c.in_ok-new.ensures)
-
-pub returns-clause-valued_most : goal.returns-clause-valued_most
-returns-clause-valued_most g c =
-    let lines : List (List ℕ) = c.args.survey.now.lines.items in
-    let whole = c.define_last.ensures.lines.lines ∙ c.in_ok-put_line.ensures.ok.lines in
-    let counts = counts_of g.C.Count.parsed_count g.C.Count.valued_count g.C.Count.encoded_count in
-    let all = counted-by c.args.base c.define_last.new.self.lines.items (set_or_push lines (c.args.k - 1) c.args.line) lines c.args.k c.args.users.now (counts c.define_last.new.counter) (counts c.items_put.new.counter) whole
-    (c.items_put.ensures.counted (put-whole c.args.base lines c.args.k c.args.line c.args.still.now c.args.users.now c.args.items.now.items c.define_last.new.self.lines.items c.requires.still whole c.requires.items)) in
-    valued-within _ _ _ _ _ _ _ _ c.define_last.ensures.operands all.valued_most (ap value_operands (body-put lines c.args.line c.requires.still.still)) (ap (λ l. equ_operands (statement_of l).body) c.in_ok-new.ensures)
-
 pub returns-clause-err : goal.returns-clause-err
 returns-clause-err g c =
     let old = c.args.survey.now in
@@ -161,103 +133,39 @@ returns-clause-symbols g c = at c.args.still.now.defines refl
         let defined = subst (λ names. AreSymbols c.args.base (program_of lines) (length lines) names c.define_last.new.self) (sym none.0) (symbols-same c.args.base (program_of lines) (length lines) c.args.names.now c.put_line.new.self c.define_last.new.self none.1 before) in
         symbols-same c.args.base (program_of lines) (length lines) c.define_last.new.names c.define_last.new.self c.forget_last.new.self (c.forget_last.ensures.none is) defined
 
-pub returns-in_err-define_last-clause-parsed : goal.returns-in_err-define_last-clause-parsed
-returns-in_err-define_last-clause-parsed g c = c.define_last.ensures.parsed
-
-pub returns-in-Ok-clause-parsed : goal.returns-in-Ok-clause-parsed
-returns-in-Ok-clause-parsed g c =
-    (c.items_put.ensures.counted (put-whole c.args.base c.args.survey.now.lines.items c.args.k c.args.line c.args.still.now c.args.users.now c.args.items.now.items c.define_last.new.self.lines.items c.requires.still (c.define_last.ensures.lines.lines ∙ c.in_ok-put_line.ensures.ok.lines) c.requires.items)).parsed ∙ c.define_last.ensures.parsed
-
-pub returns-clause-parsed : goal.returns-clause-parsed
-returns-clause-parsed g c =
-    (c.items_put.ensures.counted (put-whole c.args.base c.args.survey.now.lines.items c.args.k c.args.line c.args.still.now c.args.users.now c.args.items.now.items c.define_last.new.self.lines.items c.requires.still (c.define_last.ensures.lines.lines ∙ c.in_ok-put_line.ensures.ok.lines) c.requires.items)).parsed ∙ c.define_last.ensures.parsed
-
-pub returns-in-Ok-clause-encoded_most : goal.returns-in-Ok-clause-encoded_most
-returns-in-Ok-clause-encoded_most g c =
-    let lines : List (List ℕ) = c.args.survey.now.lines.items in
-    let whole = c.define_last.ensures.lines.lines ∙ c.in_ok-put_line.ensures.ok.lines in
+pub returns-in_err-new-clause-counted : goal.returns-in_err-new-clause-counted
+returns-in_err-new-clause-counted g c =
     let counts = counts_of g.C.Count.parsed_count g.C.Count.valued_count g.C.Count.encoded_count in
-    let all = counted-by c.args.base c.define_last.new.self.lines.items (set_or_push lines (c.args.k - 1) c.args.line) lines c.args.k c.args.users.now (counts c.define_last.new.counter) (counts c.items_put.new.counter) whole
-    (c.items_put.ensures.counted (put-whole c.args.base lines c.args.k c.args.line c.args.still.now c.args.users.now c.args.items.now.items c.define_last.new.self.lines.items c.requires.still whole c.requires.items)) in
-    encoded-within _ _ _ _ c.define_last.ensures.encoded all.encoded_most
+    counted-defined c.args.base c.args.survey.now.lines.items c.args.k c.args.line c.args.users.now (counts c.args.counter.now) (counts c.args.counter.now) refl (omega arith) (omega arith) (omega arith) refl
 
-pub returns-in-Ok-clause-valued_least : goal.returns-in-Ok-clause-valued_least
-returns-in-Ok-clause-valued_least g c =
-    let all = c.items_put.ensures.counted (put-whole c.args.base c.args.survey.now.lines.items c.args.k c.args.line c.args.still.now c.args.users.now c.args.items.now.items c.define_last.new.self.lines.items c.requires.still (c.define_last.ensures.lines.lines ∙ c.in_ok-put_line.ensures.ok.lines) c.requires.items) in
-    let more = all.valued_least in
-    let few = all.valued_few in
-    let codes = all.encoded_least in
-    let codes_few = all.encoded_few in
-    omega (arith, c.define_last.ensures.least, more)
-
-pub returns-in-Ok-clause-valued_few : goal.returns-in-Ok-clause-valued_few
-returns-in-Ok-clause-valued_few g c =
-    let all = c.items_put.ensures.counted (put-whole c.args.base c.args.survey.now.lines.items c.args.k c.args.line c.args.still.now c.args.users.now c.args.items.now.items c.define_last.new.self.lines.items c.requires.still (c.define_last.ensures.lines.lines ∙ c.in_ok-put_line.ensures.ok.lines) c.requires.items) in
-    let more = all.valued_least in
-    let few = all.valued_few in
-    let codes = all.encoded_least in
-    let codes_few = all.encoded_few in
-    omega (arith, c.define_last.ensures.most, few)
-
-pub returns-in-Ok-clause-encoded_least : goal.returns-in-Ok-clause-encoded_least
-returns-in-Ok-clause-encoded_least g c =
-    let all = c.items_put.ensures.counted (put-whole c.args.base c.args.survey.now.lines.items c.args.k c.args.line c.args.still.now c.args.users.now c.args.items.now.items c.define_last.new.self.lines.items c.requires.still (c.define_last.ensures.lines.lines ∙ c.in_ok-put_line.ensures.ok.lines) c.requires.items) in
-    let more = all.valued_least in
-    let few = all.valued_few in
-    let codes = all.encoded_least in
-    let codes_few = all.encoded_few in
-    omega (arith, c.define_last.ensures.encoded, codes)
-
-pub returns-in-Ok-clause-encoded_few : goal.returns-in-Ok-clause-encoded_few
-returns-in-Ok-clause-encoded_few g c =
-    let all = c.items_put.ensures.counted (put-whole c.args.base c.args.survey.now.lines.items c.args.k c.args.line c.args.still.now c.args.users.now c.args.items.now.items c.define_last.new.self.lines.items c.requires.still (c.define_last.ensures.lines.lines ∙ c.in_ok-put_line.ensures.ok.lines) c.requires.items) in
-    let more = all.valued_least in
-    let few = all.valued_few in
-    let codes = all.encoded_least in
-    let codes_few = all.encoded_few in
-    omega (arith, c.define_last.ensures.encoded, codes_few)
-
-pub returns-clause-encoded_most : goal.returns-clause-encoded_most
-returns-clause-encoded_most g c =
-    let lines : List (List ℕ) = c.args.survey.now.lines.items in
-    let whole = c.define_last.ensures.lines.lines ∙ c.in_ok-put_line.ensures.ok.lines in
+pub returns-in_err-put_line-clause-counted : goal.returns-in_err-put_line-clause-counted
+returns-in_err-put_line-clause-counted g c =
     let counts = counts_of g.C.Count.parsed_count g.C.Count.valued_count g.C.Count.encoded_count in
-    let all = counted-by c.args.base c.define_last.new.self.lines.items (set_or_push lines (c.args.k - 1) c.args.line) lines c.args.k c.args.users.now (counts c.define_last.new.counter) (counts c.items_put.new.counter) whole
-    (c.items_put.ensures.counted (put-whole c.args.base lines c.args.k c.args.line c.args.still.now c.args.users.now c.args.items.now.items c.define_last.new.self.lines.items c.requires.still whole c.requires.items)) in
-    encoded-within _ _ _ _ c.define_last.ensures.encoded all.encoded_most
+    counted-defined c.args.base c.args.survey.now.lines.items c.args.k c.args.line c.args.users.now (counts c.args.counter.now) (counts c.args.counter.now) refl (omega arith) (omega arith) (omega arith) refl
 
-pub returns-clause-valued_least : goal.returns-clause-valued_least
-returns-clause-valued_least g c =
-    let all = c.items_put.ensures.counted (put-whole c.args.base c.args.survey.now.lines.items c.args.k c.args.line c.args.still.now c.args.users.now c.args.items.now.items c.define_last.new.self.lines.items c.requires.still (c.define_last.ensures.lines.lines ∙ c.in_ok-put_line.ensures.ok.lines) c.requires.items) in
-    let more = all.valued_least in
-    let few = all.valued_few in
-    let codes = all.encoded_least in
-    let codes_few = all.encoded_few in
-    omega (arith, c.define_last.ensures.least, more)
+pub returns-in_err-define_last-clause-counted : goal.returns-in_err-define_last-clause-counted
+returns-in_err-define_last-clause-counted g c =
+    let counts = counts_of g.C.Count.parsed_count g.C.Count.valued_count g.C.Count.encoded_count in
+    let count = g.C.Count.valued_count in
+    let operands = subst (λ l. count c.define_last.new.counter ≤ count c.args.counter.now + 2 * equ_operands (statement_of l).body) c.in_ok-new.ensures c.define_last.ensures.operands in
+    counted-defined c.args.base c.args.survey.now.lines.items c.args.k c.args.line c.args.users.now (counts c.args.counter.now) (counts c.define_last.new.counter) c.define_last.ensures.parsed c.define_last.ensures.least c.define_last.ensures.most operands c.define_last.ensures.encoded
 
-pub returns-clause-valued_few : goal.returns-clause-valued_few
-returns-clause-valued_few g c =
-    let all = c.items_put.ensures.counted (put-whole c.args.base c.args.survey.now.lines.items c.args.k c.args.line c.args.still.now c.args.users.now c.args.items.now.items c.define_last.new.self.lines.items c.requires.still (c.define_last.ensures.lines.lines ∙ c.in_ok-put_line.ensures.ok.lines) c.requires.items) in
-    let more = all.valued_least in
-    let few = all.valued_few in
-    let codes = all.encoded_least in
-    let codes_few = all.encoded_few in
-    omega (arith, c.define_last.ensures.most, few)
+pub returns-in-Ok-clause-counted : goal.returns-in-Ok-clause-counted
+returns-in-Ok-clause-counted g c =
+    let counts = counts_of g.C.Count.parsed_count g.C.Count.valued_count g.C.Count.encoded_count in
+    let count = g.C.Count.valued_count in
+    let operands = subst (λ l. count c.define_last.new.counter ≤ count c.args.counter.now + 2 * equ_operands (statement_of l).body) c.in_ok-new.ensures c.define_last.ensures.operands in
+    let whole = c.define_last.ensures.lines.lines ∙ c.in_ok-put_line.ensures.ok.lines in
+    counted-put c.args.base c.args.survey.now.lines.items c.args.k c.args.line c.args.users.now (counts c.args.counter.now) (counts c.define_last.new.counter) c.define_last.ensures.parsed c.define_last.ensures.least c.define_last.ensures.most operands c.define_last.ensures.encoded
+    c.requires.still.still c.define_last.new.self.lines.items whole (counts c.items_put.new.counter)
+    (c.items_put.ensures.counted (put-whole c.args.base c.args.survey.now.lines.items c.args.k c.args.line c.args.still.now c.args.users.now c.args.items.now.items c.define_last.new.self.lines.items c.requires.still whole c.requires.items))
 
-pub returns-clause-encoded_least : goal.returns-clause-encoded_least
-returns-clause-encoded_least g c =
-    let all = c.items_put.ensures.counted (put-whole c.args.base c.args.survey.now.lines.items c.args.k c.args.line c.args.still.now c.args.users.now c.args.items.now.items c.define_last.new.self.lines.items c.requires.still (c.define_last.ensures.lines.lines ∙ c.in_ok-put_line.ensures.ok.lines) c.requires.items) in
-    let more = all.valued_least in
-    let few = all.valued_few in
-    let codes = all.encoded_least in
-    let codes_few = all.encoded_few in
-    omega (arith, c.define_last.ensures.encoded, codes)
-
-pub returns-clause-encoded_few : goal.returns-clause-encoded_few
-returns-clause-encoded_few g c =
-    let all = c.items_put.ensures.counted (put-whole c.args.base c.args.survey.now.lines.items c.args.k c.args.line c.args.still.now c.args.users.now c.args.items.now.items c.define_last.new.self.lines.items c.requires.still (c.define_last.ensures.lines.lines ∙ c.in_ok-put_line.ensures.ok.lines) c.requires.items) in
-    let more = all.valued_least in
-    let few = all.valued_few in
-    let codes = all.encoded_least in
-    let codes_few = all.encoded_few in
-    omega (arith, c.define_last.ensures.encoded, codes_few)
+pub returns-clause-counted : goal.returns-clause-counted
+returns-clause-counted g c =
+    let counts = counts_of g.C.Count.parsed_count g.C.Count.valued_count g.C.Count.encoded_count in
+    let count = g.C.Count.valued_count in
+    let operands = subst (λ l. count c.define_last.new.counter ≤ count c.args.counter.now + 2 * equ_operands (statement_of l).body) c.in_ok-new.ensures c.define_last.ensures.operands in
+    let whole = c.define_last.ensures.lines.lines ∙ c.in_ok-put_line.ensures.ok.lines in
+    counted-put c.args.base c.args.survey.now.lines.items c.args.k c.args.line c.args.users.now (counts c.args.counter.now) (counts c.define_last.new.counter) c.define_last.ensures.parsed c.define_last.ensures.least c.define_last.ensures.most operands c.define_last.ensures.encoded
+    c.requires.still.still c.define_last.new.self.lines.items whole (counts c.items_put.new.counter)
+    (c.items_put.ensures.counted (put-whole c.args.base c.args.survey.now.lines.items c.args.k c.args.line c.args.still.now c.args.users.now c.args.items.now.items c.define_last.new.self.lines.items c.requires.still whole c.requires.items))

@@ -159,13 +159,13 @@ pub returns-in-Ok-clause-values : goal.returns-in-Ok-clause-values
 returns-in-Ok-clause-values g c =
     let enough = values-within c.self.inside.base _ c.self.inside.names c.self.inside.survey c.self.inside.items.items c.self.invariant c.args.self.now c.self.view_is
     (edit_of c.args.edit.now) c.place-k.result c.args.line c.args.still.now c.args.users.now c.place-k.ensures.value c.requires.allowed c.requires.edit c.requires.still in
-    omega (arith, c.put_still.ensures.valued_most, enough)
+    omega (arith, c.put_still.ensures.counted.valued_most, enough)
 
 pub returns-in-Err-clause-values : goal.returns-in-Err-clause-values
 returns-in-Err-clause-values g c =
     let enough = values-within c.self.inside.base _ c.self.inside.names c.self.inside.survey c.self.inside.items.items c.self.invariant c.args.self.now c.self.view_is
     (edit_of c.args.edit.now) c.place-k.result c.args.line c.args.still.now c.args.users.now c.place-k.ensures.value c.requires.allowed c.requires.edit c.requires.still in
-    omega (arith, c.put_still.ensures.valued_most, enough)
+    omega (arith, c.put_still.ensures.counted.valued_most, enough)
 
 pub returns-in_err-former-clause-values : goal.returns-in_err-former-clause-values
 returns-in_err-former-clause-values g c =
@@ -177,40 +177,40 @@ pub returns-in-Ok-clause-codes : goal.returns-in-Ok-clause-codes
 returns-in-Ok-clause-codes g c =
     let enough = codes-within c.self.inside.base _ c.self.inside.names c.self.inside.survey c.self.inside.items.items c.self.invariant c.args.self.now c.self.view_is
     (edit_of c.args.edit.now) c.place-k.result c.args.line c.args.still.now c.args.users.now c.place-k.ensures.value c.requires.allowed c.requires.edit c.requires.still in
-    omega (arith, c.put_still.ensures.encoded_most, enough)
+    omega (arith, c.put_still.ensures.counted.encoded_most, enough)
 
 pub returns-in-Err-clause-codes : goal.returns-in-Err-clause-codes
 returns-in-Err-clause-codes g c =
     let enough = codes-within c.self.inside.base _ c.self.inside.names c.self.inside.survey c.self.inside.items.items c.self.invariant c.args.self.now c.self.view_is
     (edit_of c.args.edit.now) c.place-k.result c.args.line c.args.still.now c.args.users.now c.place-k.ensures.value c.requires.allowed c.requires.edit c.requires.still in
-    omega (arith, c.put_still.ensures.encoded_most, enough)
+    omega (arith, c.put_still.ensures.counted.encoded_most, enough)
 
 pub returns-in-Ok-clause-valued : goal.returns-in-Ok-clause-valued
 returns-in-Ok-clause-valued g c =
     let few = place-few c.self.inside.base _ c.self.inside.names c.self.inside.survey c.self.inside.items.items c.self.invariant c.args.self.now c.self.view_is
     (edit_of c.args.edit.now) c.place-k.result c.args.line c.args.still.now c.args.users.now c.place-k.ensures.value c.requires.allowed c.requires.edit c.requires.still in
-    (c.put_still.ensures.valued_least, omega (arith, c.put_still.ensures.valued_few, few))
+    (c.put_still.ensures.counted.valued_least, omega (arith, c.put_still.ensures.counted.valued_few, few))
 
 pub returns-in-Err-clause-valued : goal.returns-in-Err-clause-valued
 returns-in-Err-clause-valued g c =
     let few = place-few c.self.inside.base _ c.self.inside.names c.self.inside.survey c.self.inside.items.items c.self.invariant c.args.self.now c.self.view_is
     (edit_of c.args.edit.now) c.place-k.result c.args.line c.args.still.now c.args.users.now c.place-k.ensures.value c.requires.allowed c.requires.edit c.requires.still in
-    (c.put_still.ensures.valued_least, omega (arith, c.put_still.ensures.valued_few, few))
+    (c.put_still.ensures.counted.valued_least, omega (arith, c.put_still.ensures.counted.valued_few, few))
 
 pub returns-in-Ok-clause-encoded : goal.returns-in-Ok-clause-encoded
 returns-in-Ok-clause-encoded g c =
     let few = place-few c.self.inside.base _ c.self.inside.names c.self.inside.survey c.self.inside.items.items c.self.invariant c.args.self.now c.self.view_is
     (edit_of c.args.edit.now) c.place-k.result c.args.line c.args.still.now c.args.users.now c.place-k.ensures.value c.requires.allowed c.requires.edit c.requires.still in
-    (c.put_still.ensures.encoded_least, omega (arith, c.put_still.ensures.encoded_few, few))
+    (c.put_still.ensures.counted.encoded_least, omega (arith, c.put_still.ensures.counted.encoded_few, few))
 
 pub returns-in-Err-clause-encoded : goal.returns-in-Err-clause-encoded
 returns-in-Err-clause-encoded g c =
     let few = place-few c.self.inside.base _ c.self.inside.names c.self.inside.survey c.self.inside.items.items c.self.invariant c.args.self.now c.self.view_is
     (edit_of c.args.edit.now) c.place-k.result c.args.line c.args.still.now c.args.users.now c.place-k.ensures.value c.requires.allowed c.requires.edit c.requires.still in
-    (c.put_still.ensures.encoded_least, omega (arith, c.put_still.ensures.encoded_few, few))
+    (c.put_still.ensures.counted.encoded_least, omega (arith, c.put_still.ensures.counted.encoded_few, few))
 
 pub returns-in-Ok-clause-parsed : goal.returns-in-Ok-clause-parsed
-returns-in-Ok-clause-parsed g c = c.put_still.ensures.parsed
+returns-in-Ok-clause-parsed g c = c.put_still.ensures.counted.parsed
 
 pub returns-in-Err-clause-parsed : goal.returns-in-Err-clause-parsed
-returns-in-Err-clause-parsed g c = c.put_still.ensures.parsed
+returns-in-Err-clause-parsed g c = c.put_still.ensures.counted.parsed
