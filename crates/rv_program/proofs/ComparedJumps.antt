@@ -20,6 +20,7 @@ use Rattle.rv_program.specs.internal.Compared.{compared_through, IsCompared, Are
 use Rattle.rv_program.specs.Edits.{line_before_edit}
 use Rattle.rv_program.specs.Jumps.{target_in, target_among, target_of}
 use Rattle.rv_program.specs.Program.{program_of, body_at}
+use Rattle.rv_program.specs.internal.Revisions.{edited_before}
 use Rattle.rv_program.specs.internal.TextRows.{program_in}
 use Rattle.rv_program.specs.Uses.{has_local_label, expression_of, names_used, uses_address, uses_local_label, uses_paired_high, is_equ}
 use Rattle.rv_program.specs.internal.Work.{one_if_local, compared_operands}
@@ -64,7 +65,7 @@ module _ (before : Before) (after : TextRows) (line : ℕ) (is_after : IsAfter b
       (or_right (names || place) (uses_local_label body) uses))
 
   -- its comparison is counted
-  pub local-compared : (stood number : ℕ) (direction : Direction) → line_before_edit (edit_on before) line ≡ Some stood → target_of (body_at (program_in after) line) ≡ Some (Local number direction) → compared_through before line ≡ compared_through before (line - 1) + 1
+  pub local-compared : (stood number : ℕ) (direction : Direction) → line_before_edit (edit_on before) line ≡ Some stood → target_of (body_at (program_in after) line) ≡ Some (Local number direction) → compared_through (edited_before before) line ≡ compared_through (edited_before before) (line - 1) + 1
   local-compared stood number direction stands goes =
       let goes' : target_of body ≡ Some (Local number direction) = ap (λ ls. target_of (body_at (program_of ls) line)) (sym is_after.lines) ∙ goes in
       let one : compared_operands body ≡ 1 = ap one_if_local goes' in
@@ -72,7 +73,7 @@ module _ (before : Before) (after : TextRows) (line : ℕ) (is_after : IsAfter b
       omega (arith, here, one)
 
   -- where nothing is compared
-  pub not-compared : (counts : Counts) → IsCompared before line counts counts
+  pub not-compared : (counts : Counts) → IsCompared (edited_before before) line counts counts
   not-compared counts =
       let more = work-more compared_operands base lines (edit_on before) line first in
       record {
@@ -85,12 +86,12 @@ module _ (before : Before) (after : TextRows) (line : ℕ) (is_after : IsAfter b
 
 -- Line by line
 
-pub none-compared : (before : Before) (counts : Counts) → AreCompared before 0 counts counts
+pub none-compared : (before : Before) (counts : Counts) → AreCompared (edited_before before) 0 counts counts
 none-compared before counts = record { parsed = refl; least = omega arith; few = omega arith; most = omega arith; encoded = refl }
 
-pub next-compared : (before : Before) (n : ℕ) (old counts new : Counts) → AreCompared before n old counts → IsCompared before (n + 1) counts new → AreCompared before (n + 1) old new
+pub next-compared : (before : Before) (n : ℕ) (old counts new : Counts) → AreCompared (edited_before before) n old counts → IsCompared (edited_before before) (n + 1) counts new → AreCompared (edited_before before) (n + 1) old new
 next-compared before n old counts new are is =
-    let back = ap (compared_through before) (let e : n + 1 - 1 ≡ n = omega arith in e) in
+    let back = ap (compared_through (edited_before before)) (let e : n + 1 - 1 ≡ n = omega arith in e) in
     record {
       parsed = is.parsed ∙ are.parsed;
       least = omega (arith, are.least, is.least);
@@ -100,7 +101,7 @@ next-compared before n old counts new are is =
     }
 
 -- of more lines
-pub more-compared : (before : Before) (m n : ℕ) (old new : Counts) → m ≤ n → AreCompared before m old new → AreCompared before n old new
+pub more-compared : (before : Before) (m n : ℕ) (old new : Counts) → m ≤ n → AreCompared (edited_before before) m old new → AreCompared (edited_before before) n old new
 more-compared before m n old new up are =
     let more = work-up compared_operands (base_before before) (lines_before before) (edit_on before) m n up in
     record {

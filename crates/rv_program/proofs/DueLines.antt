@@ -1,7 +1,7 @@
 -- Which lines are due after an edit, and the row of those lines.
 use Rattle.std.proofs.Common.{◌≡◌, ℕ, ℤ, suc, ◌+◌, ◌≤◌, Bool, true, false, not, ◌&&◌, ◌||◌, List, [], ◌∷◌, ◌++◌, length, map, if◌then◌else◌, Option, Some, None, is_some, Ok, arith, ap, subst, sym, ◌∙◌, refl}
 use Rattle.std.specs.List.{list_any}
-use Rattle.std.proofs.lemmas.Bool.{not_from_true, or_left, or_right, or_from}
+use Rattle.std.proofs.lemmas.Bool.{not_from_true, or_right, or_from}
 use Rattle.std.proofs.lemmas.List.{append-nil}
 use Rattle.rv_stmt.specs.declared.directive.Definition.{Definition}
 use Rattle.rv_expr.specs.Tree as Tree
@@ -161,19 +161,9 @@ module _ (base : ℕ) (lines : List (List ℕ)) (edit : Edit) (k : ℕ) where
   due-by : Bool → Bool
   due-by compared = if compared then is_reencoded base lines edit k else is_invalidated base lines edit k
 
-  -- a line that is compared
-  pub due-equ : is_equ (body_at (program_after lines edit) k) ≡ true → is_reencoded base lines edit k ≡ is_due base lines edit k
-  unfolding due-by
-  due-equ equ = sym (ap due-by (or_left (is_equ (body_at (program_after lines edit) k)) (is_some (target_of (body_at (program_after lines edit) k))) equ))
-
   pub due-jump : (target : Tree.Tree) → target_of (body_at (program_after lines edit) k) ≡ Some target → is_reencoded base lines edit k ≡ is_due base lines edit k
   unfolding due-by
   due-jump target goes = sym (ap due-by (or_right (is_equ (body_at (program_after lines edit) k)) (is_some (target_of (body_at (program_after lines edit) k))) (ap is_some goes)))
-
-  -- and one that is not
-  pub due-other : is_equ (body_at (program_after lines edit) k) ≡ false → target_of (body_at (program_after lines edit) k) ≡ None → is_invalidated base lines edit k ≡ is_due base lines edit k
-  unfolding due-by
-  due-other equ target = sym (ap due-by (or_from (is_equ (body_at (program_after lines edit) k)) (is_some (target_of (body_at (program_after lines edit) k))) equ (ap is_some target)))
 
   -- a line that is not invalidated is not due
   pub due-valid : refusal_of lines edit ≡ None → 1 ≤ k → k ≤ length (lines_after lines edit) → is_invalidated base lines edit k ≡ false → false ≡ is_due base lines edit k

@@ -294,7 +294,3 @@ module _ (base : ℕ) (program : Program) where
       at j below (inl after) = back.done j (omega (arith, after)) below
       at j below (inr to) =
           back.left j (omega (arith, to)) ∙ sym (before j to (cases_eq (section_behind program j) (section_behind program i)))
-
-  -- and so does the first line
-  pub back-end : (i : ℕ) (row : List Entry) → IsBack i 0 row → ArePairedThrough base program (i + 1) row
-  back-end i row back = record { many = back.many; each = λ j below. back.done j (omega arith) below }

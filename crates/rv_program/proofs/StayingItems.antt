@@ -1,5 +1,5 @@
 -- The items that an edit leaves as they are.
-use Rattle.std.proofs.Common.{◌≡◌, ℕ, ◌≤◌, Bool, false, not, ◌||◌, List, length, Option, Some, None, is_some, Decides, ap, subst, sym, ◌∙◌, refl}
+use Rattle.std.proofs.Common.{◌≡◌, ℕ, ◌≤◌, Bool, false, not, ◌||◌, List, length, Option, Some, None, is_some, Decides, ap, subst, sym, ◌∙◌, refl, []}
 use Rattle.std.proofs.lemmas.Bool.{false≢true, not-false, or_parts}
 use Rattle.std.proofs.lemmas.Bool.Decides.{same_from_decides}
 use Rattle.rv_layout.specs.declared.measured.Measured.{Measured}
@@ -35,9 +35,10 @@ module _ (base : ℕ) (lines : List (List ℕ)) (edit : Edit) (k : ℕ) (item : 
       let shape : shape_at after k ≡ shape_at before j = (same_shape-Decides _ _).0 (not-false _ parts.1) in
       let body : body_at after k ≡ body_at before j = ap (λ s. s.body) (statement-stood lines edit k j first last (stood lines edit k j allowed first last is)) in
       let code : code_at base after k ≡ code_at base before j = λ i. code_by_values (shape i) (body i) (values i) in
-      let kept : IsItem base lines j item = former.kept j is in
+      let kept : IsItem base lines j item = former j is in
+      let there = stood lines edit k j allowed first last is in
       record {
-        line = former.line;
+        line = kept.line ∙ sym (there.line []);
         shape = kept.shape ∙ sym shape;
         values = kept.values ∙ sym values;
         code = kept.code ∙ sym code;
@@ -53,7 +54,7 @@ module _ (base : ℕ) (lines : List (List ℕ)) (edit : Edit) (k : ℕ) (item : 
   pub stood-reencoded : (o : Option ℕ) (none : Bool) → o ≡ line_before_edit edit k → is_some o ≡ not none → none ≡ false → (values : LineValues) (shape : Measured) → values ≡ values_at base (program_after lines edit) k → shape ≡ shape_at (program_after lines edit) k → (same : Bool) → Decides same (values ≡ item.values) → (not same || not (same_shape shape item.shape)) ≡ is_reencoded base lines edit k
   stood-reencoded o none here test stands values shape are is same decides =
       let (j, at) = stood_somewhere o none test stands in
-      let kept : IsItem base lines j item = former.kept j (sym here ∙ at) in
+      let kept : IsItem base lines j item = former j (sym here ∙ at) in
       let tested : same ≡ same_values values item.values = same_from_decides _ _ decides (same_values-Decides values item.values) in
       (λ i. not (tested i) || not (same_shape shape item.shape))
       ∙ (λ i. not (same_values (are i) (kept.values i)) || not (same_shape (is i) (kept.shape i)))
@@ -63,7 +64,7 @@ module _ (base : ℕ) (lines : List (List ℕ)) (edit : Edit) (k : ℕ) (item : 
   pub stood-changed : (o : Option ℕ) (none : Bool) → o ≡ line_before_edit edit k → is_some o ≡ not none → none ≡ false → (code : Coded) → code ≡ code_at base (program_after lines edit) k → (same : Bool) → Decides same (code ≡ item.code) → not same ≡ is_changed base lines edit k
   stood-changed o none here test stands code is same decides =
       let (j, at) = stood_somewhere o none test stands in
-      let kept : IsItem base lines j item = former.kept j (sym here ∙ at) in
+      let kept : IsItem base lines j item = former j (sym here ∙ at) in
       let tested : same ≡ same_code code item.code = same_from_decides _ _ decides (same_code-Decides code item.code) in
       ap not tested
       ∙ (λ i. not (same_code (is i) (kept.code i)))

@@ -22,6 +22,7 @@ pub mod NewShapes
 pub mod PairedHighs
 pub mod ReadLines
 pub mod Renewals
+pub mod Revisions
 pub mod Rows
 pub mod Still
 pub mod SymbolRows

@@ -1,6 +1,6 @@
 //! Where the names of a text are defined, in a row by their numbers.
 
-ghost use Rattle.std.specs.Prelude.{◌≡◌, ◌≤◌, ◌<◌, ◌+◌, ◌^◌, ◌==◌, not, ◌||◌, true, false, Some, None, length, IfSome, IfOk};
+ghost use Rattle.std.specs.Prelude.{◌≡◌, ◌≤◌, ◌<◌, ◌==◌, not, ◌||◌, true, false, Some, None, length, IfSome, IfOk};
 ghost use Rattle.rv_stmt.specs.declared.directive.Definition.{Definition};
 ghost use Rattle.rv_stmt.specs.declared.statement.Body.TheVariants.{Equ as EquBody};
 ghost use Rattle.rv_stmt.specs.LentLabels.{label_lent};

@@ -10,8 +10,9 @@ ghost use Rattle.rv_program.specs.internal.Compared.{IsCompared, AreCompared};
 ghost use Rattle.rv_program.specs.Counted.{counts_of};
 ghost use Rattle.rv_program.specs.internal.Differing.{HasDiffering};
 ghost use Rattle.rv_program.specs.Jumps.{target_of};
-ghost use Rattle.rv_program.specs.Program.{statement_at, body_at, lines_that};
+ghost use Rattle.rv_program.specs.Program.{statement_at, body_at};
 ghost use Rattle.rv_program.specs.Sameness.{same_values};
+ghost use Rattle.rv_program.specs.internal.Revisions.{edited_before, AreDue};
 ghost use Rattle.rv_program.specs.internal.SymbolRows.{AreSymbolRows};
 ghost use Rattle.rv_program.specs.internal.TextRows.{program_in};
 
@@ -92,7 +93,7 @@ fn is_jump_due<C: Count>(
     requires target { target_of (body_at (program_in after.now.text) line) ≡ Some target.now }
     requires count { C.valued_count counter.old < 2 ^ 64 - 1 }
     ensures due { result ≡ is_reencoded (base_before before.now) (lines_before before.now) (edit_on before.now) line }
-    ensures compared { IsCompared before.now line (counts_of C.parsed_count C.valued_count C.encoded_count counter.old) (counts_of C.parsed_count C.valued_count C.encoded_count counter.new) }
+    ensures compared { IsCompared (edited_before before.now) line (counts_of C.parsed_count C.valued_count C.encoded_count counter.old) (counts_of C.parsed_count C.valued_count C.encoded_count counter.new) }
 {
     let Some(stood) = before.edit.line_before(line) else {
         return true;
@@ -129,7 +130,7 @@ fn is_due<C: Count>(
     requires last { line ≤ length after.now.text.lines.now }
     requires count { C.valued_count counter.old < 2 ^ 64 - 1 }
     ensures due { result ≡ is_due (base_before before.now) (lines_before before.now) (edit_on before.now) line }
-    ensures compared { IsCompared before.now line (counts_of C.parsed_count C.valued_count C.encoded_count counter.old) (counts_of C.parsed_count C.valued_count C.encoded_count counter.new) }
+    ensures compared { IsCompared (edited_before before.now) line (counts_of C.parsed_count C.valued_count C.encoded_count counter.old) (counts_of C.parsed_count C.valued_count C.encoded_count counter.new) }
 {
     if let Some(definition) = equ_on(&after.text, line) {
         return is_equ_due(before, after, definition, line);
@@ -186,7 +187,7 @@ fn is_due_by_brief<C: Count>(
     requires last { line ≤ length after.now.text.lines.now }
     requires count { C.valued_count counter.old < 2 ^ 64 - 1 }
     ensures due { result ≡ is_due (base_before before.now) (lines_before before.now) (edit_on before.now) line }
-    ensures compared { IsCompared before.now line (counts_of C.parsed_count C.valued_count C.encoded_count counter.old) (counts_of C.parsed_count C.valued_count C.encoded_count counter.new) }
+    ensures compared { IsCompared (edited_before before.now) line (counts_of C.parsed_count C.valued_count C.encoded_count counter.old) (counts_of C.parsed_count C.valued_count C.encoded_count counter.new) }
 {
     if !may_be_invalidated(before, after, differing, brief, line) {
         return false;
@@ -194,7 +195,8 @@ fn is_due_by_brief<C: Count>(
     !is_carried(before, after, differing, line) && is_due(before, after, differing, line, counter)
 }
 
-/// The lines of the text after an edit that are due, rising. The text has these lines.
+/// The lines of the text after an edit that are due, rising: the edit invalidates each of them, and all others keep their values and their
+/// shape. The text has these lines.
 ///
 /// The counter's number of expressions computed rises by one for each jump to a local label that stood in the text before: the distance of
 /// the label is computed in both texts.
@@ -214,8 +216,8 @@ pub fn due_lines<C: Count>(
     requires after { IsAfter before.now after.now.text }
     requires column { lines.now ≡ after.now.text.lines.now }
     requires count { C.valued_count counter.old + length after.now.text.lines.now < 2 ^ 64 }
-    ensures due { IfOk result (λ row. row.items ≡ lines_that (is_due (base_before before.now) (lines_before before.now) (edit_on before.now)) (length after.now.text.lines.now)) }
-    ensures compared { AreCompared before.now (length after.now.text.lines.now) (counts_of C.parsed_count C.valued_count C.encoded_count counter.old) (counts_of C.parsed_count C.valued_count C.encoded_count counter.new) }
+    ensures due { IfOk result (λ row. AreDue (edited_before before.now) (length after.now.text.lines.now) row.items) }
+    ensures compared { AreCompared (edited_before before.now) (length after.now.text.lines.now) (counts_of C.parsed_count C.valued_count C.encoded_count counter.old) (counts_of C.parsed_count C.valued_count C.encoded_count counter.new) }
 {
     let differing = differing_names(alloc, before, after)?;
     let mut row = Vec::new(alloc);

@@ -1,6 +1,6 @@
 //! The high halves on the lines of a text.
 
-ghost use Rattle.std.specs.Prelude.{◌≡◌, ◌≤◌, ◌<◌, ◌+◌, ◌^◌, ◌-◌, Err, length, IfOk, if◌then◌else◌};
+ghost use Rattle.std.specs.Prelude.{◌≡◌, ◌≤◌, ◌<◌, ◌+◌, ◌^◌, ◌-◌, Err, length, IfOk};
 ghost use Rattle.std.specs.Option.{is_some, option_map};
 ghost use Rattle.rv_expr.specs.declared.faults.ValueFault.TheVariants.{NoPartner};
 ghost use Rattle.rv_program.specs.declared.limits.TheConstants.{MAX_LINES};

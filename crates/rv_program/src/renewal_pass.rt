@@ -1,20 +1,19 @@
-//! The pass over all items of a text after an edit that makes anew those of the lines that are due.
+//! The pass over the items of a text after an edit that makes anew those of the lines that are due.
 
-ghost use Rattle.std.specs.Prelude.{◌≡◌, ◌≤◌, ◌<◌, ◌+◌, ◌-◌, ◌*◌, ◌^◌, ℕ, suc, [], true, false, length, get_or, None, IfOk, IfErr, IfSome};
-ghost use Rattle.rv_program.specs.internal.Before.{IsBefore, IsAfter, base_before, lines_before, edit_on};
-ghost use Rattle.rv_program.specs.Changes.{is_invalidated, is_due};
+ghost use Rattle.std.specs.Prelude.{◌≡◌, ◌≤◌, ◌<◌, ◌+◌, ◌-◌, ◌*◌, ◌^◌, ◌∷◌, [], length, get_or, None, IfOk, IfErr, IfSome};
 ghost use Rattle.rv_program.specs.Counted.{counts_of};
+ghost use Rattle.rv_program.specs.Edits.{edit_of};
 ghost use Rattle.rv_program.specs.internal.Former.{AreFormer};
-ghost use Rattle.rv_program.specs.internal.Items.{AreItems};
-ghost use Rattle.rv_program.specs.Program.{lines_that, lines_ahead};
-ghost use Rattle.rv_program.specs.internal.Renewals.{changed_through, AreCounted, AreLeft, IsAheadNext, IsDone, AreApart};
-ghost use Rattle.rv_program.specs.Text.{lines_after};
-ghost use Rattle.rv_program.specs.internal.ValueRows.{AreValueRows, base_of};
+ghost use Rattle.rv_program.specs.internal.Items.{AreFirstItems};
+ghost use Rattle.rv_program.specs.internal.LinesAhead.{BeginsOther};
+ghost use Rattle.rv_program.specs.internal.Renewals.{changed_through, AreCounted, AreLeft, IsDone, AreApart};
+ghost use Rattle.rv_program.specs.internal.Revisions.{edited_text, IsRevised, AreDue};
+ghost use Rattle.rv_program.specs.internal.ValueRows.{base_of};
 
-use crate::before::Before;
 use crate::item::Item;
 use crate::line_sum::LineSum;
 use crate::renewed_line::{add_changed, renewed};
+use crate::revision::Revision;
 use crate::value_rows::ValueRows;
 use rv_text::Count;
 use rv_tree::{Pass, SumTree, TreeError};
@@ -23,7 +22,7 @@ use std::alloc::{AllocError, Global};
 #[derive(Drop)]
 struct Renewal<'a, 'e, C: Count> {
     alloc: Global,
-    before: &'a Before<'a, 'e>,
+    revision: &'a Revision<'a, 'e>,
     rows: &'a ValueRows<'a>,
     // The lines ahead that are due.
     ahead: &'a [u32],
@@ -32,15 +31,11 @@ struct Renewal<'a, 'e, C: Count> {
     counter: &'a mut C,
 }
 
-// The lines behind line `k + 1` that are due, if that line is; `ahead` are those behind line `k`.
-fn ahead_of_next<'a>(before: &Before<'_, '_>, ahead: &'a [u32], k: u32) -> Option<&'a [u32]>
-    requires before { IsBefore before.now }
-    requires within { k < length (lines_after (lines_before before.now) (edit_on before.now)) }
-    requires ahead { (m : ℕ) × (ahead.now ≡ lines_ahead (is_due (base_before before.now) (lines_before before.now) (edit_on before.now)) k (suc m)) }
+// The lines behind line `k + 1`, where they begin with that one.
+fn ahead_of_next(ahead: &[u32], k: u32) -> Option<&[u32]>
     requires last { k < 2 ^ 32 - 1 }
-    ensures invalidated { IfSome result (λ later. is_invalidated (base_before before.now) (lines_before before.now) (edit_on before.now) (k + 1) ≡ true) }
-    ensures later { IfSome result (λ later. IsAheadNext before.now k ahead.now later.now) }
-    ensures none { result ≡ None → is_due (base_before before.now) (lines_before before.now) (edit_on before.now) (k + 1) ≡ false }
+    ensures later { IfSome result (λ later. ahead.now ≡ (k + 1) ∷ later.now) }
+    ensures none { result ≡ None → BeginsOther ahead.now (k + 1) }
 {
     let [line, later @ ..] = ahead else {
         return None;
@@ -62,31 +57,38 @@ fn first_of(lines: &[u32]) -> u32
 }
 
 impl<'a, 'e, C: Count> Pass<Item> for Renewal<'a, 'e, C> {
-    ghost accepts = { λ p b xs. AreLeft p.before.now p.rows.now p.ahead.now b xs (counts_of C.parsed_count C.valued_count C.encoded_count p.counter.now) };
+    ghost accepts = { λ p b xs. AreLeft (edited_text p.revision.now) p.rows.now p.ahead.now b xs (counts_of C.parsed_count C.valued_count C.encoded_count p.counter.now) };
 
     ghost gives = { λ p b x y q.
-        IsDone p.before.now p.rows.now b x y (counts_of C.parsed_count C.valued_count C.encoded_count p.counter.now) (counts_of C.parsed_count C.valued_count C.encoded_count q.counter.now)
+        IsDone (edited_text p.revision.now) p.rows.now b x y (counts_of C.parsed_count C.valued_count C.encoded_count p.counter.now) (counts_of C.parsed_count C.valued_count C.encoded_count q.counter.now)
         p.changed.now.items q.changed.now.items p.ahead.now q.ahead.now
-        × (q.before.now ≡ p.before.now) × (q.rows.now ≡ p.rows.now)
+        × (edited_text q.revision.now ≡ edited_text p.revision.now) × (q.rows.now ≡ p.rows.now)
         × (q.changed.ghost_name ≡ p.changed.ghost_name)
         × (q.counter.ghost_name ≡ p.counter.ghost_name) };
 
-    ghost refuses = { λ p b x q. (q.before.now ≡ p.before.now)
-        × AreCounted p.before.now b.count (b.count + 1) (counts_of C.parsed_count C.valued_count C.encoded_count p.counter.now) (counts_of C.parsed_count C.valued_count C.encoded_count q.counter.now)
+    ghost refuses = { λ p b x q. (edited_text q.revision.now ≡ edited_text p.revision.now)
+        × AreCounted (edited_text p.revision.now) b.count (b.count + 1) (counts_of C.parsed_count C.valued_count C.encoded_count p.counter.now) (counts_of C.parsed_count C.valued_count C.encoded_count q.counter.now)
         × (q.changed.ghost_name ≡ p.changed.ghost_name)
         × (q.counter.ghost_name ≡ p.counter.ghost_name) };
 
     ghost keeps = { λ p b s. AreApart p.ahead.now b s };
 
     fn visit(&mut self, before: &LineSum, item: &Item) -> Result<Option<Item>, AllocError> {
-        let Some(ahead) = ahead_of_next(self.before, self.ahead, before.count) else {
+        let Some(ahead) = ahead_of_next(self.ahead, before.count) else {
             return Ok(None);
         };
         self.ahead = ahead;
         let line = before.count + 1;
-        match renewed(self.alloc, self.before, self.rows, line, item, self.counter) {
+        match renewed(
+            self.alloc,
+            self.revision,
+            self.rows,
+            line,
+            item,
+            self.counter,
+        ) {
             Ok(Some(new)) => {
-                add_changed(self.before, line, item, &new, self.changed)?;
+                add_changed(self.revision, line, item, &new, self.changed)?;
                 Ok(Some(new))
             }
             Ok(None) => Ok(None),
@@ -103,40 +105,46 @@ impl<'a, 'e, C: Count> Pass<Item> for Renewal<'a, 'e, C> {
 
     ghost use Rattle.std.proofs.Common.{refl};
     ghost use Rattle.rv_program.specs.internal.Renewals.{done-next, apart_left};
+    ghost use Rattle.rv_program.specs.internal.Revisions.{edited_text};
 
-    ghost accepts_rest = { λ p q b x y xs c g. done-next p.before.now q.before.now p.rows.now q.rows.now _ _ b x y xs _ _ _ _ c g.0 g.1 g.2 };
+    ghost accepts_rest = { λ p q b x y xs c g. done-next (edited_text p.revision.now) (edited_text q.revision.now) p.rows.now q.rows.now _ _ b x y xs _ _ _ _ c g.0 g.1 g.2 };
 
-    ghost kept = { λ p b xs n v a k. apart_left _ p p.before.now p.rows.now p.ahead.now (counts_of C.parsed_count C.valued_count C.encoded_count p.counter.now) p.changed.now.items (λ c x done. (done, refl, refl, refl, refl)) b xs v a k };
+    ghost kept = { λ p b xs n v a k. apart_left _ p (edited_text p.revision.now) p.rows.now p.ahead.now (counts_of C.parsed_count C.valued_count C.encoded_count p.counter.now) p.changed.now.items (λ c x done. (done, refl, refl, refl, refl)) b xs v a k };
 }
 
-/// The items of a text after an edit, those of these lines made anew, which are those that are due: one pass over the tree. It
-/// is as for `renewed_items`.
+/// The items of the first lines of a text after an edit, those of these lines made anew, which are those that are due: one pass over the
+/// tree. Those of them that are new or have another code are added to the changed lines, of which there are none.
+///
+/// The counter's number of expressions computed rises by at most the operands of the lines that the edit invalidates, and its number of
+/// lines encoded by at most those that are new or have other values or another shape, whatever the outcome.
+///
+/// # Errors
+///
+/// `Memory` if there was no memory for what is kept.
 pub fn renewed_in_one_pass<C: Count>(
     alloc: Global,
-    before: &Before<'_, '_>,
+    revision: &Revision<'_, '_>,
     rows: &ValueRows<'_>,
     items: &SumTree<Item>,
     due: &[u32],
     changed: &mut Vec<u32>,
     counter: &mut C,
 ) -> Result<SumTree<Item>, TreeError>
-    requires before { IsBefore before.now }
-    requires rows { AreValueRows rows.now }
-    requires after { IsAfter before.now rows.now.symbols.text }
-    requires due { due.now ≡ lines_that (is_due (base_before before.now) (lines_before before.now) (edit_on before.now)) (length rows.now.symbols.text.lines.now) }
-    requires count { length items.now.items ≡ length rows.now.symbols.text.lines.now }
-    requires former { AreFormer (base_before before.now) (lines_before before.now) (edit_on before.now) 0 items.now.items }
+    requires revised { IsRevised (edited_text revision.now) rows.now }
+    requires due { AreDue (edited_text revision.now) (length items.now.items) due.now }
+    requires count { length items.now.items ≤ length rows.now.symbols.text.lines.now }
+    requires former { AreFormer revision.now.base revision.now.lines.now (edit_of revision.now.edit) 0 items.now.items }
     requires changed { changed.old.items ≡ [] }
     requires valued { C.valued_count counter.old + 1000 * length rows.now.symbols.text.lines.now < 2 ^ 64 }
     requires encoded { C.encoded_count counter.old + length rows.now.symbols.text.lines.now < 2 ^ 64 }
     ensures memory { IfErr result (λ e. e ≡ TreeError.Memory) }
-    ensures items { IfOk result (λ t. AreItems (base_of rows.now) rows.now.symbols.text.lines.now t.items) }
-    ensures changed { IfOk result (λ _. changed.new.items ≡ changed_through before.now (length rows.now.symbols.text.lines.now)) }
-    ensures counted { AreCounted before.now 0 (length rows.now.symbols.text.lines.now) (counts_of C.parsed_count C.valued_count C.encoded_count counter.old) (counts_of C.parsed_count C.valued_count C.encoded_count counter.new) }
+    ensures items { IfOk result (λ t. AreFirstItems (base_of rows.now) rows.now.symbols.text.lines.now (length items.now.items) t.items) }
+    ensures changed { IfOk result (λ _. changed.new.items ≡ changed_through (edited_text revision.now) (length items.now.items)) }
+    ensures counted { AreCounted (edited_text revision.now) 0 (length items.now.items) (counts_of C.parsed_count C.valued_count C.encoded_count counter.old) (counts_of C.parsed_count C.valued_count C.encoded_count counter.new) }
 {
     let mut pass = Renewal {
         alloc,
-        before,
+        revision,
         rows,
         ahead: due,
         changed,

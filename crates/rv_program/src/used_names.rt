@@ -1,7 +1,7 @@
 //! The names that a line uses, in brief.
 
-ghost use Rattle.std.specs.Prelude.{◌≡◌, ◌<◌, ◌==◌, false, IsTrue};
-ghost use Rattle.rv_program.specs.internal.NameSets.{no_names, with_name, with_group_of, groups_used, is_bucket, has_bucket, IsOutside, IsMoved, may_have};
+ghost use Rattle.std.specs.Prelude.{◌≡◌, ◌==◌, false, IsTrue};
+ghost use Rattle.rv_program.specs.internal.NameSets.{no_names, with_name, with_group_of, groups_used, is_bucket, IsOutside, IsMoved, may_have};
 
 use crate::groups::Groups;
 use crate::name_set::{NameSet, bucket_of};

@@ -3,7 +3,7 @@
 ghost use Rattle.std.specs.Prelude.{◌≡◌, true};
 ghost use Rattle.std.specs.List.{list_any, flat_map};
 ghost use Rattle.rv_program.specs.internal.NameSets.{with_names, brief_of_names};
-ghost use Rattle.rv_program.specs.Uses.{names_in, has_here, has_local_label, tree_of_label, expression_of, is_pcrel_high, is_pcrel_low, is_relative, operand_uses_address, names_used, uses_address, uses_local_label, uses_paired_high, is_equ, is_sized, uses_symbols};
+ghost use Rattle.rv_program.specs.Uses.{names_in, has_here, has_local_label, expression_of, is_pcrel_low, is_relative, operand_uses_address, names_used, uses_address, uses_local_label, uses_paired_high, is_equ, is_sized, uses_symbols};
 ghost use Rattle.rv_layout.specs.Shapes.{is_size};
 
 use crate::used_names::UsedNames;

@@ -11,8 +11,6 @@ use Rattle.rv_stmt.specs.Statement.{statement_of}
 use Rattle.rv_list.specs.declared.view.DefinitionPlace.{DefinitionPlace}
 use Rattle.rv_list.specs.declared.view.DefinitionPlace.TheVariants.{Nowhere, Label as ByLabel, Equ}
 use Rattle.rv_program.specs.declared.groups.Groups.{Groups}
-use Rattle.rv_program.specs.declared.name_set.Mark.{Mark}
-use Rattle.rv_program.specs.declared.name_set.Mark.TheVariants.{Unknown, Same, Moved, Changed}
 use Rattle.rv_store.specs.declared.apart.LineBehind.{LineBehind}
 use Rattle.rv_store.specs.internal.Apart.{added_by}
 use Rattle.rv_store.specs.internal.Column.{groups_on}
@@ -20,7 +18,7 @@ use Rattle.rv_store.specs.internal.Appended.{adds, is_earlier, TellEarlier, adds
 use Rattle.rv_program.specs.internal.Defining.{IsOn}
 use Rattle.rv_program.specs.Definitions.{defines_symbol, place_among_labels, place_in_body, or_place, place_in_statement, definition_of, is_defined}
 use Rattle.rv_program.specs.internal.Locals.{has_local_labels}
-use Rattle.rv_program.specs.internal.NameSets.{Marks, Has, IsBelow, bucket_of, brief_of_names, differs, groups_used, groups_together, no_groups, has_bucket, has_group, may_have}
+use Rattle.rv_program.specs.internal.NameSets.{Marks, Has, bucket_of, brief_of_names, groups_used, groups_together, no_groups, has_bucket, has_group, may_have}
 use Rattle.rv_program.specs.Pairs.{pcrel_high_of}
 use Rattle.rv_program.specs.Program.{Program, program_of, no_statement, body_at, lines_that}
 use Rattle.rv_program.specs.internal.Rows.{in_row, AreDefinitions}
@@ -33,24 +31,6 @@ use Rattle.rv_program.specs.lemmas.DefinitionParts.{within-on}
 use Rattle.rv_program.specs.lemmas.LocalLines.{none-among}
 use Rattle.rv_program.specs.lemmas.NameSetLaws.{none-passes, no-group-together, unused-group}
 use Rattle.rv_program.specs.lemmas.Programs.{length-program}
-
--- Marks
-
--- what may differ by one mark may do so by one that says less
-pub below-differs : (mark other : Mark) → IsBelow mark other → differs mark ≡ true → differs other ≡ true
-below-differs Unknown other below h = absurd (true≢false (sym h))
-below-differs Same other below h = absurd (true≢false (sym h))
-below-differs Moved Moved below h = refl
-below-differs Moved Changed below h = refl
-below-differs Moved Unknown below h = absurd below
-below-differs Moved Same below h = absurd below
-below-differs Changed Changed below h = refl
-below-differs Changed Unknown below h = absurd below
-below-differs Changed Same below h = absurd below
-below-differs Changed Moved below h = absurd below
-
-pub changed-differs : (mark : Mark) → IsBelow Changed mark → differs mark ≡ true
-changed-differs mark below = below-differs Changed mark below refl
 
 -- a line whose groups no added name is in uses none
 only_in : (behind : LineBehind) (set : Marks) → ((name : List ℕ) → added_by behind name ≡ true → Has set name) → (name : List ℕ) → (has_bucket set (bucket_of name) ≡ true) ⊎ (added_by behind name ≡ false)

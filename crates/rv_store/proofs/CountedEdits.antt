@@ -1,10 +1,12 @@
 -- What is counted while an edit is made, by its parts.
-use Rattle.std.proofs.Common.{◌≡◌, ℕ, ◌+◌, ◌*◌, ◌≤◌, List, length, arith, ap, refl}
+use Rattle.std.proofs.Common.{◌≡◌, ℕ, ◌+◌, ◌*◌, ◌≤◌, List, length, arith, ap, subst, ◌∙◌, refl}
 use Rattle.rv_text.specs.Counting.{Counts}
 use Rattle.rv_store.specs.internal.Assembled.{AreCountedAfter}
-use Rattle.rv_program.specs.Changes.{most_codes}
+use Rattle.rv_program.specs.Changes.{is_reencoded, most_codes}
+use Rattle.rv_program.specs.Program.{lines_that}
 use Rattle.rv_program.specs.internal.NewShapes.{shape_operands}
 use Rattle.rv_program.specs.Text.{Edit, lines_after}
+use Rattle.rv_program.specs.internal.Renewals.{AreCountedRenewed}
 use Rattle.rv_program.specs.internal.Work.{survey_operands, compared_operands, value_operands, work}
 use Rattle.rv_program.specs.lemmas.WorkSums.{work-within}
 
@@ -22,3 +24,13 @@ counted-after base lines after edit old new surveyed is parsed least few work_fe
       encoded_few = omega (arith, encoded_few, count);
       encoded_most = codes;
     }
+
+-- the same, where the lines of the text are known by another name
+pub counted-renewed : (base : ℕ) (lines after text : List (List ℕ)) (edit : Edit) (old surveyed new : Counts) → after ≡ lines_after lines edit → text ≡ after → surveyed.parsed ≡ old.parsed → old.valued ≤ surveyed.valued → surveyed.valued ≤ old.valued + 4 * length after → surveyed.valued + shape_operands edit ≤ old.valued + work survey_operands base lines edit (length after) → surveyed.encoded ≡ old.encoded
+    → AreCountedRenewed (record { base = base; lines = lines; edit = edit }) (length text) surveyed new → AreCountedAfter base lines edit old new
+counted-renewed base lines after text edit old surveyed new is same parsed least few work_few encoded counted =
+    let count : length text ≡ length after = ap length same in
+    let all = subst (λ n. AreCountedRenewed (record { base = base; lines = lines; edit = edit }) n surveyed new) count counted in
+    let codes = subst (λ ls. new.encoded ≤ surveyed.encoded + length (lines_that (is_reencoded base lines edit) (length ls))) is all.encoded_most in
+    counted-after base lines after edit old new surveyed.valued is (all.parsed ∙ parsed) least few work_few all.valued_least all.valued_few all.valued_most
+    (let fewest = all.encoded_least in omega (arith, fewest, encoded)) (let most = all.encoded_few in omega (arith, most, encoded)) (omega (arith, codes, encoded))

@@ -1,7 +1,5 @@
 -- Going through the lines one by one gives where they lie.
-use Rattle.std.proofs.Common.{◌≡◌, ℕ, zero, suc, ◌+◌, ◌-◌, ◌^◌, ◌%◌, ◌<◌, ◌≤◌, ◌==◌, true, List, [], ◌∷◌, ◌++◌, length, take, get_or, set, slice_index, if◌then◌else◌, arith, ap, sym, ◌∙◌, refl, subst, ◌⊎◌, inl, inr}
-use Rattle.std.proofs.Math.Nat.{pow-le-pow_right}
-use Rattle.std.proofs.lemmas.Nat.{mod_below, pow_pos}
+use Rattle.std.proofs.Common.{◌≡◌, ℕ, zero, suc, ◌+◌, ◌-◌, ◌^◌, ◌<◌, ◌≤◌, ◌==◌, true, List, [], ◌∷◌, ◌++◌, length, take, get_or, set, slice_index, if◌then◌else◌, arith, ap, sym, ◌∙◌, refl, subst, ◌⊎◌, inl, inr}
 use Rattle.std.proofs.lemmas.Bool.{cases_eq, eq-eqb, ne_eqb}
 use Rattle.std.proofs.lemmas.Grind.{same_number_lists}
 use Rattle.std.proofs.lemmas.List.{take_more, get_or_default, get_or-set_same, get_or-set_other, length-set}
@@ -43,16 +41,6 @@ next-IsLimited ms i m h l is = subst IsLimited (sym (next-is ms i m l is)) (at-I
 pub take-next : (ms : List Measured) (i : ℕ) (m : Measured) → i < length ms → m ≡ get_or ms i m → take (i + 1) ms ≡ take i ms ++ m ∷ []
 take-next ms i m l is = take_more ms i m l ∙ ap (λ n. take i ms ++ n ∷ []) (sym is)
 
--- a line has at most 65,536 bytes
-pub size_at-small : (x : ℕ) (m : Measured) → IsLimited m → size_at x m ≤ 65536
-size_at-small x (Bytes n) h = h
-size_at-small x (Align e) h =
-    let bound : 2 ^ e ≤ 2 ^ 12 = pow-le-pow_right (omega arith) h in
-    omega (arith, mod_below (2 ^ e - x % 2 ^ e) (2 ^ e) (pow_pos e), bound)
-size_at-small x (Switch s) h = omega arith
-size_at-small x Nothing h = omega arith
-size_at-small x (Faulty fault) h = omega arith
-
 -- One more line
 
 section_through-push : (s : Sect) (ms : List Measured) (m : Measured) → section_through s (ms ++ m ∷ []) ≡ section_after (section_through s ms) m
@@ -75,14 +63,6 @@ offset_after-size x (Faulty fault) = omega arith
 
 pub at-section : (f : ℕ → ℕ) (s : Sect) → slice_index (by_section f) (section_number s) ≡ f (section_number s)
 at-section f s = at-number f (section_number s) (number_below s)
-
--- numbers that are the same for each section
-pub same-by_section : (f g : ℕ → ℕ) → ((t : ℕ) → t < sections → f t ≡ g t) → by_section f ≡ by_section g
-same-by_section f g same =
-    let count : length (by_section f) ≡ sections = length-map-range_with_len f 0 sections in
-    same_number_lists (by_section f) (by_section g) (count ∙ sym (length-map-range_with_len g 0 sections)) (λ t m.
-    let within : t < sections = omega (arith, m, count) in
-    at-number f t within ∙ same t within ∙ sym (at-number g t within))
 
 -- one section grows
 grown-at : (f g : ℕ → ℕ) (s t : ℕ) → s < sections → t < sections → (t ≡ s) ⊎ (t ≡ s → ⊥) → (if s == t then g (f t) else f t) ≡ slice_index (set (by_section f) s (g (f s))) t

@@ -1,6 +1,6 @@
 -- A line at the end of some lines: where it lies.
-use Rattle.std.proofs.Common.{◌==◌, nat_lt, insert, Some, None, if◌then◌else◌, ◌≡◌, ℕ, suc, ◌+◌, ◌-◌, ◌^◌, ◌<◌, ◌≤◌, true, false, List, [], ◌∷◌, ◌++◌, length, take, slice_index, arith, ap, sym, subst, ◌∙◌, refl}
-use Rattle.std.proofs.lemmas.Bool.{lt-ltb, le-ltb, eq-eqb}
+use Rattle.std.proofs.Common.{◌==◌, nat_lt, insert, Some, None, if◌then◌else◌, ◌≡◌, ℕ, suc, ◌+◌, ◌-◌, ◌^◌, ◌<◌, ◌≤◌, ◌||◌, true, false, List, [], ◌∷◌, ◌++◌, length, take, slice_index, arith, ap, sym, subst, ◌∙◌, refl}
+use Rattle.std.proofs.lemmas.Bool.{lt-ltb, le-ltb, eq-eqb, ne_eqb}
 use Rattle.std.proofs.lemmas.List.{length-append}
 use Rattle.std.proofs.lemmas.List.Edits.{insert_end}
 use Rattle.std.proofs.Math.Seq.{get_or-append_seam, take-append_seam}
@@ -19,14 +19,14 @@ use Rattle.rv_program.specs.Program.{Program, program_of, lines_that}
 use Rattle.rv_program.specs.References.{equ_value}
 use Rattle.rv_program.specs.internal.Rows.{AreShapes}
 use Rattle.rv_program.specs.internal.Still.{set_or_push}
-use Rattle.rv_store.specs.internal.Still.{uses_any, IsStill, IsPutEdit}
+use Rattle.rv_store.specs.internal.Still.{uses_any, is_put_or_uses, IsStill, IsPutEdit}
 use Rattle.rv_store.specs.internal.StillLines.{IsStillLine}
 use Rattle.rv_program.specs.Text.{Insert}
 use Rattle.rv_store.proofs.AppendLaws.{end-still}
 use Rattle.rv_store.proofs.EndBases.{ends-together, base-ends}
 use Rattle.rv_store.proofs.LongerPrograms.{more, shape-last, shapes-more}
 use Rattle.rv_store.proofs.LongerTexts.{program-longer}
-use Rattle.rv_store.proofs.StillLaws.{equ_value-still}
+use Rattle.rv_store.proofs.StillLaws.{lines_that-same, equ_value-still}
 use Rattle.rv_store.proofs.StillTexts.{end-set_or_push}
 use Rattle.rv_program.specs.lemmas.Programs.{length-for_lines, length-program}
 use Rattle.rv_store.proofs.ShapeRows.{limited-push}
@@ -75,12 +75,12 @@ module _ (ms : List Measured) (m : Measured) (few : length ms < 16384) (limited 
       subst (λ e. sum_below (end_in e) sections ≤ 2 ^ 30) (sym is) (ends-together (ms ++ m ∷ []) limited few-all)
 
 -- Other lines have to do with it by the names that it adds alone, if no section moves
-pub ending-line : (base : ℕ) (lines : List (List ℕ)) (line : List ℕ) (shapes : List Measured) (before : Ends) (given : Still) (users : List ℕ) → AreShapes (program_of lines) shapes → AreLimited shapes → length lines < 16384
+pub ending-line : (base : ℕ) (lines : List (List ℕ)) (line : List ℕ) (shapes : List Measured) (before : Ends) (given : Still) (due : List ℕ) → AreShapes (program_of lines) shapes → AreLimited shapes → length lines < 16384
     → IsApart (program_of lines) (statement_of line) → (given.defines ≡ false → (name : List ℕ) → adds (program_of lines) (statement_of line) name ≡ false)
     → given.shape ≡ shape_at_end (program_of lines) (statement_of line) → IsLimited given.shape → before ≡ ends_of shapes → given.ends ≡ ends_of (shapes ++ given.shape ∷ [])
     → ((t : ℕ) → t < sections → base_by_ends base given.ends t ≡ base_by_ends base before t) → given.place ≡ place_by_shapes base (shapes ++ given.shape ∷ []) (suc (length shapes))
-    → users ≡ lines_that (uses_any (adds (program_of lines) (statement_of line)) (program_of lines)) (length lines) → IsStillLine base lines (length lines + 1) line given users
-ending-line base lines line shapes before given users are limited few apart nothing shape limited_end is all stay place those =
+    → due ≡ lines_that (uses_any (adds (program_of lines) (statement_of line)) (program_of lines)) (length lines) → IsStillLine base lines (length lines + 1) line given due
+ending-line base lines line shapes before given due are limited few apart nothing shape limited_end is all stay place those =
     let p : Program = program_of lines in
     let s : Stmt = statement_of line in
     let from_program : length p ≡ length lines = length-program lines in
@@ -108,8 +108,8 @@ ending-line base lines line shapes before given users are limited few apart noth
       ends = all ∙ ap ends_of rows ∙ ap (λ r. ends_of (shapes_of r)) after;
       place = place ∙ (λ i. place_by_shapes base (rows i) (suc (length shapes))) ∙ ap (place_by_shapes base (shapes_of (more p s))) (ap suc (count ∙ sym from_program)) ∙ (λ j. place_at base (after j) (number j));
       nothing = nothing;
-      those = those ∙ ap (lines_that (uses_any (adds p s) p)) (let back : length lines ≡ length lines + 1 - 1 = omega arith in back);
-      later = λ i other past. absurd (let last = other.last in omega (arith, past, last, from_program));
+      those = those ∙ lines_that-same (uses_any (adds p s) p) (is_put_or_uses (adds p s) p (length lines + 1)) (length lines)
+          (λ i first last. ap (λ b. b || uses_any (adds p s) p i) (sym (ne_eqb i (length lines + 1) (λ e. omega (arith, e, last)))));
       last = λ defines. (
         omega arith,
         record { apart = apart; earlier = ap (λ r. equ_value base r (length lines)) (program-longer lines line) ∙ equ_value-still still (length lines) (omega (arith, from_program)) },

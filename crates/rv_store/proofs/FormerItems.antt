@@ -1,6 +1,6 @@
 -- The items of a text with an edit made, of which nothing is made anew yet.
-use Rattle.std.proofs.Common.{◌≡◌, ℕ, ◌+◌, ◌-◌, ◌<◌, ◌≤◌, ◌⊎◌, inl, inr, List, [], length, map, insert, remove, set, get_or, Some, None, arith, ap, sym, subst, ◌∙◌}
-use Rattle.std.proofs.lemmas.List.{get_or-map, get_or-set_other, length-map, map-set}
+use Rattle.std.proofs.Common.{◌≡◌, ℕ, ◌+◌, ◌-◌, ◌<◌, ◌≤◌, ◌⊎◌, inl, inr, List, length, map, insert, remove, set, get_or, Some, None, arith, ap, sym, subst, ◌∙◌}
+use Rattle.std.proofs.lemmas.List.{get_or-set_other, length-map, map-set}
 use Rattle.std.proofs.lemmas.List.Edits.{get_or-insert_below, get_or-insert_above, get_or-remove_below, get_or-remove_above}
 use Rattle.std.proofs.lemmas.Option.{get_or_from_slice_get, slice_get_within}
 use Rattle.rv_program.specs.declared.item.Item.{Item}
@@ -56,22 +56,15 @@ replace-stood xs place line x other k j one first h =
 
 -- items are former ones where their lines are those after the edit, and each is the one that it was before
 are_former : (base : ℕ) (lines : List (List ℕ)) (edit : Edit) (old new : List Item) → AreItems base lines old → refusal_of lines edit ≡ None → map (λ i. i.line) new ≡ lines_after lines edit → ((other : Item) (k j : ℕ) → 1 ≤ k → line_before_edit edit k ≡ Some j → get_or new (k - 1) other ≡ get_or old (j - 1) other) → AreFormer base lines edit 0 new
-are_former base lines edit old new are allowed listed same i item there =
+are_former base lines edit old new are allowed listed same i item there j h =
     let k : ℕ = 0 + i + 1 in
     let place : i ≡ k - 1 = omega arith in
     let first : 1 ≤ k = omega arith in
     let within : i < length new = slice_get_within new i item there in
     let count : length new ≡ length (lines_after lines edit) = sym (length-map new (λ i. i.line)) ∙ ap length listed in
     let is : get_or new (k - 1) item ≡ item = ap (λ m. get_or new m item) (sym place) ∙ get_or_from_slice_get new i item item there in
-    record {
-      line =
-          ap (λ x. x.line) (sym is)
-          ∙ sym (get_or-map (λ i. i.line) new (k - 1) item [] (subst (λ m. m < length new) place within))
-          ∙ ap (λ ls. get_or ls (k - 1) []) listed;
-      kept = λ j h.
-          let s = stood lines edit k j allowed first (omega (arith, within, count)) h in
-          subst (IsItem base lines j) (sym (same item k j first h) ∙ is) (item_of_line base lines old j item are s.first s.last);
-    }
+    let s = stood lines edit k j allowed first (omega (arith, within, count)) h in
+    subst (IsItem base lines j) (sym (same item k j first h) ∙ is) (item_of_line base lines old j item are s.first s.last)
 
 count_of_items : (base : ℕ) (lines : List (List ℕ)) (items : List Item) → AreItems base lines items → length items ≡ length lines
 count_of_items base lines items are = sym (length-map items (λ i. i.line)) ∙ ap length are.lines

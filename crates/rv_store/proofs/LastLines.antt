@@ -1,9 +1,9 @@
 -- A text without its last line, with which no other line has to do: what is kept of it, and that the edit changes no other line.
-use Rattle.std.proofs.Common.{◌≡◌, ℕ, suc, ◌+◌, ◌-◌, ◌<◌, ◌≤◌, true, false, nat_lt, List, [], ◌∷◌, ◌++◌, length, map, take, get_or, set, slice_index, remove, Some, if◌then◌else◌, append-nil, arith, ap, sym, subst, ◌∙◌, refl}
+use Rattle.std.proofs.Common.{◌≡◌, ℕ, suc, ◌+◌, ◌-◌, ◌<◌, ◌≤◌, ◌==◌, true, false, nat_lt, List, [], ◌∷◌, ◌++◌, length, map, take, get_or, set, slice_index, remove, Some, if◌then◌else◌, append-nil, arith, ap, sym, subst, ◌∙◌, refl}
 use Rattle.std.proofs.Math.ListN.{drop_of_length-le}
 use Rattle.std.proofs.Math.Path.{fun_ext}
 use Rattle.std.proofs.Math.Seq.{take-append_seam, get_or-append_seam}
-use Rattle.std.proofs.lemmas.Bool.{lt-ltb, not_from_true}
+use Rattle.std.proofs.lemmas.Bool.{lt-ltb, not_from_true, or_parts}
 use Rattle.std.proofs.lemmas.List.{take-map, length-map, get_or-set_same, set-set, set-get_or}
 use Rattle.std.proofs.lemmas.List.FromFn.{length-map-range_with_len}
 use Rattle.rv_stmt.specs.Statement.{statement_of}
@@ -33,7 +33,7 @@ use Rattle.rv_store.specs.declared.still.Still.{Still}
 use Rattle.rv_store.specs.declared.survey.Survey.{Survey}
 use Rattle.rv_store.specs.internal.Appended.{adds, shape_at_end, IsApart, AreSymbols}
 use Rattle.rv_store.specs.internal.Ends.{ends_of, ends_after, ends_before, base_by_ends, next_offset, place_by_shapes}
-use Rattle.rv_store.specs.internal.Still.{uses_any, IsOther, IsStill}
+use Rattle.rv_store.specs.internal.Still.{uses_any, is_put_or_uses, IsOther, IsStill}
 use Rattle.rv_store.specs.internal.StillLines.{IsStillLine, IsLastLine}
 use Rattle.rv_store.specs.internal.Surveys.{IsSurvey}
 use Rattle.rv_store.proofs.EndLaws.{at-section, ends_of-push, take-AreLimited}
@@ -185,11 +185,12 @@ module _ {base : ℕ} {lines : List (List ℕ)} {line : List ℕ} {there : Still
   -- no line uses a name that is touched
   unused : (i : ℕ) → IsOther without (length lines + 1) i → uses_any is.touched without i ≡ false
   unused i there =
-      let count = length-program lines in
-      let back : length lines + 1 - 1 ≡ length lines = omega arith in
-      none_ahead (uses_any is.touched without) 0 (length lines)
-      (sym (all_ahead (uses_any is.touched without) (length lines)) ∙ ap (lines_that (uses_any is.touched without)) (sym back) ∙ sym is.those)
-      i (let first = there.first in omega (arith, first)) (let last = there.last in omega (arith, last, count))
+      let first = there.first in
+      let last = there.last in
+      (or_parts (i == length lines + 1) (uses_any is.touched without i)
+      (none_ahead (is_put_or_uses is.touched without (length lines + 1)) 0 (length lines)
+      (sym (all_ahead (is_put_or_uses is.touched without (length lines + 1)) (length lines)) ∙ sym is.those)
+      i (omega (arith, first)) (omega (arith, last, length-program lines)))).1
 
   row-back : {A : Type 0} (f g : ℕ → A) (n : ℕ) → n ≡ suc (length lines) → ((i : ℕ) → IsOther without (length lines + 1) i → g i ≡ f i) → take (length lines) (for_lines g n) ≡ for_lines f (length lines)
   row-back f g n all same =

@@ -15,6 +15,7 @@ pub mod Examples
 pub mod FormerItems
 pub mod FormerShapes
 pub mod ImageExamples
+pub mod ItemsLeft
 pub mod KeptConstants
 pub mod KeptRows
 pub mod LastDefinitions
@@ -24,11 +25,9 @@ pub mod LongerTexts
 pub mod PassedItems
 pub mod QuietLines
 pub mod RememberedNames
-pub mod RenewedUsers
 pub mod Rooms
 pub mod ShapeRows
 pub mod ShownLines
-pub mod StillCounts
 pub mod StillLaws
 pub mod StillRows
 pub mod StillTexts

@@ -136,7 +136,7 @@ module _ {base : ℕ} {p q : Program} {k : ℕ} {touched : List ℕ → Bool} (i
     paired_highs = subst (ArePairedHighs base q) (sym paired_highs) (paired_highs-still is old.paired_highs.items are.paired_highs);
   }
 
-module _ {base : ℕ} {lines : List (List ℕ)} {k : ℕ} {line : List ℕ} {given : Still} {users : List ℕ} (is : IsStillLine base lines k line given users) where
+module _ {base : ℕ} {lines : List (List ℕ)} {k : ℕ} {line : List ℕ} {given : Still} {due : List ℕ} (is : IsStillLine base lines k line given due) where
   module _ (names : List (List ℕ)) (old new : Survey) (are : IsSurvey base (program_of lines) names old) (put : AreLinesPut (k - 1) line given old new) where
     shapes-put : AreShapes (program_of (set_or_push lines (k - 1) line)) new.shapes.items
     shapes-put =
@@ -174,7 +174,7 @@ module _ {base : ℕ} {lines : List (List ℕ)} {k : ℕ} {line : List ℕ} {giv
       }
 
     -- and then have it
-    pub survey-put : (names' : List (List ℕ)) (settled : Survey) → AreSameLines new settled → AreSymbols base (program_of (set_or_push lines (k - 1) line)) (length (set_or_push lines (k - 1) line)) names' settled → IsSurvey base (program_of (set_or_push lines (k - 1) line)) names' settled
+    survey-put : (names' : List (List ℕ)) (settled : Survey) → AreSameLines new settled → AreSymbols base (program_of (set_or_push lines (k - 1) line)) (length (set_or_push lines (k - 1) line)) names' settled → IsSurvey base (program_of (set_or_push lines (k - 1) line)) names' settled
     survey-put names' settled same symbols =
         let shapes = same.shapes ∙ shapes-put in
         survey-still is.still names names' old settled are (subst (λ m. AreSymbols base (program_of (set_or_push lines (k - 1) line)) m names' settled) (sym (length-program (set_or_push lines (k - 1) line))) symbols)
@@ -185,3 +185,10 @@ module _ {base : ℕ} {lines : List (List ℕ)} {k : ℕ} {line : List ℕ} {giv
           places = same.places ∙ places-put;
         })
         (same.locals ∙ put.locals) (same.highs ∙ put.highs) (same.paired_highs ∙ put.paired_highs)
+
+    -- the same by the lines that the survey holds
+    pub survey-whole : (names' : List (List ℕ)) (settled : Survey) → AreSameLines new settled → AreSymbols base (program_of settled.lines.items) (length settled.lines.items) names' settled → old.lines.items ≡ lines → IsSurvey base (program_of settled.lines.items) names' settled
+    survey-whole names' settled same symbols listed =
+        let all : settled.lines.items ≡ set_or_push lines (k - 1) line = same.lines ∙ put.lines ∙ ap (λ ls. set_or_push ls (k - 1) line) listed in
+        subst (λ ls. IsSurvey base (program_of ls) names' settled) (sym all)
+        (survey-put names' settled same (subst (λ ls. AreSymbols base (program_of ls) (length ls) names' settled) all symbols))

@@ -1,36 +1,41 @@
 -- What is kept of a text where a line is new with which the others have to do by its names alone, and what such an edit may take.
-use Rattle.std.proofs.Common.{◌≡◌, ℕ, zero, suc, ◌+◌, ◌-◌, ◌==◌, ◌<◌, ◌≤◌, ◌⊎◌, inl, inr, Bool, true, false, not, ◌||◌, true≢false, List, [], ◌∷◌, ◌++◌, length, map, set, insert, get_or, if◌then◌else◌, arith, ap, sym, subst, ◌∙◌, refl}
-use Rattle.std.specs.List.{list_any, sum_by}
+use Rattle.std.proofs.Common.{◌≡◌, ℕ, zero, suc, ◌+◌, ◌-◌, ◌*◌, ◌==◌, ◌<◌, ◌≤◌, ◌⊎◌, inl, inr, Bool, true, false, ◌||◌, true≢false, List, [], ◌∷◌, ◌++◌, length, map, set, insert, get_or, Some, None, arith, ap, sym, subst, ◌∙◌, refl}
+use Rattle.std.specs.List.{list_any}
 use Rattle.std.proofs.Math.Path.{fun_ext}
-use Rattle.std.proofs.lemmas.Bool.{cases_lt, not_from_true, le-leb, lt-leb, eq-eqb, ne_eqb, or_left, or_right}
-use Rattle.std.proofs.lemmas.List.{length-append}
+use Rattle.std.proofs.lemmas.Bool.{cases_lt, not_from_true, eq-eqb, ne_eqb, or_left, or_right, or_parts, or_from}
+use Rattle.std.proofs.lemmas.List.{length-map}
 use Rattle.std.proofs.lemmas.List.Edits.{insert_end}
-use Rattle.std.proofs.lemmas.List.Sums.{sum_by-append}
+use Rattle.std.proofs.lemmas.Option.{get_or_from_slice_get, slice_get_within}
+use Rattle.rv_text.specs.Counting.{Counts}
 use Rattle.rv_stmt.specs.Statement.{statement_of}
 use Rattle.rv_program.specs.declared.item.Item.{Item}
+use Rattle.rv_program.specs.Changes.{program_after, is_new_or, differs_in_name, differs_in_uses, differs_in_values}
+use Rattle.rv_program.specs.Edits.{line_before_edit}
+use Rattle.rv_program.specs.Program.{Program, program_of, no_statement, body_at, for_lines, lines_that}
+use Rattle.rv_program.specs.Text.{refusal_of}
+use Rattle.rv_program.specs.Uses.{names_used}
+use Rattle.rv_program.specs.internal.Former.{AreFormer}
+use Rattle.rv_program.specs.internal.Items.{IsItem, AreItems}
+use Rattle.rv_program.specs.internal.NewShapes.{shape_operands}
+use Rattle.rv_program.specs.internal.Renewals.{AreCounted}
+use Rattle.rv_program.specs.internal.Revisions.{EditedText, revised_lines, invalidates, reencodes, TellsDue}
+use Rattle.rv_program.specs.internal.Still.{set_or_push}
+use Rattle.rv_program.specs.internal.Work.{equ_operands, survey_operands, work}
+use Rattle.rv_program.specs.lemmas.CountedLines.{nothing_counted}
+use Rattle.rv_program.specs.lemmas.ItemLaws.{item_of_line}
+use Rattle.rv_program.specs.lemmas.NewShapeLaws.{shape-work}
+use Rattle.rv_program.specs.lemmas.Programs.{length-for_lines, length-program}
+use Rattle.rv_program.specs.lemmas.SamenessLaws.{same_values-Decides, same_shape-Decides}
+use Rattle.rv_program.specs.lemmas.ShapeWork.{operands-next, operands-more, constant-work}
+use Rattle.rv_program.specs.lemmas.SurveyWork.{survey-work, equ-work}
 use Rattle.rv_store.specs.declared.survey.Survey.{Survey}
 use Rattle.rv_store.specs.internal.Appended.{AreSymbols}
-use Rattle.rv_fix.specs.declared.coded.Coded.{Coded}
-use Rattle.rv_program.specs.declared.line_values.LineValues.{LineValues}
-use Rattle.rv_program.specs.Changes.{program_after, is_new_or, differs_in_name, differs_in_uses, differs_in_values, is_changed, changed_lines, is_invalidated, is_reencoded, most_values, most_codes}
-use Rattle.rv_program.specs.Codes.{values_at, code_by_values, code_at}
-use Rattle.rv_program.specs.Edits.{line_before_edit}
-use Rattle.rv_program.specs.internal.Items.{AreItems, IsItemPut}
-use Rattle.rv_program.specs.Layout.{shape_at}
-use Rattle.rv_program.specs.Program.{Program, program_of, no_statement, body_at, for_lines, lines_that}
-use Rattle.rv_program.specs.internal.Still.{set_or_push}
-use Rattle.rv_program.specs.Sameness.{same_values, same_code}
-use Rattle.rv_program.specs.Uses.{names_used}
-use Rattle.rv_store.specs.internal.Still.{uses_any, IsOther, IsStill, IsPutEdit}
-use Rattle.rv_store.specs.internal.Users.{first_by, is_revalued, is_recoded, AreItemsBy, AreTold}
-use Rattle.rv_program.specs.Text.{Edit, lines_after}
-use Rattle.rv_program.specs.internal.Work.{survey_operands, value_operands}
+use Rattle.rv_store.specs.internal.Assembled.{AreCountedAfter}
+use Rattle.rv_store.specs.internal.Renewed.{AreItemsLeft}
+use Rattle.rv_store.specs.internal.Still.{uses_any, is_put_or_uses, IsOther, IsStill, IsPutEdit}
+use Rattle.rv_store.proofs.CountedEdits.{counted-after}
 use Rattle.rv_store.proofs.LongerPrograms.{for_lines-same}
-use Rattle.rv_program.specs.lemmas.Programs.{length-for_lines, length-program}
-use Rattle.rv_program.specs.lemmas.SamenessLaws.{same_code-Decides}
-use Rattle.rv_store.proofs.StillLaws.{lines_that-same, lines_that-still, body-still, shape-still, constant-all, equ_value-all, values-still, code-still}
-use Rattle.rv_program.specs.lemmas.WorkLaws.{work-invalidated, work-up}
-use Rattle.rv_program.specs.lemmas.WorkSums.{work-within}
+use Rattle.rv_store.proofs.StillLaws.{same_number, body-still, shape-still, constant-all, equ_value-all, values-still}
 
 -- Rows with another value at a place, or with one more behind their end
 
@@ -103,52 +108,6 @@ any-more f g (n ∷ ns) more h = at (f n) refl h (any-more f g ns more)
     at true is h rest = or_left (g n) (list_any g ns) (more n is)
     at false is h rest = or_right (g n) (list_any g ns) (rest h)
 
-sum-more : (size : ℕ → ℕ) (f g : ℕ → Bool) (n : ℕ) → ((i : ℕ) → 1 ≤ i → i ≤ n → f i ≡ true → g i ≡ true) → sum_by size (lines_that f n) ≤ sum_by size (lines_that g n)
-sum-more size f g zero more = omega arith
-sum-more size f g (suc n) more =
-    let earlier = sum-more size f g n (λ i first last. more i first (omega (arith, last))) in
-    let here = at (f (suc n)) (g (suc n)) (more (suc n) (omega arith) (omega arith)) in
-    omega (arith, earlier, here, sum_by-append size (lines_that f n) (if f (suc n) then suc n ∷ [] else []), sum_by-append size (lines_that g n) (if g (suc n) then suc n ∷ [] else []))
-  where
-    at : (b c : Bool) → (b ≡ true → c ≡ true) → sum_by size (if b then suc n ∷ [] else []) ≤ sum_by size (if c then suc n ∷ [] else [])
-    at true true h = omega arith
-    at true false h = absurd (true≢false (sym (h refl)))
-    at false c h = omega arith
-
-count-more : (f g : ℕ → Bool) (n : ℕ) → ((i : ℕ) → 1 ≤ i → i ≤ n → f i ≡ true → g i ≡ true) → length (lines_that f n) ≤ length (lines_that g n)
-count-more f g zero more = omega arith
-count-more f g (suc n) more =
-    let earlier = count-more f g n (λ i first last. more i first (omega (arith, last))) in
-    let here = at (f (suc n)) (g (suc n)) (more (suc n) (omega arith) (omega arith)) in
-    omega (arith, earlier, here, length-append (lines_that f n) (if f (suc n) then suc n ∷ [] else []), length-append (lines_that g n) (if g (suc n) then suc n ∷ [] else []))
-  where
-    at : (b c : Bool) → (b ≡ true → c ≡ true) → length (if b then suc n ∷ [] else []) ≤ length (if c then suc n ∷ [] else [])
-    at true true h = omega arith
-    at true false h = absurd (true≢false (sym (h refl)))
-    at false c h = omega arith
-
-pub sum-up : (size : ℕ → ℕ) (f : ℕ → Bool) (m n : ℕ) → m ≤ n → sum_by size (lines_that f m) ≤ sum_by size (lines_that f n)
-sum-up size f m zero up = omega (arith, ap (λ i. sum_by size (lines_that f i)) (let e : m ≡ 0 = omega (arith, up) in e))
-sum-up size f m (suc n) up = at (cases_lt n m) (sum-up size f m n)
-  where
-    at : (n < m) ⊎ (m ≤ n) → (m ≤ n → sum_by size (lines_that f m) ≤ sum_by size (lines_that f n)) → sum_by size (lines_that f m) ≤ sum_by size (lines_that f (suc n))
-    at (inl all) rest = omega (arith, ap (λ i. sum_by size (lines_that f i)) (let e : m ≡ suc n = omega (arith, all, up) in e))
-    at (inr more) rest = omega (arith, rest more, sum_by-append size (lines_that f n) (if f (suc n) then suc n ∷ [] else []))
-
-pub count-up : (f : ℕ → Bool) (m n : ℕ) → m ≤ n → length (lines_that f m) ≤ length (lines_that f n)
-count-up f m zero up = omega (arith, ap (λ i. length (lines_that f i)) (let e : m ≡ 0 = omega (arith, up) in e))
-count-up f m (suc n) up = at (cases_lt n m) (count-up f m n)
-  where
-    at : (n < m) ⊎ (m ≤ n) → (m ≤ n → length (lines_that f m) ≤ length (lines_that f n)) → length (lines_that f m) ≤ length (lines_that f (suc n))
-    at (inl all) rest = omega (arith, ap (λ i. length (lines_that f i)) (let e : m ≡ suc n = omega (arith, all, up) in e))
-    at (inr more) rest = omega (arith, rest more, length-append (lines_that f n) (if f (suc n) then suc n ∷ [] else []))
-
--- what a line and the users before it take is within what all lines take
-within-all : (value_here value_before value_all size_here size_before size_all compared most value size body_value body_size users passing : ℕ) → {before_by : ℕ} → value_here ≡ value_before + body_value → value_here ≤ value_all → size_here ≡ size_before + body_size → size_here ≤ size_all → size_all + compared + value_all ≤ most
-    → body_value ≡ value → body_size ≡ size → passing ≤ before_by → users ≡ passing → value_before ≡ before_by → size + value + users ≤ most
-within-all value_here value_before value_all size_here size_before size_all compared most value size body_value body_size users passing here up surveyed surveyed_up all is_value is_size used shared same =
-    omega (arith, here, up, surveyed, surveyed_up, all, is_value, is_size, used, shared, same)
-
 -- The rows of the text
 
 module _ {base : ℕ} {p q : Program} {k : ℕ} {touched : List ℕ → Bool} (is : IsStill base p q k touched) where
@@ -186,185 +145,136 @@ module _ {base : ℕ} {p q : Program} {k : ℕ} {touched : List ℕ → Bool} (i
     equ_values = record { each = are.equ_values.each ∙ sym (fun_ext (λ name. equ_value-all is (length q) is.longer name (none name))); within = are.equ_values.within };
   }
 
--- The items, with that of the line
+-- What the edit does to the other lines
 
-module _ {base : ℕ} (lines : List (List ℕ)) {k : ℕ} (line : List ℕ) {touched : List ℕ → Bool} (is : IsStill base (program_of lines) (program_of (set_or_push lines (k - 1) line)) k touched) where
-  pub part-still : {A : Type 0} (part : Item → A) (f g : ℕ → A) (items : List Item) (item : Item) → ((i : ℕ) → IsOther (program_of lines) k i → f i ≡ g i) → map part items ≡ for_lines f (length lines) → part item ≡ g k → map part (set_or_push items (k - 1) item) ≡ for_lines g (length (set_or_push lines (k - 1) line))
-  part-still part f g items item same are here =
-      map-set_or_push part items (k - 1) item
-      ∙ (λ j. set_or_push (are j) (k - 1) (here j))
-      ∙ ap (λ n. set_or_push (for_lines f n) (k - 1) (g k)) (sym (length-program lines))
-      ∙ row-still is f g same
-      ∙ ap (for_lines g) (length-program (set_or_push lines (k - 1) line))
+module _ (r : EditedText) {k : ℕ} {line : List ℕ} {touched : List ℕ → Bool} (is : IsStill r.base (program_of r.lines) (program_of (set_or_push r.lines (k - 1) line)) k touched) (put : IsPutEdit r.lines r.edit k line) where
+  abbrev p : Program
+  p = program_of r.lines
 
-  -- the first lines by the one row, line k too, and the others by the other one
-  abbrev after : List (List ℕ)
-  after = set_or_push lines (k - 1) line
+  abbrev q : Program
+  q = program_of (set_or_push r.lines (k - 1) line)
 
-  pub but_here : {A : Type 0} (f g : ℕ → A) (i : ℕ) → (i ≡ k → ⊥) → (if i == k then f i else g i) ≡ g i
-  but_here f g i differs = ap (λ b. if b then f i else g i) (ne_eqb i k differs)
+  count : length (revised_lines r) ≡ length q
+  count = ap length put.edited ∙ sym (length-program (set_or_push r.lines (k - 1) line))
 
-  pub at_here : {A : Type 0} (f g : ℕ → A) → (if k == k then f k else g k) ≡ f k
-  at_here f g = ap (λ b. if b then f k else g k) (eq-eqb k k refl)
+  other : (i : ℕ) → 1 ≤ i → i ≤ length r.lines → (i ≡ k → ⊥) → IsOther p k i
+  other i first last differs = record { first = first; last = omega (arith, last, length-program r.lines); differs = differs }
 
-  pub earlier : (i : ℕ) → i ≤ k - 1 → i ≡ k → ⊥
-  earlier i before same = let first = is.first in omega (arith, before, same, first)
+  -- a line but line k is compared with itself
+  stood : (differs : Program → ℕ → ℕ → Bool) (i : ℕ) → IsOther p k i → is_new_or (differs (program_after r.lines r.edit) i) (line_before_edit r.edit i) ≡ differs q i i
+  stood differs i there =
+      ap (is_new_or (differs (program_after r.lines r.edit) i)) (put.others i (let last = there.last in omega (arith, last, length-program r.lines)) there.differs)
+      ∙ ap (λ ls. differs (program_of ls) i i) put.edited
 
-  pub earlier-other : (i : ℕ) → 1 ≤ i → i ≤ k - 1 → IsOther (program_of lines) k i
-  earlier-other i first before = record {
-    first = first;
-    last = let next = within-next is in omega (arith, before, next);
-    differs = earlier i before;
+  -- a line that uses a name that is touched is invalidated
+  user-invalidated : (i : ℕ) → IsOther p k i → uses_any touched p i ≡ true → invalidates r i ≡ true
+  user-invalidated i there used =
+      let names : list_any (differs_in_name r.base p q i i) (names_used (body_at q i)) ≡ true =
+      ap (λ b. list_any (differs_in_name r.base p q i i) (names_used b)) (body-still is i there)
+      ∙ any-more touched (differs_in_name r.base p q i i) (names_used (body_at p i)) (λ name. is.differ i i name) used in
+      let differs : differs_in_uses r.base p q i i (body_at q i) ≡ true = or_left _ _ (or_left _ _ (or_left _ _ (or_left _ _ names))) in
+      stood (λ t i j. differs_in_uses r.base p t i j (body_at t i)) i there ∙ differs
+
+  -- and no other one is reencoded
+  other-stays : (i : ℕ) → IsOther p k i → uses_any touched p i ≡ false → reencodes r i ≡ false
+  other-stays i there none =
+      stood (λ t i j. differs_in_values r.base p t i j) i there
+      ∙ or_from _ _ (not_from_true _ ((same_values-Decides _ _).1 (values-still is i there none))) (not_from_true _ ((same_shape-Decides _ _).1 (shape-still is i there)))
+
+  tells : TellsDue r (length r.lines) (is_put_or_uses touched p k)
+  tells = record {
+    invalidated = λ i first last due. at i first last due (same_number i k);
+    others = λ i first last stays.
+        let none = or_parts (i == k) (uses_any touched p i) stays in
+        other-stays i (other i first last (λ e. true≢false (sym (eq-eqb i k e) ∙ none.0))) none.1;
   }
+    where
+      at : (i : ℕ) → 1 ≤ i → i ≤ length r.lines → is_put_or_uses touched p k i ≡ true → (i ≡ k) ⊎ (i ≡ k → ⊥) → invalidates r i ≡ true
+      at i first last due (inl here) =
+          ap (invalidates r) here ∙ ap (is_new_or (λ j. differs_in_uses r.base p (program_after r.lines r.edit) k j (body_at (program_after r.lines r.edit) k))) put.new
+      at i first last due (inr differs) =
+          user-invalidated i (other i first last differs) (ap (λ b. b || uses_any touched p i) (sym (ne_eqb i k differs)) ∙ due)
 
-  -- line k apart, the items hold what they held, which is to be made anew for the lines that use a name that is touched
-  abbrev pub told : (users : List ℕ) → users ≡ lines_that (uses_any touched (program_of lines)) (k - 1) → (items items' : List Item) → AreItems base lines items → IsItemPut base after k items items' → AreTold base after users items'
-  told users those items items' are put =
-      let p = program_of lines in
-      let q = program_of after in
-      let within : k - 1 ≤ length lines = (let next = within-next is in omega (arith, next, length-program lines)) in
-      let item = put.item in
-      let named : item.line ≡ line = put.is.line ∙ at-set_or_push lines (k - 1) line [] within in
-      let values : ℕ → LineValues = λ i. if i == k then values_at base q i else values_at base p i in
-      let codes : ℕ → Coded = λ i. if i == k then code_at base q i else code_at base p i in
+  former : (items : List Item) → AreItems r.base r.lines items → AreFormer r.base r.lines r.edit 0 items
+  former items are i item there j stands = at (same_number n k)
+    where
+      n : ℕ
+      n = 0 + i + 1
+
+      within : i < length items
+      within = slice_get_within items i item there
+
+      last : n ≤ length r.lines
+      last = omega (arith, within, length-map items (λ i. i.line), ap length are.lines)
+
+      at : (n ≡ k) ⊎ (n ≡ k → ⊥) → IsItem r.base r.lines j item
+      at (inl here) = absurd (let no : None ≡ Some j = sym (ap (line_before_edit r.edit) here ∙ put.new) ∙ stands in cc)
+      at (inr differs) =
+          let place : i ≡ n - 1 = omega arith in
+          let there_too : Some n ≡ Some j = sym (put.others n last differs) ∙ stands in
+          let number : n ≡ j = cc in
+          let is : get_or items (n - 1) item ≡ item = ap (λ m. get_or items m item) (sym place) ∙ get_or_from_slice_get items i item item there in
+          subst (λ m. IsItem r.base r.lines m item) number (subst (IsItem r.base r.lines n) is (item_of_line r.base r.lines items n item are (omega arith) last))
+
+  -- so these are its items, and what is due
+  pub items-left : (items : List Item) (due : List ℕ) → AreItems r.base r.lines items → due ≡ lines_that (is_put_or_uses touched p k) (length r.lines) → AreItemsLeft r items due (length (revised_lines r))
+  items-left items due are those =
+      let all : length items ≡ length r.lines = sym (length-map items (λ i. i.line)) ∙ ap length are.lines in
+      let longer = is.longer in
+      let next = within-next is in
+      let behind = is.behind (length q) in
       record {
-        top = k - 1;
-        test = uses_any touched p;
-        valued = values;
-        coded = codes;
-        those = those;
-        within = let last = is.last in omega (arith, last, length-program after);
-        are = subst (AreItemsBy after values codes) (sym put.items) (record {
-          lines = map-set_or_push (λ i. i.line) items (k - 1) item ∙ (λ j. set_or_push (are.lines j) (k - 1) (named j));
-          shapes = part-still (λ i. i.shape) (shape_at p) (shape_at q) items item (λ i other. sym (shape-still is i other)) are.shapes put.is.shape;
-          values = part-still (λ i. i.values) (values_at base p) values items item (λ i other. sym (but_here (values_at base q) (values_at base p) i other.differs)) are.values (put.is.values ∙ sym (at_here (values_at base q) (values_at base p)));
-          codes = part-still (λ i. i.code) (code_at base p) codes items item (λ i other. sym (but_here (code_at base q) (code_at base p) i other.differs)) are.codes (put.is.code ∙ sym (at_here (code_at base q) (code_at base p)));
-        });
-        others = λ i first before none.
-            but_here (values_at base q) (values_at base p) i (earlier i before) ∙ sym (values-still is i (earlier-other i first before) none);
-        settled = λ i first before same.
-            let other = earlier-other i first before in
-            let shape = shape-still is i other in
-            let here = body-still is i other in
-            let value : values_at base p i ≡ values_at base q i = sym (but_here (values_at base q) (values_at base p) i other.differs) ∙ same in
-            but_here (code_at base q) (code_at base p) i other.differs ∙ (λ j. code_by_values (sym shape j) (sym here j) (value j));
+        few = omega (arith, all, longer, count, length-program r.lines);
+        next = at (cases_lt (length p) (length q)) all next behind;
+        new = λ more.
+            let here : length (revised_lines r) ≡ k = count ∙ behind (omega (arith, more, all, count, length-program r.lines)) (omega arith) in
+            ap (line_before_edit r.edit) here ∙ put.new;
+        former = former items are;
+        told = record { test = is_put_or_uses touched p k; tells = subst (λ n. TellsDue r n (is_put_or_uses touched p k)) (sym all) tells; those = those ∙ ap (lines_that (is_put_or_uses touched p k)) (sym all) };
       }
+    where
+      at : (length p < length q) ⊎ (length q ≤ length p) → length items ≡ length r.lines → k ≤ suc (length p) → (length p < length q → length q ≤ length q → length q ≡ k) → length (revised_lines r) ≤ length items + 1
+      at (inl more) all next behind =
+          let end = behind more (omega arith) in omega (arith, end, next, all, count, length-program r.lines)
+      at (inr most) all next behind = omega (arith, most, all, count, length-program r.lines)
 
-  module _ (users : List ℕ) (those : users ≡ lines_that (uses_any touched (program_of lines)) (k - 1)) (later : (i : ℕ) → IsOther (program_of lines) k i → k < i → uses_any touched (program_of lines) i ≡ false) where
-    later-other : (i : ℕ) → 1 ≤ i → i ≤ length after → k < i → IsOther (program_of lines) k i
-    later-other i first last past = record {
-      first = first;
-      last = at (cases_lt (length (program_of lines)) i);
-      differs = λ same. omega (arith, same, past);
-    }
-      where
-        at : (length (program_of lines) < i) ⊎ (i ≤ length (program_of lines)) → i ≤ length (program_of lines)
-        at (inl behind) = absurd (let here = is.behind i behind (omega (arith, last, length-program after)) in omega (arith, here, past))
-        at (inr within) = within
+  -- What it may take
 
-    -- then they hold what the text gives
-    renewed-row : {A : Type 0} (f g : ℕ → A) → ((i : ℕ) → IsOther (program_of lines) k i → uses_any touched (program_of lines) i ≡ false → f i ≡ g i) → for_lines (first_by (k - 1) f (λ i. if i == k then f i else g i)) (length after) ≡ for_lines f (length after)
-    renewed-row f g same = for_lines-same (first_by (k - 1) f (λ i. if i == k then f i else g i)) f (length after) (λ i first last. at i first last (cases_lt (k - 1) i) (cases_lt k i))
-      where
-        at : (i : ℕ) → 1 ≤ i → i ≤ length after → (k - 1 < i) ⊎ (i ≤ k - 1) → (k < i) ⊎ (i ≤ k) → first_by (k - 1) f (λ i. if i == k then f i else g i) i ≡ f i
-        at i first last (inr before) place = ap (λ b. if b then f i else (if i == k then f i else g i)) (le-leb i (k - 1) before)
-        at i first last (inl behind) (inl past) =
-            let other = later-other i first last past in
-            ap (λ b. if b then f i else (if i == k then f i else g i)) (lt-leb i (k - 1) behind) ∙ but_here f g i other.differs ∙ sym (same i other (later i other past))
-        at i first last (inl behind) (inr up) =
-            let here : i ≡ k = omega (arith, behind, up) in
-            ap (λ b. if b then f i else (if i == k then f i else g i)) (lt-leb i (k - 1) behind) ∙ ap (λ b. if b then f i else g i) (eq-eqb i k here)
+  module _ (allowed : refusal_of r.lines r.edit ≡ None) where
+    abbrev pub n : ℕ
+    n = length (revised_lines r)
 
-    pub items-renewed : (items : List Item) → AreItemsBy after (first_by (k - 1) (values_at base (program_of after)) (λ i. if i == k then values_at base (program_of after) i else values_at base (program_of lines) i)) (first_by (k - 1) (code_at base (program_of after)) (λ i. if i == k then code_at base (program_of after) i else code_at base (program_of lines) i)) items → AreItems base after items
-    items-renewed items are = record {
-      lines = are.lines;
-      shapes = are.shapes;
-      values = are.values ∙ renewed-row (values_at base (program_of after)) (values_at base (program_of lines)) (λ i other none. values-still is i other none);
-      codes = are.codes ∙ renewed-row (code_at base (program_of after)) (code_at base (program_of lines)) (λ i other none. code-still is i other none);
-    }
+    body-put : body_at (program_after r.lines r.edit) k ≡ (statement_of line).body
+    body-put =
+        ap (λ ls. body_at (program_of ls) k) put.edited
+        ∙ ap (λ ss. body_at ss k) (map-set_or_push statement_of r.lines (k - 1) line)
+        ∙ ap (λ s. s.body) (at-set_or_push p (k - 1) (statement_of line) no_statement (let next = within-next is in omega (arith, next)))
 
-  -- the lines before it that have others, by what they had
-  pub recoded : lines_that (is_recoded base after (λ i. if i == k then code_at base (program_of after) i else code_at base (program_of lines) i)) (k - 1) ≡ lines_that (is_recoded base after (code_at base (program_of lines))) (k - 1)
-  recoded =
-      lines_that-same (is_recoded base after (λ i. if i == k then code_at base (program_of after) i else code_at base (program_of lines) i)) (is_recoded base after (code_at base (program_of lines))) (k - 1)
-      (λ i first before. ap (λ c. not (same_code (code_at base (program_of after) i) c)) (but_here (code_at base (program_of after)) (code_at base (program_of lines)) i (earlier i before)))
+    -- what the line defines, and the operand from which its shape follows
+    defined-work : shape_operands r.edit + 2 * equ_operands (statement_of line).body ≤ work survey_operands r.base r.lines r.edit n
+    defined-work =
+        let last = is.last in
+        let first = is.first in
+        let surveyed = survey-work r.base r.lines r.edit n in
+        let constants = constant-work r.base r.lines r.edit n in
+        let equs = equ-work r.base r.lines r.edit n in
+        let shape = shape-work r.base r.lines r.edit allowed n refl in
+        let next = operands-next equ_operands (program_after r.lines r.edit) (k - 1) in
+        let more = operands-more equ_operands (program_after r.lines r.edit) (k - 1 + 1) n (omega (arith, last, first, count)) in
+        let here : equ_operands (body_at (program_after r.lines r.edit) (k - 1 + 1)) ≡ equ_operands (statement_of line).body = (let number : k - 1 + 1 ≡ k = omega (arith, first) in ap (λ m. equ_operands (body_at (program_after r.lines r.edit) m)) number ∙ ap equ_operands body-put) in
+        omega (arith, surveyed, constants, equs, shape, next, more, here)
 
-  pub revalued : lines_that (is_revalued base after (λ i. if i == k then values_at base (program_of after) i else values_at base (program_of lines) i)) (k - 1) ≡ lines_that (is_revalued base after (values_at base (program_of lines))) (k - 1)
-  revalued =
-      lines_that-same (is_revalued base after (λ i. if i == k then values_at base (program_of after) i else values_at base (program_of lines) i)) (is_revalued base after (values_at base (program_of lines))) (k - 1)
-      (λ i first before. ap (λ v. not (same_values (values_at base (program_of after) i) v)) (but_here (values_at base (program_of after)) (values_at base (program_of lines)) i (earlier i before)))
+    module _ (old middle : Counts) (parsed : middle.parsed ≡ old.parsed) (least : old.valued ≤ middle.valued) (most : middle.valued ≤ old.valued + 2) (operands : middle.valued ≤ old.valued + 2 * equ_operands (statement_of line).body) (encoded : middle.encoded ≡ old.encoded) where
+      -- first what it defines is counted, then what the items take
+      pub counted-put : (new : Counts) → AreCounted r 0 n middle new → AreCountedAfter r.base r.lines r.edit old new
+      counted-put new all =
+          let first = is.first in
+          let last = is.last in
+          let work = defined-work in
+          let codes = all.encoded_most in
+          counted-after r.base r.lines (revised_lines r) r.edit old new middle.valued refl (all.parsed ∙ parsed) least (omega (arith, most, first, last, count)) (omega (arith, operands, work))
+          all.valued_least (let few = all.valued_few in omega (arith, few)) (let values = all.valued_most in omega (arith, values))
+          (let fewest = all.encoded_least in omega (arith, fewest, encoded)) (let few = all.encoded_few in omega (arith, few, encoded)) (omega (arith, codes, encoded))
 
-  -- the body of the line
-  pub body-put : body_at (program_of (set_or_push lines (k - 1) line)) k ≡ (statement_of line).body
-  body-put =
-      ap (λ ss. body_at ss k) (map-set_or_push statement_of lines (k - 1) line)
-      ∙ ap (λ s. s.body) (at-set_or_push (program_of lines) (k - 1) (statement_of line) no_statement (let next = within-next is in omega (arith, next)))
-
-  -- What the edit changes, and what it may take
-
-  module _ (edit : Edit) (put : IsPutEdit lines edit k line) where
-    last : k ≤ length (lines_after lines edit)
-    last = let within = is.last in omega (arith, within, length-program after, ap length put.edited)
-
-    program-put : program_after lines edit ≡ program_of after
-    program-put = ap program_of put.edited
-
-    -- a line but line k is compared with itself
-    stood : (differs : Program → ℕ → ℕ → Bool) (i : ℕ) → IsOther (program_of lines) k i → is_new_or (differs (program_after lines edit) i) (line_before_edit edit i) ≡ differs (program_of after) i i
-    stood differs i other =
-        ap (is_new_or (differs (program_after lines edit) i)) (put.others i (let within = other.last in omega (arith, within, length-program lines)) other.differs) ∙ ap (λ r. differs r i i) program-put
-
-    is_next : suc (k - 1) ≡ k
-    is_next = let first = is.first in omega (arith, first)
-
-    -- the lines up to line k that are new or differ
-    up_to : (differs : Program → ℕ → ℕ → Bool) → lines_that (λ i. is_new_or (differs (program_after lines edit) i) (line_before_edit edit i)) k ≡ lines_that (λ i. differs (program_of after) i i) (k - 1) ++ k ∷ []
-    up_to differs =
-        let new : is_new_or (differs (program_after lines edit) (suc (k - 1))) (line_before_edit edit (suc (k - 1))) ≡ true =
-        ap (is_new_or (differs (program_after lines edit) (suc (k - 1)))) (ap (line_before_edit edit) is_next ∙ put.new) in
-        ap (lines_that (λ i. is_new_or (differs (program_after lines edit) i) (line_before_edit edit i))) (sym is_next)
-        ∙ (λ j. lines_that-same (λ i. is_new_or (differs (program_after lines edit) i) (line_before_edit edit i)) (λ i. differs (program_of after) i i) (k - 1) (λ i first before. stood differs i (earlier-other i first before)) j
-        ++ (if new j then is_next j ∷ [] else []))
-
-    module _ (users : List ℕ) (those : users ≡ lines_that (uses_any touched (program_of lines)) (k - 1)) (later : (i : ℕ) → IsOther (program_of lines) k i → k < i → uses_any touched (program_of lines) i ≡ false) where
-      -- behind it no line is changed
-      pub all_changed : changed_lines base lines edit ≡ lines_that (is_recoded base after (code_at base (program_of lines))) (k - 1) ++ k ∷ []
-      all_changed =
-          lines_that-still (is_changed base lines edit) (is_changed base lines edit) k (length (lines_after lines edit)) last (λ i first up. refl)
-          (λ i past within.
-          let other = later-other users those later i (omega (arith, past)) (omega (arith, within, ap length put.edited)) past in
-          stood (λ q i j. not (same_code (code_at base q i) (code_at base (program_of lines) j))) i other
-          ∙ not_from_true _ ((same_code-Decides _ _).1 (code-still is i other (later i other past))))
-          ∙ up_to (λ q i j. not (same_code (code_at base q i) (code_at base (program_of lines) j)))
-
-      -- a line that uses a name that is touched is invalidated
-      user-invalidated : (i : ℕ) → IsOther (program_of lines) k i → uses_any touched (program_of lines) i ≡ true → is_invalidated base lines edit i ≡ true
-      user-invalidated i other used =
-          let touched_names : list_any (differs_in_name base (program_of lines) (program_of after) i i) (names_used (body_at (program_of after) i)) ≡ true =
-          ap (λ b. list_any (differs_in_name base (program_of lines) (program_of after) i i) (names_used b)) (body-still is i other)
-          ∙ any-more touched (differs_in_name base (program_of lines) (program_of after) i i) (names_used (body_at (program_of lines) i)) (λ name. is.differ i i name) used in
-          let differs : differs_in_uses base (program_of lines) (program_of after) i i (body_at (program_of after) i) ≡ true = or_left _ _ (or_left _ _ (or_left _ _ (or_left _ _ touched_names))) in
-          stood (λ q i j. differs_in_uses base (program_of lines) q i j (body_at q i)) i other ∙ differs
-
-      pub values-enough : survey_operands (statement_of line).body + value_operands (statement_of line).body + sum_by (λ i. value_operands (body_at (program_of after) i)) users ≤ most_values base lines edit
-      values-enough =
-          let n = length (lines_after lines edit) in
-          let invalidated : is_invalidated base lines edit k ≡ true =
-          ap (is_new_or (λ j. differs_in_uses base (program_of lines) (program_after lines edit) k j (body_at (program_after lines edit) k))) put.new in
-          let body : body_at (program_after lines edit) k ≡ (statement_of line).body = ap (λ ls. body_at (program_of ls) k) put.edited ∙ body-put in
-          let shared = ap (sum_by (λ i. value_operands (body_at (program_of after) i))) those in
-          let same = ap (λ r. sum_by (λ i. value_operands (body_at r i)) (lines_that (is_invalidated base lines edit) (k - 1))) program-put in
-          within-all _ _ _ _ _ _ _ _ _ _ _ _ _ _
-          (work-invalidated value_operands base lines edit k is.first invalidated) (work-up value_operands base lines edit k n last)
-          (work-invalidated survey_operands base lines edit k is.first invalidated) (work-up survey_operands base lines edit k n last)
-          (work-within base base lines lines (lines_after lines edit) edit refl refl refl) (ap value_operands body) (ap survey_operands body)
-          (sum-more (λ i. value_operands (body_at (program_of after) i)) (uses_any touched (program_of lines)) (is_invalidated base lines edit) (k - 1) (λ i first before. user-invalidated i (earlier-other i first before)))
-          shared same
-
-      pub codes-enough : 1 + length (lines_that (is_revalued base after (values_at base (program_of lines))) (k - 1)) ≤ most_codes base lines edit
-      codes-enough =
-          let differs : Program → ℕ → ℕ → Bool = λ q i j. differs_in_values base (program_of lines) q i j in
-          let those_up : length (lines_that (is_reencoded base lines edit) k) ≡ length (lines_that (λ i. differs (program_of after) i i) (k - 1)) + 1 = ap length (up_to differs) ∙ length-append (lines_that (λ i. differs (program_of after) i i) (k - 1)) (k ∷ []) in
-          let fewer = count-more (is_revalued base after (values_at base (program_of lines))) (λ i. differs (program_of after) i i) (k - 1) (λ i first before. or_left _ _) in
-          let up = count-up (is_reencoded base lines edit) k (length (lines_after lines edit)) last in
-          omega (arith, those_up, fewer, up)
+      pub counted-defined : AreCountedAfter r.base r.lines r.edit old middle
+      counted-defined = counted-put middle (nothing_counted r 0 n middle (omega arith))

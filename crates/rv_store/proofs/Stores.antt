@@ -70,6 +70,3 @@ part_at_line lines f v items (suc j) made =
     rw (past_zero j) (sym (slice_get-map v items (suc j - 1)) ∙ rw (past_zero j) at there)
 
 -- what is asked of a line that there is, and of one that there isn't
-
-pub at_line_there : {A : Type 0} (lines : List (List ℕ)) (k : ℕ) (x : A) → 1 ≤ k → k ≤ length lines → at_line lines k x ≡ Some x
-at_line_there lines k x first last = grind (arith, nat_tests, common_steps)

@@ -10,8 +10,8 @@ pub mod Forgetting
 pub mod FormerShapes
 pub mod KeptConstants
 pub mod Passed
+pub mod Renewed
 pub mod Still
 pub mod StillLines
 pub mod Stored
 pub mod Surveys
-pub mod Users

@@ -16,7 +16,7 @@ ghost use Rattle.rv_store.specs.internal.Surveys.{IsSurvey};
 ghost use Rattle.rv_program.specs.Text.{refusal_of, lines_after};
 
 use crate::changed::Changed;
-use crate::renewal::renewed_items;
+use crate::renewal::items_edited;
 use crate::survey::Survey;
 use rv_layout::Measured;
 use rv_program::{EditError, Item, LineEdit, Lines, MAX_LINES, NameTable};
@@ -56,21 +56,11 @@ fn assembled_by_lines<C: Count>(
     ensures counted { AreCountedAfter base old.now (edit_of edit.now) (counts_of C.parsed_count C.valued_count C.encoded_count counter.old) (counts_of C.parsed_count C.valued_count C.encoded_count counter.new) }
 {
     let after = survey.after(alloc, base, old, edit, names, shape, counter)?;
-    let mut changed = Vec::new(alloc);
-    let items = renewed_items(
-        alloc,
-        base,
-        names,
-        survey,
-        old,
-        edit,
-        &after,
-        survey.lines.as_slice(),
-        items,
-        &mut changed,
-        counter,
+    let lines = survey.lines.as_slice();
+    let (items, changed) = items_edited(
+        alloc, base, names, survey, old, edit, &after, lines, &items, counter,
     )?;
-    Ok((after, items, Changed::of(changed)))
+    Ok((after, items, changed))
 }
 
 /// What is kept of a text after an edit, its items, and which lines are new or have another code. `survey` is what is kept of

@@ -12,7 +12,6 @@ mod forgetting;
 mod kept_constants;
 mod last_definitions;
 mod last_line;
-mod line_items;
 mod new_shape;
 mod places;
 mod renewal;
@@ -22,7 +21,6 @@ mod still;
 mod store;
 mod survey;
 mod symbols;
-mod users;
 
 pub use changed::{Changed, LineNumbers};
 pub use rv_layout::base_ok;

@@ -1,69 +1,127 @@
 //! What is kept of the lines that are due after an edit is made anew.
 
-ghost use Rattle.std.specs.Prelude.{◌≡◌, ◌≤◌, ◌<◌, ◌+◌, ◌*◌, ◌^◌, [], length, IfOk, IfErr};
+ghost use Rattle.std.specs.Prelude.{◌≡◌, ◌≤◌, ◌<◌, ◌+◌, ◌-◌, ◌*◌, ◌^◌, None, length, IfOk, IfErr};
 ghost use Rattle.rv_program.specs.declared.limits.TheConstants.{MAX_LINES};
-ghost use Rattle.rv_program.specs.internal.Before.{IsBefore, IsAfter, base_before, lines_before, edit_on};
-ghost use Rattle.rv_program.specs.Changes.{changed_lines, most_codes};
 ghost use Rattle.rv_program.specs.Counted.{counts_of};
-ghost use Rattle.rv_program.specs.Edits.{edit_of};
-ghost use Rattle.rv_program.specs.internal.Former.{AreFormer};
-ghost use Rattle.rv_program.specs.internal.Items.{AreItems};
+ghost use Rattle.rv_program.specs.Edits.{edit_of, line_before_edit};
 ghost use Rattle.rv_program.specs.Program.{program_of};
-ghost use Rattle.rv_program.specs.internal.Renewals.{changed_through, AreCountedRenewed};
-ghost use Rattle.rv_store.specs.internal.Surveys.{IsSurvey};
 ghost use Rattle.rv_program.specs.Text.{refusal_of, lines_after};
+ghost use Rattle.rv_program.specs.internal.Before.{IsBefore, IsAfter, base_before, lines_before, edit_on};
+ghost use Rattle.rv_program.specs.internal.Former.{AreFormer};
+ghost use Rattle.rv_program.specs.internal.Items.{IsItem, AreItems};
+ghost use Rattle.rv_program.specs.internal.Lines.{lines_of};
+ghost use Rattle.rv_program.specs.internal.Renewals.{changed_through, AreCounted, AreCountedRenewed, AreListed};
+ghost use Rattle.rv_program.specs.internal.Revisions.{edited_text, edited_before, IsRevised};
 ghost use Rattle.rv_program.specs.internal.ValueRows.{AreValueRows, base_of};
-ghost use Rattle.rv_program.specs.internal.Work.{compared_operands, value_operands, work};
+ghost use Rattle.rv_store.specs.internal.Renewed.{edited_by, AreItemsLeft, ArePut};
+ghost use Rattle.rv_store.specs.internal.Surveys.{IsSurvey};
 
+use crate::changed::Changed;
 use crate::survey::Survey;
 use rv_program::{
-    Before, Item, Line, LineEdit, Lines, NameTable, ValueRows, due_lines, renewed_in_one_pass,
+    Before, EditError, Item, Line, LineEdit, Lines, NameTable, Revision, ValueRows, due_lines,
+    renewed, renewed_in_one_pass,
 };
 use rv_text::Count;
-use rv_tree::{SumTree, TreeError};
+use rv_tree::SumTree;
 use std::alloc::Global;
 
-/// The items of a text after an edit, which has these lines, by the rows of both texts. It is as for `renewed_items`.
-pub fn renewed_all<C: Count>(
+// The last line of a text, which an edit puts in. It is added to the changed lines.
+fn line_behind<C: Count>(
     alloc: Global,
-    before: &Before<'_, '_>,
+    revision: &Revision<'_, '_>,
     rows: &ValueRows<'_>,
-    lines: &[Line],
-    items: SumTree<Item>,
+    line: u32,
     changed: &mut Vec<u32>,
     counter: &mut C,
-) -> Result<SumTree<Item>, TreeError>
-    requires before { IsBefore before.now }
-    requires rows { AreValueRows rows.now }
-    requires after { IsAfter before.now rows.now.symbols.text }
-    requires column { lines.now ≡ rows.now.symbols.text.lines.now }
-    requires count { length items.items ≡ length rows.now.symbols.text.lines.now }
-    requires former { AreFormer (base_before before.now) (lines_before before.now) (edit_on before.now) 0 items.items }
-    requires changed { changed.old.items ≡ [] }
-    requires valued { C.valued_count counter.old + 1001 * length rows.now.symbols.text.lines.now < 2 ^ 64 }
-    requires encoded { C.encoded_count counter.old + length rows.now.symbols.text.lines.now < 2 ^ 64 }
-    ensures memory { IfErr result (λ e. e ≡ TreeError.Memory) }
-    ensures items { IfOk result (λ t. AreItems (base_of rows.now) rows.now.symbols.text.lines.now t.items) }
-    ensures changed { IfOk result (λ _. changed.new.items ≡ changed_through before.now (length rows.now.symbols.text.lines.now)) }
-    ensures counted { AreCountedRenewed before.now (length rows.now.symbols.text.lines.now) (counts_of C.parsed_count C.valued_count C.encoded_count counter.old) (counts_of C.parsed_count C.valued_count C.encoded_count counter.new) }
+) -> Result<Item, EditError>
+    requires revised { IsRevised (edited_text revision.now) rows.now }
+    requires first { 1 ≤ line }
+    requires last { line ≤ length rows.now.symbols.text.lines.now }
+    requires new { line_before_edit (edit_of revision.now.edit) line ≡ None }
+    requires valued { C.valued_count counter.old + 1000 < 2 ^ 64 }
+    requires encoded { C.encoded_count counter.old < 2 ^ 64 - 1 }
+    ensures item { IfOk result (λ item. IsItem (base_of rows.now) rows.now.symbols.text.lines.now line item) }
+    ensures listed { IfOk result (λ _. AreListed (edited_text revision.now) (line - 1) line changed.old.items changed.new.items) }
+    ensures memory { IfErr result (λ e. e ≡ EditError.Memory) }
+    ensures counted { AreCounted (edited_text revision.now) (line - 1) line (counts_of C.parsed_count C.valued_count C.encoded_count counter.old) (counts_of C.parsed_count C.valued_count C.encoded_count counter.new) }
 {
-    let due = due_lines(alloc, before, &rows.symbols, lines, counter)?;
-    renewed_in_one_pass(alloc, before, rows, &items, &due, changed, counter)
+    let entered = Item::entered(rows.symbols.text.lines.line(line).share()?);
+    let item = match renewed(alloc, revision, rows, line, &entered, counter)? {
+        Some(item) => item,
+        None => entered,
+    };
+    changed.push(line)?;
+    Ok(item)
 }
 
-/// The items of a text after an edit, by the survey of the text before it, `old`, whose lines are `old_lines`, and by its own,
-/// whose lines are `lines`: those of the lines that are due are made anew, and the others stay. `items` has an item for each
-/// line, which keeps what was kept of the line before the edit. The lines that are new or have another code are added to
-/// `changed`.
+/// The items of a text after an edit, and which of its lines are new or have another code. `items` has an item for each line, which keeps
+/// what was kept of the line before the edit, but maybe none for the last one, where the edit puts that in. `due` are those of their lines
+/// that are due.
 ///
-/// The counter's number of expressions computed rises by at most the operands of the invalidated lines, `.equ`s apart, and once more
-/// for each of their jumps to a local label, and its number of lines encoded by at most the lines that are new or have other values or
-/// another shape, whatever the outcome.
+/// The counter's number of expressions computed rises by at most the operands of the lines that the edit invalidates, and its number of
+/// lines encoded by at most those that are new or have other values or another shape, whatever the outcome.
 ///
 /// # Errors
 ///
 /// `Memory` if there was no memory for what is kept.
-pub fn renewed_items<'a, C: Count>(
+pub fn items_passed<C: Count>(
+    alloc: Global,
+    revision: &Revision<'_, '_>,
+    rows: &ValueRows<'_>,
+    items: &SumTree<Item>,
+    due: &[u32],
+    counter: &mut C,
+) -> Result<(SumTree<Item>, Changed), EditError>
+    requires revised { IsRevised (edited_text revision.now) rows.now }
+    requires left { AreItemsLeft (edited_text revision.now) items.now.items due.now (length rows.now.symbols.text.lines.now) }
+    requires valued { C.valued_count counter.old + 1000 * length rows.now.symbols.text.lines.now < 2 ^ 64 }
+    requires encoded { C.encoded_count counter.old + length rows.now.symbols.text.lines.now < 2 ^ 64 }
+    ensures items { IfOk result (λ r. AreItems (base_of rows.now) rows.now.symbols.text.lines.now r.0.items) }
+    ensures changed { IfOk result (λ r. r.1.lines ≡ changed_through (edited_text revision.now) (length rows.now.symbols.text.lines.now)) }
+    ensures memory { IfErr result (λ e. e ≡ EditError.Memory) }
+    ensures counted { AreCounted (edited_text revision.now) 0 (length rows.now.symbols.text.lines.now) (counts_of C.parsed_count C.valued_count C.encoded_count counter.old) (counts_of C.parsed_count C.valued_count C.encoded_count counter.new) }
+{
+    let mut changed = Vec::new(alloc);
+    let passed = renewed_in_one_pass(alloc, revision, rows, items, due, &mut changed, counter)?;
+    let line = passed.len() + 1;
+    if line as usize > rows.symbols.text.lines.len() {
+        return Ok((passed, Changed::of(changed)));
+    }
+    let item = line_behind(alloc, revision, rows, line, &mut changed, counter)?;
+    Ok((passed.inserted(line, item)?, Changed::of(changed)))
+}
+
+/// It is as for `items_passed`, by the rows of the text before the edit and of that after it, which has these lines: those that are due are
+/// looked for. For each jump to a local label among the invalidated lines, one expression more may be computed.
+pub fn items_renewed<C: Count>(
+    alloc: Global,
+    before: &Before<'_, '_>,
+    rows: &ValueRows<'_>,
+    lines: &[Line],
+    items: &SumTree<Item>,
+    counter: &mut C,
+) -> Result<(SumTree<Item>, Changed), EditError>
+    requires before { IsBefore before.now }
+    requires rows { AreValueRows rows.now }
+    requires after { IsAfter before.now rows.now.symbols.text }
+    requires column { lines.now ≡ rows.now.symbols.text.lines.now }
+    requires count { length items.now.items ≡ length rows.now.symbols.text.lines.now }
+    requires former { AreFormer (base_before before.now) (lines_before before.now) (edit_on before.now) 0 items.now.items }
+    requires valued { C.valued_count counter.old + 1001 * length rows.now.symbols.text.lines.now < 2 ^ 64 }
+    requires encoded { C.encoded_count counter.old + length rows.now.symbols.text.lines.now < 2 ^ 64 }
+    ensures items { IfOk result (λ r. AreItems (base_of rows.now) rows.now.symbols.text.lines.now r.0.items) }
+    ensures changed { IfOk result (λ r. r.1.lines ≡ changed_through (edited_before before.now) (length rows.now.symbols.text.lines.now)) }
+    ensures memory { IfErr result (λ e. e ≡ EditError.Memory) }
+    ensures counted { AreCountedRenewed (edited_before before.now) (length rows.now.symbols.text.lines.now) (counts_of C.parsed_count C.valued_count C.encoded_count counter.old) (counts_of C.parsed_count C.valued_count C.encoded_count counter.new) }
+{
+    let due = due_lines(alloc, before, &rows.symbols, lines, counter)?;
+    items_passed(alloc, &before.revision(), rows, items, &due, counter)
+}
+
+/// It is as for `items_renewed`, by the survey of the text before the edit, `old`, whose lines are `old_lines`, and by that of the text after
+/// it, whose lines are `lines`.
+pub fn items_edited<'a, C: Count>(
     alloc: Global,
     base: u32,
     names: &'a NameTable,
@@ -72,35 +130,59 @@ pub fn renewed_items<'a, C: Count>(
     edit: &LineEdit<'_>,
     survey: &'a Survey,
     lines: &'a [Line],
-    items: SumTree<Item>,
-    changed: &mut Vec<u32>,
+    items: &SumTree<Item>,
     counter: &mut C,
-) -> Result<SumTree<Item>, TreeError>
+) -> Result<(SumTree<Item>, Changed), EditError>
     requires old { IsSurvey base (program_of old_lines.now) names.now old.now }
     requires old_few { length old_lines.now ≤ MAX_LINES }
     requires allowed { refusal_of old_lines.now (edit_of edit.now) ≡ None }
     requires survey { IsSurvey base (program_of lines.now) names.now survey.now }
     requires edited { lines.now ≡ lines_after old_lines.now (edit_of edit.now) }
     requires few { length lines.now ≤ MAX_LINES }
-    requires count { length items.items ≡ length lines.now }
-    requires former { AreFormer base old_lines.now (edit_of edit.now) 0 items.items }
-    requires changed { changed.old.items ≡ [] }
+    requires count { length items.now.items ≡ length lines.now }
+    requires former { AreFormer base old_lines.now (edit_of edit.now) 0 items.now.items }
     requires valued { C.valued_count counter.old + 1001 * length lines.now < 2 ^ 64 }
     requires encoded { C.encoded_count counter.old + length lines.now < 2 ^ 64 }
-    ensures memory { IfErr result (λ e. e ≡ TreeError.Memory) }
-    ensures items { IfOk result (λ t. AreItems base lines.now t.items) }
-    ensures changed { IfOk result (λ _. changed.new.items ≡ changed_lines base old_lines.now (edit_of edit.now)) }
-    ensures parsed { C.parsed_count counter.new ≡ C.parsed_count counter.old }
-    ensures valued_least { C.valued_count counter.old ≤ C.valued_count counter.new }
-    ensures valued_few { C.valued_count counter.new ≤ C.valued_count counter.old + 1000 * length lines.now }
-    ensures values { C.valued_count counter.new ≤ C.valued_count counter.old + work compared_operands base old_lines.now (edit_of edit.now) (length lines.now)
-        + work value_operands base old_lines.now (edit_of edit.now) (length lines.now) }
-    ensures encoded_least { C.encoded_count counter.old ≤ C.encoded_count counter.new }
-    ensures encoded_few { C.encoded_count counter.new ≤ C.encoded_count counter.old + length lines.now }
-    ensures codes { C.encoded_count counter.new ≤ C.encoded_count counter.old + most_codes base old_lines.now (edit_of edit.now) }
+    ensures items { IfOk result (λ r. AreItems base lines.now r.0.items) }
+    ensures changed { IfOk result (λ r. r.1.lines ≡ changed_through (edited_by base old_lines.now edit.now) (length lines.now)) }
+    ensures memory { IfErr result (λ e. e ≡ EditError.Memory) }
+    ensures counted { AreCountedRenewed (edited_by base old_lines.now edit.now) (length lines.now) (counts_of C.parsed_count C.valued_count C.encoded_count counter.old) (counts_of C.parsed_count C.valued_count C.encoded_count counter.new) }
 {
     let before = old.before(old_lines, base, names, edit);
     let column = Lines::in_column(lines);
     let rows = survey.rows(&column, base, names);
-    renewed_all(alloc, &before, &rows, lines, items, changed, counter)
+    items_renewed(alloc, &before, &rows, lines, items, counter)
+}
+
+/// It is as for `items_passed`, where a line is put in the place of another one or behind the last one, and others have to do with it by its
+/// names alone. `items` are those of the text before that, and `survey` is that of the text after it.
+pub fn items_put<C: Count>(
+    alloc: Global,
+    base: u32,
+    names: &NameTable,
+    survey: &Survey,
+    items: &SumTree<Item>,
+    edit: &LineEdit<'_>,
+    due: &[u32],
+    counter: &mut C,
+) -> Result<(SumTree<Item>, Changed), EditError>
+    requires survey { IsSurvey base (program_of survey.now.lines.items) names.now survey.now }
+    requires few { length survey.now.lines.items ≤ MAX_LINES }
+    requires put { ArePut base survey.now.lines.items items.now.items (edit_of edit.now) due.now }
+    requires valued { C.valued_count counter.old ≤ 2 ^ 63 + 3 }
+    requires encoded { C.encoded_count counter.old ≤ 2 ^ 63 }
+    ensures items { IfOk result (λ r. AreItems base survey.now.lines.items r.0.items) }
+    ensures changed { IfOk result (λ r. r.1.lines ≡ changed_through (edited_by base (lines_of items.now.items) edit.now) (length survey.now.lines.items)) }
+    ensures memory { IfErr result (λ e. e ≡ EditError.Memory) }
+    ensures counted { AreCounted (edited_by base (lines_of items.now.items) edit.now) 0 (length survey.now.lines.items) (counts_of C.parsed_count C.valued_count C.encoded_count counter.old) (counts_of C.parsed_count C.valued_count C.encoded_count counter.new) }
+{
+    let old = Lines::in_items(items);
+    let lines = Lines::in_column(survey.lines.as_slice());
+    let rows = survey.rows(&lines, base, names);
+    let revision = Revision {
+        base,
+        lines: &old,
+        edit: *edit,
+    };
+    items_passed(alloc, &revision, &rows, items, due, counter)
 }

@@ -1,26 +1,29 @@
 //! Lines with which other lines have to do by their names alone: in the place of another one or behind the last one, only that line and those
 //! that use such a name are made.
 
-ghost use Rattle.std.specs.Prelude.{◌≡◌, ◌≤◌, ◌+◌, ◌-◌, ◌^◌, [], ◌∷◌, ◌++◌, length, IfOk, IfErr, OnOk, OnErr};
+ghost use Rattle.std.specs.Prelude.{◌≡◌, ◌≤◌, ◌+◌, ◌-◌, ◌^◌, None, length, IfOk, IfErr, OnOk, OnErr};
 ghost use Rattle.rv_program.specs.declared.limits.TheConstants.{MAX_LINES};
+ghost use Rattle.rv_store.specs.internal.Assembled.{AreCountedAfter};
 ghost use Rattle.rv_store.specs.internal.Appended.{AreSameLines, AreSameSymbols, AreSymbols};
-ghost use Rattle.rv_program.specs.Codes.{code_at};
+ghost use Rattle.rv_program.specs.Changes.{changed_lines};
 ghost use Rattle.rv_program.specs.Counted.{counts_of};
+ghost use Rattle.rv_program.specs.Edits.{edit_of, place_of_edit};
 ghost use Rattle.rv_program.specs.internal.Items.{AreItems};
-ghost use Rattle.rv_program.specs.Program.{program_of, lines_that};
+ghost use Rattle.rv_program.specs.Program.{program_of};
+ghost use Rattle.rv_program.specs.Text.{refusal_of, lines_after};
 ghost use Rattle.rv_program.specs.internal.Still.{set_or_push};
 ghost use Rattle.rv_store.specs.internal.Column.{taken_back};
+ghost use Rattle.rv_store.specs.internal.Still.{IsPutEdit};
 ghost use Rattle.rv_store.specs.internal.StillLines.{IsStillLine, AreLinesPut, ArePartlyPut, IsFormerLine};
 ghost use Rattle.rv_store.specs.internal.Surveys.{IsSurvey};
-ghost use Rattle.rv_store.specs.internal.Users.{is_recoded, AreCountedStill};
 
 use crate::changed::Changed;
 use crate::ends::Ends;
-use crate::line_items::items_put;
+use crate::renewal::items_put;
 use crate::survey::Survey;
 use rv_layout::Measured;
 use rv_list::LinePlace;
-use rv_program::{EditError, Item, Line, NameTable};
+use rv_program::{EditError, Item, Line, LineEdit, NameTable};
 use rv_text::Count;
 use rv_tree::SumTree;
 use std::alloc::{AllocError, Global};
@@ -126,12 +129,12 @@ impl Survey {
     }
 }
 
-/// Puts a line in the place of line `k` of a text, or behind the last one, and makes its item and those of the lines that use a name that
-/// it touches, by the survey of the text. The report is that this line is new, and which of the others have another code. Names that it
-/// defines get numbers, also where there is no memory for the rest.
+/// Puts a line in the place of another one, or behind the last one, and makes its item and those of the lines that use a name that it
+/// touches, by the survey of the text. `items` are those of the text before that, and `due` are those of its lines that are due. Names that
+/// the line defines get numbers, also where there is no memory for the rest.
 ///
-/// The counter's number of expressions computed rises by at most the operands of these lines, two for an `.equ`, and its number of
-/// lines encoded by at most one and those of the others that have other values, whatever the outcome.
+/// The counter's number of expressions computed rises by at most what the edit may take, but for the operand from which the shape of the
+/// line follows, and its number of lines encoded by at most what it may take, whatever the outcome.
 ///
 /// # Errors
 ///
@@ -143,31 +146,33 @@ pub fn put_still<C: Count>(
     names: &mut NameTable,
     survey: &mut Survey,
     items: &SumTree<Item>,
-    k: u32,
+    edit: &LineEdit<'_>,
     line: Line,
     still: &Still,
-    users: &[u32],
+    due: &[u32],
     counter: &mut C,
 ) -> Result<(SumTree<Item>, Changed), EditError>
     requires survey { IsSurvey base (program_of survey.old.lines.items) names.old survey.old }
-    requires still { IsStillLine base survey.old.lines.items k line still.now users.now }
-    requires few { length (set_or_push survey.old.lines.items (k - 1) line) ≤ MAX_LINES }
+    requires still { IsStillLine base survey.old.lines.items (place_of_edit (edit_of edit.now)) line still.now due.now }
+    requires edited { IsPutEdit survey.old.lines.items (edit_of edit.now) (place_of_edit (edit_of edit.now)) line }
+    requires allowed { refusal_of survey.old.lines.items (edit_of edit.now) ≡ None }
+    requires few { length (lines_after survey.old.lines.items (edit_of edit.now)) ≤ MAX_LINES }
     requires items { AreItems base survey.old.lines.items items.now.items }
     requires valued { C.valued_count counter.old ≤ 2 ^ 63 + 1 }
     requires encoded { C.encoded_count counter.old ≤ 2 ^ 63 }
-    ensures lines { OnOk result (survey.new.lines.items ≡ set_or_push survey.old.lines.items (k - 1) line) }
-    ensures survey { OnOk result (IsSurvey base (program_of (set_or_push survey.old.lines.items (k - 1) line)) names.new survey.new) }
-    ensures err { OnErr result (ArePartlyPut (k - 1) survey.old survey.new) }
+    ensures lines { OnOk result (survey.new.lines.items ≡ lines_after survey.old.lines.items (edit_of edit.now)) }
+    ensures survey { OnOk result (IsSurvey base (program_of (lines_after survey.old.lines.items (edit_of edit.now))) names.new survey.new) }
+    ensures err { OnErr result (ArePartlyPut (place_of_edit (edit_of edit.now) - 1) survey.old survey.new) }
     ensures symbols { OnErr result (AreSymbols base (program_of survey.old.lines.items) (length survey.old.lines.items) names.new survey.new) }
-    ensures items { IfOk result (λ r. AreItems base (set_or_push survey.old.lines.items (k - 1) line) r.0.items) }
-    ensures changed { IfOk result (λ r. r.1.lines ≡ lines_that (is_recoded base (set_or_push survey.old.lines.items (k - 1) line) (code_at base (program_of survey.old.lines.items))) (k - 1) ++ k ∷ []) }
+    ensures items { IfOk result (λ r. AreItems base (lines_after survey.old.lines.items (edit_of edit.now)) r.0.items) }
+    ensures changed { IfOk result (λ r. r.1.lines ≡ changed_lines base survey.old.lines.items (edit_of edit.now)) }
     ensures memory { IfErr result (λ e. e ≡ EditError.Memory) }
-    ensures counted { AreCountedStill base survey.old.lines.items k line users.now (counts_of C.parsed_count C.valued_count C.encoded_count counter.old) (counts_of C.parsed_count C.valued_count C.encoded_count counter.new) }
+    ensures counted { AreCountedAfter base survey.old.lines.items (edit_of edit.now) (counts_of C.parsed_count C.valued_count C.encoded_count counter.old) (counts_of C.parsed_count C.valued_count C.encoded_count counter.new) }
 {
     let new = line.share()?;
-    survey.put_line(k as usize - 1, line, still)?;
+    survey.put_line(edit.place() as usize - 1, line, still)?;
     survey.define_last(alloc, base, names, &new, still.defines, counter)?;
-    match items_put(alloc, base, names, survey, items, k, users, counter) {
+    match items_put(alloc, base, names, survey, items, edit, due, counter) {
         Ok(put) => Ok(put),
         Err(e) => {
             survey.forget_last(names, &new, still.defines);

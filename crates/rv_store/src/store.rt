@@ -1,10 +1,10 @@
 //! The store.
 
-ghost use Rattle.std.specs.Prelude.{◌≡◌, ◌+◌, ◌*◌, ◌-◌, ◌^◌, ◌<◌, ◌≤◌, ◌==◌, [], length, map, None, if◌then◌else◌, IfOk, IfErr, IfSome, OnOk, OnErr, slice_get, true, false, IsTrue};
+ghost use Rattle.std.specs.Prelude.{◌≡◌, ◌+◌, ◌-◌, ◌^◌, ◌<◌, ◌≤◌, ◌==◌, [], ◌∷◌, length, map, None, if◌then◌else◌, IfOk, IfErr, IfSome, OnOk, OnErr, slice_get, true, false};
 ghost use Rattle.std.specs.Option.{option_map};
 ghost use Rattle.rv_stmt.specs.Statement.{statement_of};
 ghost use Rattle.rv_layout.specs.Places.{is_base, IsLimited};
-ghost use Rattle.rv_layout.specs.Shapes.{shape_of, size_operands};
+ghost use Rattle.rv_layout.specs.Shapes.{shape_of};
 ghost use Rattle.rv_store.specs.internal.Assembled.{AreCountedAfter};
 ghost use Rattle.rv_program.specs.Changes.{changed_lines, most_values, most_codes};
 ghost use Rattle.rv_program.specs.Codes.{code_at};
@@ -199,7 +199,7 @@ impl Store {
         requires shape { shape ≡ shape_of (constant_of (program_of self.now.lines) k) (statement_of line.now).body }
         requires limited { IsLimited shape }
         ensures edit { IfSome result (λ _. IsPutEdit self.now.lines (Replace k line.now) k line.now) }
-        ensures still { IfSome result (λ still. IsStillLine self.now.base self.now.lines k line.now still []) }
+        ensures still { IfSome result (λ still. IsStillLine self.now.base self.now.lines k line.now still (k ∷ [])) }
     {
         let survey = &self.survey;
         let place = k as usize - 1;
@@ -241,18 +241,18 @@ impl Store {
     }
 
     // Puts in the line of an edit with which other lines have to do by its names alone: only this line is made, and those that use one
-    // of them. Where there is no memory for that, the text stays.
+    // of them. `due` are those of the lines before the edit that are due. Where there is no memory for that, the text stays.
     fn put<C: Count>(
         &mut self,
         edit: &LineEdit<'_>,
         line: Line,
         still: &Still,
-        users: &[u32],
+        due: &[u32],
         counter: &mut C,
     ) -> Result<Changed, EditError>
         requires allowed { refusal_of self.old.lines (edit_of edit.now) ≡ None }
         requires edit { IsPutEdit self.old.lines (edit_of edit.now) (place_of_edit (edit_of edit.now)) line }
-        requires still { IsStillLine self.old.base self.old.lines (place_of_edit (edit_of edit.now)) line still.now users.now }
+        requires still { IsStillLine self.old.base self.old.lines (place_of_edit (edit_of edit.now)) line still.now due.now }
         requires valued { C.valued_count counter.old ≤ 2 ^ 63 + 1 }
         requires encoded { C.encoded_count counter.old ≤ 2 ^ 63 }
         ensures ok { OnOk result (self.new ≡ text_after self.old (edit_of edit.now)) }
@@ -262,21 +262,21 @@ impl Store {
         ensures parsed { C.parsed_count counter.new ≡ C.parsed_count counter.old }
         ensures valued { (C.valued_count counter.old ≤ C.valued_count counter.new) × (C.valued_count counter.new + 1 < C.valued_count counter.old + 2 ^ 32) }
         ensures encoded { (C.encoded_count counter.old ≤ C.encoded_count counter.new) × (C.encoded_count counter.new < C.encoded_count counter.old + 2 ^ 32) }
-        ensures values { C.valued_count counter.new + size_operands (statement_of line).body ≤ C.valued_count counter.old + most_values self.old.base self.old.lines (edit_of edit.now) }
+        ensures values { C.valued_count counter.new + shape_operands (edit_of edit.now) ≤ C.valued_count counter.old + most_values self.old.base self.old.lines (edit_of edit.now) }
         ensures codes { C.encoded_count counter.new ≤ C.encoded_count counter.old + most_codes self.old.base self.old.lines (edit_of edit.now) }
     {
-        let k = edit.place();
-        let former = self.survey.former(k as usize - 1)?;
+        let place = edit.place() as usize - 1;
+        let former = self.survey.former(place)?;
         match put_still(
             self.alloc,
             self.base,
             &mut self.names,
             &mut self.survey,
             &self.items,
-            k,
+            edit,
             line,
             still,
-            users,
+            due,
             counter,
         ) {
             Ok((items, changed)) => {
@@ -285,7 +285,7 @@ impl Store {
                 Ok(changed)
             }
             Err(e) => {
-                self.survey.take_back(k as usize - 1, former);
+                self.survey.take_back(place, former);
                 Err(e)
             }
         }
@@ -481,7 +481,7 @@ impl Store {
                 None => self.rework(edit, read, shape, counter),
             },
             ReadEdit::Replace(k, line) => match self.alike(*k, line, shape) {
-                Some(still) => self.put(edit, line.share()?, &still, &[], counter),
+                Some(still) => self.put(edit, line.share()?, &still, &[*k], counter),
                 None => self.rework(edit, read, shape, counter),
             },
         }

@@ -1,6 +1,6 @@
 //! What is done to the items of a list, from the first to the last.
 
-ghost use Rattle.std.specs.Prelude.{◌≡◌, ◌≤◌, List, ◌∷◌, length, IfOk, OnErr, IsTrue, unwrap_or};
+ghost use Rattle.std.specs.Prelude.{◌≤◌, List, ◌∷◌, length, IfOk, OnErr, IsTrue, unwrap_or};
 ghost use Rattle.rv_tree.specs.declared.limits.TheConstants.{MAX_ITEMS};
 ghost use Rattle.rv_tree.specs.Sums.{total, AllSums};
 ghost use Rattle.rv_tree.specs.Passes.{Runs};

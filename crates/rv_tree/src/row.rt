@@ -1,6 +1,6 @@
 //! The items of a leaf, side by side.
 
-ghost use Rattle.std.specs.Prelude.{◌≡◌, ◌+◌, ◌≤◌, ◌<◌, length, [], ◌∷◌, ◌++◌, IfOk, OnOk, slice_get, slice_set, Some, take, drop, insert, remove};
+ghost use Rattle.std.specs.Prelude.{◌≡◌, ◌+◌, ◌≤◌, ◌<◌, length, [], ◌∷◌, ◌++◌, IfOk, OnOk, slice_get, slice_set, Some, take, insert, remove};
 ghost use Rattle.rv_tree.specs.Rows.{values};
 ghost use Rattle.rv_tree.specs.Sums.{total, AllSums};
 

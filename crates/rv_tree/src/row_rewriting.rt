@@ -56,19 +56,18 @@ impl<T: Summed> Row<T> {
         ensures stops { OnErr result (Stops P.gives P.refuses T.Sum.op T.sum_of pass.old before.now (drop at self.now) pass.new) }
     {
         let item = self.get(at);
-        match pass.visit(before, item) {
-            Ok(None) => {
+        match pass.visit(before, item)? {
+            None => {
                 let sum = item.sum();
                 sum.known();
                 Ok(before.join(&sum))
             }
-            Ok(Some(item)) => {
+            Some(item) => {
                 let sum = item.sum();
                 sum.known();
                 self.change(alloc, made, at, item)?;
                 Ok(before.join(&sum))
             }
-            Err(e) => Err(e),
         }
     }
 

@@ -1,14 +1,13 @@
 -- The items of a text after an edit, of which nothing is made anew yet.
-use Rattle.std.specs.Prelude.{◌≡◌, ℕ, ◌+◌, ◌-◌, List, [], get_or, slice_get, Some}
+use Rattle.std.specs.Prelude.{◌≡◌, ℕ, ◌+◌, List, slice_get, Some}
 use Rattle.rv_program.specs.declared.item.Item.{Item}
 use Rattle.rv_program.specs.Edits.{line_before_edit}
 use Rattle.rv_program.specs.internal.Items.{IsItem}
-use Rattle.rv_program.specs.Text.{Edit, lines_after}
+use Rattle.rv_program.specs.Text.{Edit}
 
--- line k, and what was kept of it where it stood before the edit; of a line that the edit put in nothing is kept
-pub record IsFormer (base : ℕ) (lines : List (List ℕ)) (edit : Edit) (k : ℕ) (item : Item) : Type 0 where
-  pub line : item.line ≡ get_or (lines_after lines edit) (k - 1) []
-  pub kept : (j : ℕ) → line_before_edit edit k ≡ Some j → IsItem base lines j item
+-- what was kept of line k where it stood before the edit; of a line that the edit put in the item may say anything
+abbrev pub IsFormer : (base : ℕ) → (lines : List (List ℕ)) → Edit → (k : ℕ) → Item → Type 0
+IsFormer base lines edit k item = (j : ℕ) → line_before_edit edit k ≡ Some j → IsItem base lines j item
 
 -- the items of the lines after line k
 abbrev pub AreFormer : (base : ℕ) → (lines : List (List ℕ)) → Edit → (k : ℕ) → List Item → Type 0

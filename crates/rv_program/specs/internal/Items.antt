@@ -4,7 +4,6 @@ use Rattle.rv_program.specs.declared.item.Item.{Item}
 use Rattle.rv_program.specs.Codes.{values_at, code_at}
 use Rattle.rv_program.specs.Layout.{shape_at}
 use Rattle.rv_program.specs.Program.{program_of, for_lines}
-use Rattle.rv_program.specs.internal.Still.{set_or_push}
 
 -- line i with its shape, its values and its code
 pub record IsItem (base : ℕ) (text : List (List ℕ)) (i : ℕ) (item : Item) : Type 0 where
@@ -26,9 +25,3 @@ pub record AreItems (base : ℕ) (text : List (List ℕ)) (items : List Item) : 
   pub shapes : map (λ item. item.shape) items ≡ for_lines (shape_at (program_of text)) (length text)
   pub values : map (λ item. item.values) items ≡ for_lines (values_at base (program_of text)) (length text)
   pub codes : map (λ item. item.code) items ≡ for_lines (code_at base (program_of text)) (length text)
-
--- the items with that of line k in the place of the one that was there, or behind them
-pub record IsItemPut (base : ℕ) (text : List (List ℕ)) (k : ℕ) (before after : List Item) : Type 0 where
-  pub item : Item
-  pub is : IsItem base text k item
-  pub items : after ≡ set_or_push before (k - 1) item

@@ -1,8 +1,17 @@
 -- The lines behind a line that pass a test, one after another.
-use Rattle.std.proofs.Common.{◌≡◌, ℕ, zero, suc, ◌+◌, ◌-◌, ◌<◌, ◌≤◌, ◌==◌, ◌⊎◌, inl, inr, Bool, true, false, List, [], ◌∷◌, ◌++◌, length, get_or, take, drop, if◌then◌else◌, append_assoc, arith, ap, sym, ◌∙◌, refl}
-use Rattle.std.proofs.lemmas.Bool.{cases_lt, eq-eqb, ne_eqb}
+use Rattle.std.proofs.Common.{◌≡◌, ℕ, zero, suc, ◌+◌, ◌-◌, ◌<◌, ◌≤◌, ◌⊎◌, inl, inr, Bool, true, false, List, [], ◌∷◌, ◌++◌, length, get_or, take, drop, if◌then◌else◌, append_assoc, arith, ap, sym, ◌∙◌, refl}
+use Rattle.std.proofs.lemmas.Bool.{cases_lt}
 use Rattle.std.proofs.lemmas.List.{append-nil, take_all}
 use Rattle.rv_program.specs.Program.{lines_that, lines_ahead}
+
+-- a list does not begin with this line
+abbrev pub BeginsOther : List ℕ → (line : ℕ) → Type 0
+BeginsOther row line = (rest : List ℕ) → row ≡ line ∷ rest → ⊥
+
+-- a list that is not empty, as its first element and the others
+pub first-and-others : (xs : List ℕ) → 1 ≤ length xs → xs ≡ get_or xs 0 0 ∷ take (length xs - 1) (drop 1 xs)
+first-and-others [] some = absurd (omega (arith, some))
+first-and-others (x ∷ xs) some = ap (λ ys. x ∷ ys) (sym (take_all (length (x ∷ xs) - 1) xs (omega arith)))
 
 module _ (test : ℕ → Bool) where
   and_ahead : (k count : ℕ) → lines_that test k ++ lines_ahead test k count ≡ lines_that test (k + count)
@@ -69,40 +78,13 @@ module _ (test : ℕ → Bool) where
 
   -- Line by line
 
-  -- the next line is the first of them, or does not pass
-  is_next-passes : (k m x : ℕ) (rest : List ℕ) → x ∷ rest ≡ lines_ahead test k (suc m) → (x == suc k) ≡ test (suc k)
-  is_next-passes k m x rest are = at (test (suc k)) are
+  -- where another line is the first of them, or there is none, the next line does not pass
+  pub other-fails : (k m : ℕ) (row : List ℕ) → row ≡ lines_ahead test k (suc m) → BeginsOther row (suc k) → test (suc k) ≡ false
+  other-fails k m row are other = at (test (suc k)) refl are
     where
-      at : (b : Bool) → x ∷ rest ≡ (if b then suc k ∷ [] else []) ++ lines_ahead test (suc k) m → (x == suc k) ≡ b
-      at true are =
-          let cons : x ∷ rest ≡ suc k ∷ lines_ahead test (suc k) m = are in
-          let first : x ≡ suc k = cc in
-          eq-eqb x (suc k) first
-      at false are =
-          let next = next_ahead (suc k) m x rest (sym are) in
-          ne_eqb x (suc k) (λ e. omega (arith, e, next.after))
-
-  -- where it is the first of them, it passes
-  pub first-passes : (k m : ℕ) (row : List ℕ) → row ≡ lines_ahead test k (suc m) → 1 ≤ length row → get_or row 0 0 ≡ suc k → test (suc k) ≡ true
-  first-passes k m [] are some first = absurd (omega (arith, some))
-  first-passes k m (x ∷ rest) are some first = sym (is_next-passes k m x rest are) ∙ eq-eqb x (suc k) first
-
-  -- where there is none of them, or another is the first, it does not pass
-  pub none-fails : (k m : ℕ) (row : List ℕ) → row ≡ lines_ahead test k (suc m) → length row < 1 → test (suc k) ≡ false
-  none-fails k m [] are none = none_ahead k (suc m) (sym are) (suc k) (omega arith) (omega arith)
-  none-fails k m (x ∷ rest) are none = absurd (omega (arith, none))
-
-  pub other-fails : (k m : ℕ) (row : List ℕ) → row ≡ lines_ahead test k (suc m) → 1 ≤ length row → (get_or row 0 0 ≡ suc k → ⊥) → test (suc k) ≡ false
-  other-fails k m [] are some other = absurd (omega (arith, some))
-  other-fails k m (x ∷ rest) are some other = sym (is_next-passes k m x rest are) ∙ ne_eqb x (suc k) other
-
-  -- and the others are behind it
-  pub others-behind : (k m : ℕ) (row : List ℕ) → test (suc k) ≡ true → 1 ≤ length row → row ≡ lines_ahead test k (suc m) → take (length row - 1) (drop 1 row) ≡ lines_ahead test (suc k) m
-  others-behind k m [] passes some are = absurd (omega (arith, some))
-  others-behind k m (x ∷ rest) passes some are =
-      let cons : x ∷ rest ≡ suc k ∷ lines_ahead test (suc k) m = are ∙ ap (λ b. (if b then suc k ∷ [] else []) ++ lines_ahead test (suc k) m) passes in
-      let behind : rest ≡ lines_ahead test (suc k) m = cc in
-      take_all (length (x ∷ rest) - 1) rest (omega arith) ∙ behind
+      at : (b : Bool) → test (suc k) ≡ b → row ≡ (if b then suc k ∷ [] else []) ++ lines_ahead test (suc k) m → test (suc k) ≡ false
+      at true is are = absurd (other (lines_ahead test (suc k) m) are)
+      at false is are = is
 
   -- behind a line that does not pass they are the same
   pub ahead-left : (k m : ℕ) (row : List ℕ) → test (suc k) ≡ false → row ≡ lines_ahead test k (suc m) → row ≡ lines_ahead test (suc k) m
@@ -110,5 +92,4 @@ module _ (test : ℕ → Bool) where
 
   -- where the first of them is further on, or there is none, it does not pass
   pub apart-fails : (k m other : ℕ) (row : List ℕ) → row ≡ lines_ahead test k (suc m) → suc k < get_or row 0 other → test (suc k) ≡ false
-  apart-fails k m other [] are apart = none-fails k m [] are (omega arith)
-  apart-fails k m other (x ∷ rest) are apart = other-fails k m (x ∷ rest) are (omega arith) (λ same. omega (arith, same, apart))
+  apart-fails k m other row are apart = other-fails k m row are (λ rest e. omega (arith, apart, ap (λ xs. get_or xs 0 other) e))

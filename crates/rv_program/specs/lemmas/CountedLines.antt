@@ -5,14 +5,11 @@ use Rattle.rv_text.specs.Counting.{Counts}
 use Rattle.rv_stmt.specs.declared.statement.Body.{Body}
 use Rattle.rv_stmt.specs.declared.statement.Body.TheVariants.{Equ}
 use Rattle.rv_stmt.specs.Statement.{operands_of}
-use Rattle.rv_program.specs.declared.before.Before.{Before}
-use Rattle.rv_program.specs.internal.Before.{base_before, lines_before, edit_on}
-use Rattle.rv_program.specs.Changes.{program_after, is_invalidated, is_reencoded}
 use Rattle.rv_program.specs.internal.Compared.{compared_through}
 use Rattle.rv_program.specs.Jumps.{target_of}
 use Rattle.rv_program.specs.Program.{program_of, body_at, lines_that}
 use Rattle.rv_program.specs.internal.Renewals.{values_through, codes_through, AreCounted}
-use Rattle.rv_program.specs.Text.{lines_after}
+use Rattle.rv_program.specs.internal.Revisions.{EditedText, revised_lines, invalidates, reencodes}
 use Rattle.rv_program.specs.internal.Work.{value_operands, compared_operands}
 use Rattle.rv_program.specs.lemmas.WorkLaws.{work-next}
 use Rattle.rv_program.specs.lemmas.WorkSums.{one_label, compared-few}
@@ -45,50 +42,50 @@ rises_to f step k n few =
     let same : k + (n - k) ≡ n = omega (arith, few) in
     rw same at (rises f step k (n - k))
 
-module _ (before : Before) where
-  values-next : (k n : ℕ) → n ≡ suc k → values_through before n ≡ values_through before k + (if is_invalidated (base_before before) (lines_before before) (edit_on before) n then value_operands (body_at (program_after (lines_before before) (edit_on before)) n) else 0)
+module _ (r : EditedText) where
+  values-next : (k n : ℕ) → n ≡ suc k → values_through r n ≡ values_through r k + (if invalidates r n then value_operands (body_at (program_of (revised_lines r)) n) else 0)
   values-next k n next =
-      subst (λ m. values_through before m ≡ values_through before k + (if is_invalidated (base_before before) (lines_before before) (edit_on before) m then value_operands (body_at (program_after (lines_before before) (edit_on before)) m) else 0)) (sym next)
-      (work-next value_operands (base_before before) (lines_before before) (edit_on before) k)
+      subst (λ m. values_through r m ≡ values_through r k + (if invalidates r m then value_operands (body_at (program_of (revised_lines r)) m) else 0)) (sym next)
+      (work-next value_operands r.base r.lines r.edit k)
 
-  compared-next : (k n : ℕ) → n ≡ suc k → compared_through before n ≡ compared_through before k + (if is_invalidated (base_before before) (lines_before before) (edit_on before) n then compared_operands (body_at (program_after (lines_before before) (edit_on before)) n) else 0)
+  compared-next : (k n : ℕ) → n ≡ suc k → compared_through r n ≡ compared_through r k + (if invalidates r n then compared_operands (body_at (program_of (revised_lines r)) n) else 0)
   compared-next k n next =
-      subst (λ m. compared_through before m ≡ compared_through before k + (if is_invalidated (base_before before) (lines_before before) (edit_on before) m then compared_operands (body_at (program_after (lines_before before) (edit_on before)) m) else 0)) (sym next)
-      (work-next compared_operands (base_before before) (lines_before before) (edit_on before) k)
+      subst (λ m. compared_through r m ≡ compared_through r k + (if invalidates r m then compared_operands (body_at (program_of (revised_lines r)) m) else 0)) (sym next)
+      (work-next compared_operands r.base r.lines r.edit k)
 
-  codes-next : (k n : ℕ) → n ≡ suc k → codes_through before n ≡ codes_through before k + (if is_reencoded (base_before before) (lines_before before) (edit_on before) n then 1 else 0)
+  codes-next : (k n : ℕ) → n ≡ suc k → codes_through r n ≡ codes_through r k + (if reencodes r n then 1 else 0)
   codes-next k n next =
-      subst (λ m. codes_through before m ≡ codes_through before k + (if is_reencoded (base_before before) (lines_before before) (edit_on before) m then 1 else 0)) (sym next)
-      (next_in_count (is_reencoded (base_before before) (lines_before before) (edit_on before)) k)
+      subst (λ m. codes_through r m ≡ codes_through r k + (if reencodes r m then 1 else 0)) (sym next)
+      (next_in_count (reencodes r) k)
 
-  values-rise : (k n : ℕ) → k ≤ n → values_through before k ≤ values_through before n
-  values-rise = rises_to (values_through before) (λ n. let next = values-next n (suc n) refl in omega (arith, next))
+  values-rise : (k n : ℕ) → k ≤ n → values_through r k ≤ values_through r n
+  values-rise = rises_to (values_through r) (λ n. let next = values-next n (suc n) refl in omega (arith, next))
 
-  codes-rise : (k n : ℕ) → k ≤ n → codes_through before k ≤ codes_through before n
-  codes-rise = rises_to (codes_through before) (λ n. let next = codes-next n (suc n) refl in omega (arith, next))
+  codes-rise : (k n : ℕ) → k ≤ n → codes_through r k ≤ codes_through r n
+  codes-rise = rises_to (codes_through r) (λ n. let next = codes-next n (suc n) refl in omega (arith, next))
 
   -- a line is compared at most once
-  compared-rise : (k m : ℕ) → compared_through before (k + m) ≤ compared_through before k + m
+  compared-rise : (k m : ℕ) → compared_through r (k + m) ≤ compared_through r k + m
   compared-rise k zero = let same : k + 0 ≡ k = omega arith in rw same (omega arith)
   compared-rise k (suc m) =
       let same : k + suc m ≡ suc (k + m) = omega arith in
       let so_far = compared-rise k m in
       let next = compared-next (k + m) (suc (k + m)) refl in
-      let one = at (is_invalidated (base_before before) (lines_before before) (edit_on before) (suc (k + m))) (body_at (program_after (lines_before before) (edit_on before)) (suc (k + m))) in
+      let one = at (invalidates r (suc (k + m))) (body_at (program_of (revised_lines r)) (suc (k + m))) in
       rw same (omega (arith, so_far, next, one))
     where
       at : (b : Bool) (body : Body) → (if b then compared_operands body else 0) ≤ 1
       at true body = one_label (target_of body)
       at false body = omega arith
 
-  compared-rise_to : (k n : ℕ) → k ≤ n → compared_through before n + k ≤ compared_through before k + n
+  compared-rise_to : (k n : ℕ) → k ≤ n → compared_through r n + k ≤ compared_through r k + n
   compared-rise_to k n few =
       let same : k + (n - k) ≡ n = omega (arith, few) in
-      let most : compared_through before n ≤ compared_through before k + (n - k) = rw same at (compared-rise k (n - k)) in
+      let most : compared_through r n ≤ compared_through r k + (n - k) = rw same at (compared-rise k (n - k)) in
       omega (arith, most, few)
 
   -- where nothing is counted
-  pub nothing_counted : (k n : ℕ) (c : Counts) → k ≤ n → AreCounted before k n c c
+  pub nothing_counted : (k n : ℕ) (c : Counts) → k ≤ n → AreCounted r k n c c
   nothing_counted k n c few =
       let values = values-rise k n few in
       let codes = codes-rise k n few in
@@ -105,7 +102,7 @@ module _ (before : Before) where
       }
 
   -- these lines and then those
-  pub both_counted : (k m n : ℕ) (c d e : Counts) → AreCounted before k m c d → AreCounted before m n d e → AreCounted before k n c e
+  pub both_counted : (k m n : ℕ) (c d e : Counts) → AreCounted r k m c d → AreCounted r m n d e → AreCounted r k n c e
   both_counted k m n c d e p q = record {
     parsed = q.parsed ∙ p.parsed;
     valued_least = omega (arith, p.valued_least, q.valued_least);
@@ -118,27 +115,27 @@ module _ (before : Before) where
   }
 
   -- line n is invalidated, and its values were computed: the counts were c before and are d after that
-  module _ (lines : List (List ℕ)) (same : lines ≡ lines_after (lines_before before) (edit_on before)) (k n : ℕ) (next : n ≡ suc k) (few : length (operands_of (body_at (program_of lines) n)) ≤ 1000)
-      (invalidated : is_invalidated (base_before before) (lines_before before) (edit_on before) n ≡ true) (c d : Counts) (parsed : d.parsed ≡ c.parsed)
+  module _ (lines : List (List ℕ)) (same : lines ≡ revised_lines r) (k n : ℕ) (next : n ≡ suc k) (few : length (operands_of (body_at (program_of lines) n)) ≤ 1000)
+      (invalidated : invalidates r n ≡ true) (c d : Counts) (parsed : d.parsed ≡ c.parsed)
       (least : c.valued ≤ d.valued) (most : d.valued ≤ c.valued + value_operands (body_at (program_of lines) n)) (encoded : d.encoded ≡ c.encoded) where
-    values_here : values_through before n ≡ values_through before k + value_operands (body_at (program_of lines) n)
+    values_here : values_through r n ≡ values_through r k + value_operands (body_at (program_of lines) n)
     values_here =
-        values-next k n next ∙ ap (λ b. values_through before k + (if b then value_operands (body_at (program_after (lines_before before) (edit_on before)) n) else 0)) invalidated
-        ∙ ap (λ ls. values_through before k + value_operands (body_at (program_of ls) n)) (sym same)
+        values-next k n next ∙ ap (λ b. values_through r k + (if b then value_operands (body_at (program_of (revised_lines r)) n) else 0)) invalidated
+        ∙ ap (λ ls. values_through r k + value_operands (body_at (program_of ls) n)) (sym same)
 
-    compared_here : compared_through before n ≡ compared_through before k + compared_operands (body_at (program_of lines) n)
+    compared_here : compared_through r n ≡ compared_through r k + compared_operands (body_at (program_of lines) n)
     compared_here =
-        compared-next k n next ∙ ap (λ b. compared_through before k + (if b then compared_operands (body_at (program_after (lines_before before) (edit_on before)) n) else 0)) invalidated
-        ∙ ap (λ ls. compared_through before k + compared_operands (body_at (program_of ls) n)) (sym same)
+        compared-next k n next ∙ ap (λ b. compared_through r k + (if b then compared_operands (body_at (program_of (revised_lines r)) n) else 0)) invalidated
+        ∙ ap (λ ls. compared_through r k + compared_operands (body_at (program_of ls) n)) (sym same)
 
-    both_here : d.valued + 1000 * k + compared_through before n ≤ c.valued + 1000 * n + compared_through before k
+    both_here : d.valued + 1000 * k + compared_through r n ≤ c.valued + 1000 * n + compared_through r k
     both_here =
         let compared = compared_here in
         let both = compared-few (body_at (program_of lines) n) few in
         omega (arith, most, compared, both, next)
 
     -- it is not encoded
-    pub valued_line : AreCounted before k n c d
+    pub valued_line : AreCounted r k n c d
     valued_line =
         let codes = codes-rise k n (omega (arith, next)) in
         let values = values_here in
@@ -155,9 +152,9 @@ module _ (before : Before) where
         }
 
     -- it is encoded too
-    pub encoded_line : is_reencoded (base_before before) (lines_before before) (edit_on before) n ≡ true → (e : Counts) → e.parsed ≡ d.parsed → e.valued ≡ d.valued → d.encoded ≤ e.encoded → e.encoded ≤ d.encoded + 1 → AreCounted before k n c e
+    pub encoded_line : reencodes r n ≡ true → (e : Counts) → e.parsed ≡ d.parsed → e.valued ≡ d.valued → d.encoded ≤ e.encoded → e.encoded ≤ d.encoded + 1 → AreCounted r k n c e
     encoded_line reencoded e parsed' valued' least' most' =
-        let codes = codes-next k n next ∙ ap (λ b. codes_through before k + (if b then 1 else 0)) reencoded in
+        let codes = codes-next k n next ∙ ap (λ b. codes_through r k + (if b then 1 else 0)) reencoded in
         let values = values_here in
         let operands = value_operands-few (body_at (program_of lines) n) in
         record {

@@ -134,13 +134,6 @@ only-other symbol place m differs = at (bytes_eq symbol m) refl
 only-itself : (symbol : List ℕ) (place : DefinitionPlace) → only symbol place symbol ≡ place
 only-itself symbol place = ap (λ b. if b then place else Nowhere) ((bytes_eq-Decides symbol symbol).1 refl)
 
--- the first definition of a name
-pub defined-first : (names : List (List ℕ)) (row : List DefinitionPlace) (symbol : List ℕ) (n : ℕ) (place : DefinitionPlace) → number_of names symbol ≡ Some n → n < length row → get_or row n Nowhere ≡ Nowhere → in_row names (set row n place) Nowhere ≡ then_also (in_row names row Nowhere) (only symbol place)
-defined-first names row symbol n place number within none =
-    row-set names row Nowhere symbol n place (then_also (in_row names row Nowhere) (only symbol place)) number within
-    (sym (ap (λ p. or_place p (only symbol place symbol)) (row-at names row Nowhere symbol n number ∙ none) ∙ only-itself symbol place))
-    (λ m differs. sym (ap (or_place (in_row names row Nowhere m)) (only-other symbol place m differs) ∙ or_place-nowhere (in_row names row Nowhere m)))
-
 -- a definition on a line, before those that a row has
 pub defined-here : (names : List (List ℕ)) (row : List DefinitionPlace) (symbol : List ℕ) (n line : ℕ) (place : DefinitionPlace) → number_of names symbol ≡ Some n → n < length row → is_up_to line place ≡ true → is_up_to line (get_or row n Nowhere) ≡ false → in_row names (set row n place) Nowhere ≡ also_on line (in_row names row Nowhere) (only symbol place)
 defined-here names row symbol n line place number within up behind =

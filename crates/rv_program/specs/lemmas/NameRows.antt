@@ -1,7 +1,7 @@
 -- Numbers of names, and rows by these numbers.
-use Rattle.std.proofs.Common.{◌≡◌, ℕ, zero, suc, ◌+◌, ◌<◌, ◌≤◌, Bool, true, false, not, ◌-◌, cond, nat_lt, ltb, List, [], ◌∷◌, ◌++◌, ◌||◌, length, map, get_or, set, take, replicate, position, bytes_eq, Option, Some, None, option_map, if◌then◌else◌, arith, append_assoc, ap, sym, subst, ◌∙◌, refl, ◌⊎◌, inl, inr}
+use Rattle.std.proofs.Common.{◌≡◌, ℕ, zero, suc, ◌+◌, ◌<◌, ◌≤◌, Bool, true, false, not, ◌-◌, cond, nat_lt, ltb, List, [], ◌∷◌, ◌++◌, ◌||◌, length, map, get_or, set, take, replicate, position, bytes_eq, Option, Some, None, option_map, if◌then◌else◌, arith, append_assoc, ap, sym, subst, ◌∙◌, refl}
 use Rattle.std.proofs.Math.Path.{fun_ext}
-use Rattle.std.proofs.lemmas.Bool.{cases_lt, false≢true}
+use Rattle.std.proofs.lemmas.Bool.{false≢true}
 use Rattle.std.proofs.lemmas.Grind.{common_steps}
 use Rattle.std.proofs.lemmas.Bool.Decides.{nat_tests}
 use Rattle.std.proofs.lemmas.List.{append-nil, map-append, length-append, get_or_past, get_or-set_same, get_or-set_other, take_all, length-replicate}
@@ -209,18 +209,6 @@ row-grown old new row other grows within =
 -- what a row holds for a name that has a number
 pub row-at : {A : Type 0} (names : List (List ℕ)) (row : List A) (other : A) (name : List ℕ) (n : ℕ) → number_of names name ≡ Some n → in_row names row other name ≡ get_or row n other
 row-at names row other name n e = ap (entry_at row other) e
-
--- a name for which a row holds something else has a place in the row
-pub row-has : {A : Type 0} (names : List (List ℕ)) (row : List A) (other : A) (name : List ℕ) → (in_row names row other name ≡ other → ⊥) → (n : ℕ) × (number_of names name ≡ Some n) × (n < length row)
-row-has names row other name held = at (number_of names name) refl
-  where
-    at : (r : Option ℕ) → number_of names name ≡ r → (n : ℕ) × (number_of names name ≡ Some n) × (n < length row)
-    at None e = absurd (held (ap (entry_at row other) e))
-    at (Some n) e = (n, e, within (cases_lt n (length row)))
-      where
-        within : (n < length row) ⊎ (length row ≤ n) → n < length row
-        within (inl l) = l
-        within (inr l) = absurd (held (ap (entry_at row other) e ∙ get_or_past row n other l))
 
 -- a row after a value is put in for a name, by what it held for the other names
 pub row-set : {A : Type 0} (names : List (List ℕ)) (row : List A) (other : A) (name : List ℕ) (n : ℕ) (v : A) (f : List ℕ → A) → number_of names name ≡ Some n → n < length row → v ≡ f name → ((m : List ℕ) → (m ≡ name → ⊥) → in_row names row other m ≡ f m) → in_row names (set row n v) other ≡ f

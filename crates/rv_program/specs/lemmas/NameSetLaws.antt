@@ -4,7 +4,7 @@ use Rattle.std.specs.Int.{bit_at}
 use Rattle.std.specs.Int.Bits.{bit_and, bit_or}
 use Rattle.std.specs.List.{list_any, fold}
 use Rattle.std.proofs.lemmas.Bool.{cases_eq, eqb-true, eq-eqb, or_left, or_right}
-use Rattle.std.proofs.lemmas.List.{get_or-set_same, get_or-set_other}
+use Rattle.std.proofs.lemmas.List.{get_or-set_other}
 use Rattle.std.proofs.lemmas.Nat.Bits.{bit_at-lt, bit_at-zero, bit_at-pow_same, bit_at_ones, bit_at_and, bit_at_or, bit_at_cat_low}
 use Rattle.rv_program.specs.declared.groups.Groups.{Groups}
 use Rattle.rv_program.specs.declared.used_names.UsedNames.{UsedNames}
@@ -130,14 +130,6 @@ module _ (marks : List Mark) (groups : Groups) (place : ℕ) (mark : Mark) (with
       at : (bucket ≡ place) ⊎ (bucket ≡ place → ⊥) → has_group (with_group groups place) bucket ≡ true
       at (inl same) = ap (has_group (with_group groups place)) same ∙ group-added groups place
       at (inr other) = group-kept groups place bucket (grouped bucket (sym (ap differs (get_or-set_other marks place bucket mark Unknown other)) ∙ has))
-
-  pub grouped-without : differs mark ≡ false → AreGrouped (Some (slice_set marks place mark)) groups
-  grouped-without same_names bucket has = at (cases_eq bucket place)
-    where
-      at : (bucket ≡ place) ⊎ (bucket ≡ place → ⊥) → has_group groups bucket ≡ true
-      at (inl same) =
-          absurd (true≢false (sym has ∙ ap (λ b. differs (get_or (slice_set marks place mark) b Unknown)) same ∙ ap differs (get_or-set_same marks place mark Unknown within) ∙ same_names))
-      at (inr other) = grouped bucket (sym (ap differs (get_or-set_other marks place bucket mark Unknown other)) ∙ has)
 
 -- The names of a line
 

@@ -1,6 +1,6 @@
 -- Lines that are put in the place of a line, or behind the last one: all other lines stay as they are, but for those that use a name
 -- that such a line touches.
-use Rattle.std.specs.Prelude.{◌≡◌, ℕ, ◌-◌, ◌<◌, ◌≤◌, Bool, true, false, ◌||◌, List, length, Some, None}
+use Rattle.std.specs.Prelude.{◌≡◌, ℕ, ◌-◌, ◌<◌, ◌≤◌, ◌==◌, Bool, true, false, ◌||◌, List, length, Some, None}
 use Rattle.std.specs.List.{list_any}
 use Rattle.std.specs.Option.{is_some}
 use Rattle.rv_stmt.specs.declared.statement.Body.{Body}
@@ -23,6 +23,10 @@ is_settled b = is_equ b || is_some (pcrel_high_of b)
 -- line i of a text uses a name that is touched
 abbrev pub uses_any : (touched : List ℕ → Bool) → Program → (i : ℕ) → Bool
 uses_any touched p i = list_any touched (names_used (body_at p i))
+
+-- line i is line k, or uses such a name
+abbrev pub is_put_or_uses : (touched : List ℕ → Bool) → Program → (k i : ℕ) → Bool
+is_put_or_uses touched p k i = i == k || uses_any touched p i
 
 -- line i of a text is another one than line k
 pub record IsOther (p : Program) (k i : ℕ) : Type 0 where

@@ -7,14 +7,14 @@ use Rattle.rv_store.specs.declared.still.Still.{Still}
 use Rattle.rv_store.specs.declared.survey.Survey.{Survey}
 use Rattle.rv_store.specs.internal.Appended.{IsLast, IsUnsettled, AreSymbols}
 use Rattle.rv_store.specs.internal.Ends.{ends_of}
-use Rattle.rv_store.specs.internal.Still.{uses_any, IsOther, IsStill}
+use Rattle.rv_store.specs.internal.Still.{is_put_or_uses, IsStill}
 use Rattle.rv_program.specs.Layout.{shape_at, shapes_of, place_at}
 use Rattle.rv_program.specs.Program.{program_of, lines_that}
 use Rattle.rv_program.specs.internal.Still.{set_or_push}
 
--- What line k of a text is, if other lines have to do with it by its names alone, and those that use one of them: it defines a name that
--- the text does not, and is behind it, or it touches no name.
-pub record IsStillLine (base : ℕ) (lines : List (List ℕ)) (k : ℕ) (line : List ℕ) (given : Still) (users : List ℕ) : Type 0 where
+-- What line k of a text is, if other lines have to do with it by its names alone, and which lines of the text before it are due: line k,
+-- and those that use one of the names. It defines a name that the text does not, and is behind it, or it touches no name.
+pub record IsStillLine (base : ℕ) (lines : List (List ℕ)) (k : ℕ) (line : List ℕ) (given : Still) (due : List ℕ) : Type 0 where
   pub touched : List ℕ → Bool
   pub still : IsStill base (program_of lines) (program_of (set_or_push lines (k - 1) line)) k touched
   pub shape : given.shape ≡ shape_at (program_of (set_or_push lines (k - 1) line)) k
@@ -23,8 +23,7 @@ pub record IsStillLine (base : ℕ) (lines : List (List ℕ)) (k : ℕ) (line : 
   pub place : given.place ≡ place_at base (program_of (set_or_push lines (k - 1) line)) k
   pub nothing : given.defines ≡ false → (name : List ℕ) → touched name ≡ false
   pub last : given.defines ≡ true → (k ≡ suc (length lines)) × IsLast base lines line
-  pub those : users ≡ lines_that (uses_any touched (program_of lines)) (k - 1)
-  pub later : (i : ℕ) → IsOther (program_of lines) k i → k < i → uses_any touched (program_of lines) i ≡ false
+  pub those : due ≡ lines_that (is_put_or_uses touched (program_of lines) k) (length lines)
 
 -- the last line of a text, if no other line has to do with it
 pub record IsLastLine (base : ℕ) (text : List (List ℕ)) (given : LastLine) : Type 0 where

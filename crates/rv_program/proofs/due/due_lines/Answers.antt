@@ -1,9 +1,11 @@
-use Rattle.std.proofs.Common.{◌+◌, length, ap, sym, ◌∙◌, arith}
+use Rattle.std.proofs.Common.{◌≡◌, ◌+◌, length, ap, sym, ◌∙◌, arith}
 use Rattle.rv_program.specs.internal.Before.{base_before, lines_before, edit_on}
 use Rattle.rv_program.specs.internal.Briefs.{brief_of}
 use Rattle.rv_program.specs.Changes.{is_due}
 use Rattle.rv_program.specs.Counted.{counts_of}
-use Rattle.rv_program.specs.Program.{program_of, statement_at}
+use Rattle.rv_program.specs.Program.{program_of, statement_at, lines_that}
+use Rattle.rv_program.specs.Text.{lines_after}
+use Rattle.rv_program.proofs.ChangeLaws.{due-invalidated, not_due}
 use Rattle.rv_program.proofs.ComparedJumps.{none-compared, next-compared, more-compared}
 use Rattle.rv_program.proofs.DueLines.{row-added, row-kept}
 use Rattle.rv_program.specs.lemmas.LocalLines.{statement-of-line}
@@ -40,6 +42,25 @@ loop-i-init g c =
       within = omega arith;
       row = c.new-row.ensures.items;
       compared = none-compared c.args.before.now (counts c.args.counter.now);
+    }
+
+-- behind the last line it has all of them
+pub returns-clause-due : goal.returns-clause-due
+returns-clause-due g c =
+    let before = c.args.before.now in
+    let base = base_before before in
+    let lines = lines_before before in
+    let edit = edit_on before in
+    let allowed = c.requires.before.allowed in
+    let count : length c.args.after.now.text.lines.now ≡ length (lines_after lines edit) = ap length c.requires.after.lines in
+    let all : c.loop-i.i ≡ length c.args.after.now.text.lines.now = omega (arith, c.loop-i-test.false, c.loop-i.invariant.within, ap length c.requires.column) in
+    record {
+      test = is_due base lines edit;
+      tells = record {
+        invalidated = λ i first last due. due-invalidated base lines edit i allowed first (omega (arith, last, count)) due;
+        others = λ i first last none. not_due base lines edit i allowed first (omega (arith, last, count)) none;
+      };
+      those = c.loop-i.invariant.row ∙ ap (lines_that (is_due base lines edit)) all;
     }
 
 -- where no memory is left for the set of names

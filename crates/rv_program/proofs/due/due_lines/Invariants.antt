@@ -4,6 +4,7 @@ use Rattle.rv_program.specs.Changes.{is_due}
 use Rattle.rv_program.specs.internal.Compared.{AreCompared}
 use Rattle.rv_program.specs.Counted.{counts_of}
 use Rattle.rv_program.specs.Program.{lines_that}
+use Rattle.rv_program.specs.internal.Revisions.{edited_before}
 use Rattle.rv_program.proofs.due.due_lines.Given as goal
 
 -- the row holds those of the lines so far
@@ -11,5 +12,5 @@ abbrev pub invariant-loop-i : goal.invariant-loop-i
 invariant-loop-i g l = record {
   within : l.i ≤ length l.after.text.lines.now;
   row : l.row.items ≡ lines_that (is_due (base_before l.before) (lines_before l.before) (edit_on l.before)) l.i;
-  compared : AreCompared l.before l.i (counts_of g.C.Count.parsed_count g.C.Count.valued_count g.C.Count.encoded_count l.initial.counter) (counts_of g.C.Count.parsed_count g.C.Count.valued_count g.C.Count.encoded_count l.counter);
+  compared : AreCompared (edited_before l.before) l.i (counts_of g.C.Count.parsed_count g.C.Count.valued_count g.C.Count.encoded_count l.initial.counter) (counts_of g.C.Count.parsed_count g.C.Count.valued_count g.C.Count.encoded_count l.counter);
 }

@@ -1,8 +1,9 @@
-use Rattle.std.proofs.Common.{◌≡◌, ◌+◌, ◌≤◌, length, arith, ap, subst, ◌∙◌}
+use Rattle.std.proofs.Common.{length, arith, ap, ◌∙◌}
 use Rattle.rv_program.specs.Edits.{edit_of}
-use Rattle.rv_program.specs.internal.Work.{compared_operands, value_operands, work}
+use Rattle.rv_program.specs.Changes.{is_changed}
+use Rattle.rv_program.specs.Program.{lines_that}
 use Rattle.rv_program.specs.Counted.{counts_of}
-use Rattle.rv_store.proofs.CountedEdits.{counted-after}
+use Rattle.rv_store.proofs.CountedEdits.{counted-after, counted-renewed}
 use Rattle.rv_store.proofs.Stores.{survey_grown}
 use Rattle.rv_store.proofs.assembly.assembled_by_lines.Goals as goal
 
@@ -13,27 +14,24 @@ returns-in_err-after-clause-counted g c =
     counted-after c.args.base c.args.old.now c.args.survey.now.lines.items (edit_of c.args.edit.now) (counts c.args.counter.now) (counts c.after.new.counter) (g.C.Count.valued_count c.after.new.counter)
     c.requires.edited made.parsed made.least made.most made.work (omega arith) (omega arith) (omega arith) (omega (arith, made.encoded)) (omega (arith, made.encoded)) (omega (arith, made.encoded))
 
-pub renewed_items-requires-clause-old : goal.renewed_items-requires-clause-old
-renewed_items-requires-clause-old g c = survey_grown _ _ _ _ _ c.after.ensures.names c.requires.survey
+pub items_edited-requires-clause-old : goal.items_edited-requires-clause-old
+items_edited-requires-clause-old g c = survey_grown _ _ _ _ _ c.after.ensures.names c.requires.survey
 
 pub returns-in_err-items-clause-counted : goal.returns-in_err-items-clause-counted
 returns-in_err-items-clause-counted g c =
     let counts = counts_of g.C.Count.parsed_count g.C.Count.valued_count g.C.Count.encoded_count in
     let made = c.after.ensures in
-    let renewed = c.renewed_items.ensures in
-    let count : length c.as_slice.result.now ≡ length c.args.survey.now.lines.items = ap length c.as_slice.ensures in
-    let values = subst (λ ls. g.C.Count.valued_count c.renewed_items.new.counter ≤ g.C.Count.valued_count c.after.new.counter + work compared_operands c.args.base c.args.old.now (edit_of c.args.edit.now) (length ls) + work value_operands c.args.base c.args.old.now (edit_of c.args.edit.now) (length ls)) c.as_slice.ensures renewed.values in
-    counted-after c.args.base c.args.old.now c.args.survey.now.lines.items (edit_of c.args.edit.now) (counts c.args.counter.now) (counts c.renewed_items.new.counter) (g.C.Count.valued_count c.after.new.counter)
-    c.requires.edited (renewed.parsed ∙ made.parsed) made.least made.most made.work renewed.valued_least (omega (arith, renewed.valued_few, count)) values
-    (omega (arith, made.encoded, renewed.encoded_least)) (omega (arith, made.encoded, renewed.encoded_few, count)) (omega (arith, made.encoded, renewed.codes))
+    counted-renewed c.args.base c.args.old.now c.args.survey.now.lines.items c.as_slice-lines.result.now (edit_of c.args.edit.now) (counts c.args.counter.now) (counts c.after.new.counter) (counts c.items_edited.new.counter)
+    c.requires.edited c.as_slice-lines.ensures made.parsed made.least made.most made.work made.encoded c.items_edited.ensures.counted
 
 pub returns-clause-counted : goal.returns-clause-counted
 returns-clause-counted g c =
     let counts = counts_of g.C.Count.parsed_count g.C.Count.valued_count g.C.Count.encoded_count in
     let made = c.after.ensures in
-    let renewed = c.renewed_items.ensures in
-    let count : length c.as_slice.result.now ≡ length c.args.survey.now.lines.items = ap length c.as_slice.ensures in
-    let values = subst (λ ls. g.C.Count.valued_count c.renewed_items.new.counter ≤ g.C.Count.valued_count c.after.new.counter + work compared_operands c.args.base c.args.old.now (edit_of c.args.edit.now) (length ls) + work value_operands c.args.base c.args.old.now (edit_of c.args.edit.now) (length ls)) c.as_slice.ensures renewed.values in
-    counted-after c.args.base c.args.old.now c.args.survey.now.lines.items (edit_of c.args.edit.now) (counts c.args.counter.now) (counts c.renewed_items.new.counter) (g.C.Count.valued_count c.after.new.counter)
-    c.requires.edited (renewed.parsed ∙ made.parsed) made.least made.most made.work renewed.valued_least (omega (arith, renewed.valued_few, count)) values
-    (omega (arith, made.encoded, renewed.encoded_least)) (omega (arith, made.encoded, renewed.encoded_few, count)) (omega (arith, made.encoded, renewed.codes))
+    counted-renewed c.args.base c.args.old.now c.args.survey.now.lines.items c.as_slice-lines.result.now (edit_of c.args.edit.now) (counts c.args.counter.now) (counts c.after.new.counter) (counts c.items_edited.new.counter)
+    c.requires.edited c.as_slice-lines.ensures made.parsed made.least made.most made.work made.encoded c.items_edited.ensures.counted
+
+pub returns-clause-changed : goal.returns-clause-changed
+returns-clause-changed g c =
+    c.in_ok-items.ensures.changed
+    ∙ ap (λ ls. lines_that (is_changed c.args.base c.args.old.now (edit_of c.args.edit.now)) (length ls)) (c.as_slice-lines.ensures ∙ c.requires.edited)

@@ -13,28 +13,28 @@ visit-requires g c =
     let old = drop_at c.args.self.now c.args.at c.get-item.result.now c.get-item.ensures in
     record { accepted = (drop (c.args.at + 1) c.args.self.now ++ c.requires.accepted.0, rw old at c.requires.accepted.1) }
 
-pub returns-in-Err-clause-stops : goal.returns-in-Err-clause-stops
-returns-in-Err-clause-stops g c =
+pub returns-in_err-visit-clause-stops : goal.returns-in_err-visit-clause-stops
+returns-in_err-visit-clause-stops g c =
     let old = drop_at c.args.self.now c.args.at c.get-item.result.now c.get-item.ensures in
-    let stops : Stops g.P.Pass.gives g.P.Pass.refuses g.T.Sum.Joined.op g.T.Summed.sum_of c.args.pass.now c.args.before.now (drop c.args.at c.args.self.now) c.visit.new.self = rw old (refused c.in-Err.ensures.refused) in
-    stops
-
-pub returns-in_err-change-in-Ok-Some-clause-stops : goal.returns-in_err-change-in-Ok-Some-clause-stops
-returns-in_err-change-in-Ok-Some-clause-stops g c =
-    let old = drop_at c.args.self.now c.args.at c.get-item.result.now c.get-item.ensures in
-    let stops : Stops g.P.Pass.gives g.P.Pass.refuses g.T.Sum.Joined.op g.T.Summed.sum_of c.args.pass.now c.args.before.now (drop c.args.at c.args.self.now) c.visit.new.self = rw old (later (rw c.in-Ok-Some.field-0-is at c.in-Ok-Some.ensures.given) here) in
+    let stops : Stops g.P.Pass.gives g.P.Pass.refuses g.T.Sum.Joined.op g.T.Summed.sum_of c.args.pass.now c.args.before.now (drop c.args.at c.args.self.now) c.visit.new.self = rw old (refused c.in_err-visit.ensures.refused) in
     on_err _ _ stops
 
-pub returns-in-Ok-None-clause-runs : goal.returns-in-Ok-None-clause-runs
-returns-in-Ok-None-clause-runs g c =
+pub returns-in_err-change-in-Some-clause-stops : goal.returns-in_err-change-in-Some-clause-stops
+returns-in_err-change-in-Some-clause-stops g c =
+    let old = drop_at c.args.self.now c.args.at c.get-item.result.now c.get-item.ensures in
+    let stops : Stops g.P.Pass.gives g.P.Pass.refuses g.T.Sum.Joined.op g.T.Summed.sum_of c.args.pass.now c.args.before.now (drop c.args.at c.args.self.now) c.visit.new.self = rw old (later (rw c.in-Some.is at c.in_ok-visit.ensures.given) here) in
+    on_err _ _ stops
+
+pub returns-in-None-clause-runs : goal.returns-in-None-clause-runs
+returns-in-None-clause-runs g c =
     let x = c.get-item.result.now in
     let old = drop_at c.args.self.now c.args.at x c.get-item.ensures in
     let one : one_behind c.args.at c.args.self.now ≡ x ∷ [] = ap (take 1) old in
     let made : one_behind c.args.at (unwrap_or c.args.made.now c.args.self.now) ≡ x ∷ [] = ap (take 1) (c.requires.behind ∙ old) in
-    rw (one, made) (one_more (rw c.in-Ok-None.field-0-is at c.in-Ok-None.ensures.given) none)
+    rw (one, made) (one_more (rw c.in-None.is at c.in_ok-visit.ensures.given) none)
 
-pub returns-in-Ok-None-clause-sum : goal.returns-in-Ok-None-clause-sum
-returns-in-Ok-None-clause-sum g c =
+pub returns-in-None-clause-sum : goal.returns-in-None-clause-sum
+returns-in-None-clause-sum g c =
     let j = g.T.Sum.Joined in
     let of = g.T.Summed.sum_of in
     let x = c.get-item.result.now in
@@ -44,63 +44,63 @@ returns-in-Ok-None-clause-sum g c =
     let sum = c.sum-sum.ensures ∙ sym (g.met.T.Sum.Joined.laws.right_unit (of x) value) ∙ ap (total j.empty j.op of) (sym made) in
     c.join.ensures ∙ ap (j.op c.args.before.now) sum
 
-pub returns-in-Ok-None-clause-sums : goal.returns-in-Ok-None-clause-sums
-returns-in-Ok-None-clause-sums g c =
+pub returns-in-None-clause-sums : goal.returns-in-None-clause-sums
+returns-in-None-clause-sums g c =
     let x = c.get-item.result.now in
     let old = drop_at c.args.self.now c.args.at x c.get-item.ensures in
     let made : one_behind c.args.at (unwrap_or c.args.made.now c.args.self.now) ≡ x ∷ [] = ap (take 1) (c.requires.behind ∙ old) in
     let value : g.T.Sum.Joined.IsValue (g.T.Summed.sum_of x) = rw c.sum-sum.ensures at c.known.ensures in
     rw made (value, tt)
 
-pub returns-in_ok-change-in-Ok-Some-clause-runs : goal.returns-in_ok-change-in-Ok-Some-clause-runs
-returns-in_ok-change-in-Ok-Some-clause-runs g c =
+pub returns-in_ok-change-in-Some-clause-runs : goal.returns-in_ok-change-in-Some-clause-runs
+returns-in_ok-change-in-Some-clause-runs g c =
     let self = c.args.self.now in
     let x = c.get-item.result.now in
-    let y = c.in-Ok-Some.item in
+    let y = c.in-Some.item in
     let was = unwrap_or c.args.made.now self in
-    let new = ap (drop c.args.at) c.in_ok-change-in-Ok-Some.ensures ∙ drop-set was c.args.at y (rw c.requires.same c.requires.within) in
+    let new = ap (drop c.args.at) c.in_ok-change-in-Some.ensures ∙ drop-set was c.args.at y (rw c.requires.same c.requires.within) in
     let one : one_behind c.args.at self ≡ x ∷ [] = ap (take 1) (drop_at self c.args.at x c.get-item.ensures) in
     let made : one_behind c.args.at (unwrap_or c.change.new.made self) ≡ y ∷ [] = ap (take 1) new in
-    rw (one, made) (one_more (rw c.in-Ok-Some.field-0-is at c.in-Ok-Some.ensures.given) none)
+    rw (one, made) (one_more (rw c.in-Some.is at c.in_ok-visit.ensures.given) none)
 
-pub returns-in_ok-change-in-Ok-Some-clause-sum : goal.returns-in_ok-change-in-Ok-Some-clause-sum
-returns-in_ok-change-in-Ok-Some-clause-sum g c =
+pub returns-in_ok-change-in-Some-clause-sum : goal.returns-in_ok-change-in-Some-clause-sum
+returns-in_ok-change-in-Some-clause-sum g c =
     let j = g.T.Sum.Joined in
     let of = g.T.Summed.sum_of in
     let self = c.args.self.now in
-    let y = c.in-Ok-Some.item in
+    let y = c.in-Some.item in
     let was = unwrap_or c.args.made.now self in
-    let made : one_behind c.args.at (unwrap_or c.change.new.made self) ≡ y ∷ [] = ap (take 1) (ap (drop c.args.at) c.in_ok-change-in-Ok-Some.ensures ∙ drop-set was c.args.at y (rw c.requires.same c.requires.within)) in
-    let value : j.IsValue (of y) = rw c.sum-sum-in-Ok-Some.ensures at c.known-in-Ok-Some.ensures in
-    let sum = c.sum-sum-in-Ok-Some.ensures ∙ sym (g.met.T.Sum.Joined.laws.right_unit (of y) value) ∙ ap (total j.empty j.op of) (sym made) in
-    c.join-in-Ok-Some.ensures ∙ ap (j.op c.args.before.now) sum
+    let made : one_behind c.args.at (unwrap_or c.change.new.made self) ≡ y ∷ [] = ap (take 1) (ap (drop c.args.at) c.in_ok-change-in-Some.ensures ∙ drop-set was c.args.at y (rw c.requires.same c.requires.within)) in
+    let value : j.IsValue (of y) = rw c.sum-sum-in-Some.ensures at c.known-in-Some.ensures in
+    let sum = c.sum-sum-in-Some.ensures ∙ sym (g.met.T.Sum.Joined.laws.right_unit (of y) value) ∙ ap (total j.empty j.op of) (sym made) in
+    c.join-in-Some.ensures ∙ ap (j.op c.args.before.now) sum
 
-pub returns-in_ok-change-in-Ok-Some-clause-sums : goal.returns-in_ok-change-in-Ok-Some-clause-sums
-returns-in_ok-change-in-Ok-Some-clause-sums g c =
+pub returns-in_ok-change-in-Some-clause-sums : goal.returns-in_ok-change-in-Some-clause-sums
+returns-in_ok-change-in-Some-clause-sums g c =
     let self = c.args.self.now in
-    let y = c.in-Ok-Some.item in
+    let y = c.in-Some.item in
     let was = unwrap_or c.args.made.now self in
-    let made : one_behind c.args.at (unwrap_or c.change.new.made self) ≡ y ∷ [] = ap (take 1) (ap (drop c.args.at) c.in_ok-change-in-Ok-Some.ensures ∙ drop-set was c.args.at y (rw c.requires.same c.requires.within)) in
-    let value : g.T.Sum.Joined.IsValue (g.T.Summed.sum_of y) = rw c.sum-sum-in-Ok-Some.ensures at c.known-in-Ok-Some.ensures in
+    let made : one_behind c.args.at (unwrap_or c.change.new.made self) ≡ y ∷ [] = ap (take 1) (ap (drop c.args.at) c.in_ok-change-in-Some.ensures ∙ drop-set was c.args.at y (rw c.requires.same c.requires.within)) in
+    let value : g.T.Sum.Joined.IsValue (g.T.Summed.sum_of y) = rw c.sum-sum-in-Some.ensures at c.known-in-Some.ensures in
     rw made (value, tt)
 
-pub returns-in-Ok-None-clause-front : goal.returns-in-Ok-None-clause-front
-returns-in-Ok-None-clause-front g c = refl
+pub returns-in-None-clause-front : goal.returns-in-None-clause-front
+returns-in-None-clause-front g c = refl
 
-pub returns-in-Ok-None-clause-behind : goal.returns-in-Ok-None-clause-behind
-returns-in-Ok-None-clause-behind g c = alike_behind _ _ c.args.at c.requires.behind
+pub returns-in-None-clause-behind : goal.returns-in-None-clause-behind
+returns-in-None-clause-behind g c = alike_behind _ _ c.args.at c.requires.behind
 
-pub returns-in_ok-change-in-Ok-Some-clause-front : goal.returns-in_ok-change-in-Ok-Some-clause-front
-returns-in_ok-change-in-Ok-Some-clause-front g c =
+pub returns-in_ok-change-in-Some-clause-front : goal.returns-in_ok-change-in-Some-clause-front
+returns-in_ok-change-in-Some-clause-front g c =
     let was = unwrap_or c.args.made.now c.args.self.now in
-    ap (take c.args.at) c.in_ok-change-in-Ok-Some.ensures ∙ take-set was c.args.at c.in-Ok-Some.item
+    ap (take c.args.at) c.in_ok-change-in-Some.ensures ∙ take-set was c.args.at c.in-Some.item
 
-pub returns-in_ok-change-in-Ok-Some-clause-behind : goal.returns-in_ok-change-in-Ok-Some-clause-behind
-returns-in_ok-change-in-Ok-Some-clause-behind g c =
+pub returns-in_ok-change-in-Some-clause-behind : goal.returns-in_ok-change-in-Some-clause-behind
+returns-in_ok-change-in-Some-clause-behind g c =
     let was = unwrap_or c.args.made.now c.args.self.now in
-    ap (drop (c.args.at + 1)) c.in_ok-change-in-Ok-Some.ensures ∙ drop-set-lt (c.args.at + 1) was c.args.at c.in-Ok-Some.item (omega arith) ∙ alike_behind was c.args.self.now c.args.at c.requires.behind
+    ap (drop (c.args.at + 1)) c.in_ok-change-in-Some.ensures ∙ drop-set-lt (c.args.at + 1) was c.args.at c.in-Some.item (omega arith) ∙ alike_behind was c.args.self.now c.args.at c.requires.behind
 
-pub returns-in_ok-change-in-Ok-Some-clause-same : goal.returns-in_ok-change-in-Ok-Some-clause-same
-returns-in_ok-change-in-Ok-Some-clause-same g c =
+pub returns-in_ok-change-in-Some-clause-same : goal.returns-in_ok-change-in-Some-clause-same
+returns-in_ok-change-in-Some-clause-same g c =
     let was = unwrap_or c.args.made.now c.args.self.now in
-    ap length c.in_ok-change-in-Ok-Some.ensures ∙ length-set was c.args.at c.in-Ok-Some.item ∙ c.requires.same
+    ap length c.in_ok-change-in-Some.ensures ∙ length-set was c.args.at c.in-Some.item ∙ c.requires.same

@@ -1,0 +1,103 @@
+use Rattle.std.proofs.Common.{◌≡◌, ◌+◌, ◌-◌, length, None, arith, ap, sym, subst, ◌∙◌}
+use Rattle.rv_program.specs.Counted.{counts_of}
+use Rattle.rv_program.specs.Edits.{edit_of, line_before_edit}
+use Rattle.rv_program.specs.internal.Renewals.{changed_through, AreCounted}
+use Rattle.rv_program.specs.internal.Revisions.{edited_text}
+use Rattle.rv_program.specs.internal.ValueRows.{base_of}
+use Rattle.rv_program.specs.lemmas.CountedLines.{nothing_counted, both_counted}
+use Rattle.rv_program.specs.lemmas.ItemLaws.{all_items}
+use Rattle.rv_store.proofs.ItemsLeft.{first-count, with-last, listed-last}
+use Rattle.rv_store.proofs.renewal.items_passed.Goals as goal
+
+pub returns-in_err-passed-clause-counted : goal.returns-in_err-passed-clause-counted
+returns-in_err-passed-clause-counted g c =
+    let counts = counts_of g.C.Count.parsed_count g.C.Count.valued_count g.C.Count.encoded_count in
+    let new = counts c.renewed_in_one_pass.new.counter in
+    both_counted (edited_text c.args.revision.now) 0 (length c.args.items.now.items) (length c.args.rows.now.symbols.text.lines.now) (counts c.args.counter.now) new new c.renewed_in_one_pass.ensures.counted
+    (nothing_counted (edited_text c.args.revision.now) (length c.args.items.now.items) (length c.args.rows.now.symbols.text.lines.now) new c.requires.left.few)
+
+-- There is an item for each line
+
+pub returns-then-line-len-clause-items : goal.returns-then-line-len-clause-items
+returns-then-line-len-clause-items g c =
+    let count = first-count (base_of c.args.rows.now) c.args.rows.now.symbols.text.lines.now (length c.args.items.now.items) c.in_ok-passed.passed.items c.in_ok-passed.ensures.items in
+    let same : length c.args.items.now.items ≡ length c.args.rows.now.symbols.text.lines.now = omega (arith, count, c.if-line-len.true, c.len-line.ensures.value, c.len.ensures, c.requires.left.few) in
+    all_items (base_of c.args.rows.now) c.args.rows.now.symbols.text.lines.now (length c.args.items.now.items) c.in_ok-passed.passed.items same c.in_ok-passed.ensures.items
+
+pub returns-then-line-len-clause-changed : goal.returns-then-line-len-clause-changed
+returns-then-line-len-clause-changed g c =
+    let count = first-count (base_of c.args.rows.now) c.args.rows.now.symbols.text.lines.now (length c.args.items.now.items) c.in_ok-passed.passed.items c.in_ok-passed.ensures.items in
+    let same : length c.args.items.now.items ≡ length c.args.rows.now.symbols.text.lines.now = omega (arith, count, c.if-line-len.true, c.len-line.ensures.value, c.len.ensures, c.requires.left.few) in
+    c.of.ensures ∙ c.in_ok-passed.ensures.changed ∙ ap (changed_through (edited_text c.args.revision.now)) same
+
+pub returns-then-line-len-clause-counted : goal.returns-then-line-len-clause-counted
+returns-then-line-len-clause-counted g c =
+    let counts = counts_of g.C.Count.parsed_count g.C.Count.valued_count g.C.Count.encoded_count in
+    let count = first-count (base_of c.args.rows.now) c.args.rows.now.symbols.text.lines.now (length c.args.items.now.items) c.in_ok-passed.passed.items c.in_ok-passed.ensures.items in
+    let same : length c.args.items.now.items ≡ length c.args.rows.now.symbols.text.lines.now = omega (arith, count, c.if-line-len.true, c.len-line.ensures.value, c.len.ensures, c.requires.left.few) in
+    subst (λ n. AreCounted (edited_text c.args.revision.now) 0 n (counts c.args.counter.now) (counts c.renewed_in_one_pass.new.counter)) same c.renewed_in_one_pass.ensures.counted
+
+-- There is none for the last line
+
+pub line_behind-requires-clause-new : goal.line_behind-requires-clause-new
+line_behind-requires-clause-new g c =
+    let count = first-count (base_of c.args.rows.now) c.args.rows.now.symbols.text.lines.now (length c.args.items.now.items) c.in_ok-passed.passed.items c.in_ok-passed.ensures.items in
+    let line = c.len-line.result + 1 in
+    let next : line ≡ length c.args.items.now.items + 1 = omega (arith, count, c.len-line.ensures.value) in
+    let last : line ≡ length c.args.rows.now.symbols.text.lines.now = omega (arith, next, c.if-line-len.false, c.len.ensures, c.requires.left.next) in
+    let back : line - 1 ≡ length c.args.items.now.items = omega (arith, next) in
+    subst (λ k. line_before_edit (edit_of c.args.revision.now.edit) k ≡ None) (sym last) (c.requires.left.new (omega (arith, next, last)))
+
+pub returns-in_err-item-clause-counted : goal.returns-in_err-item-clause-counted
+returns-in_err-item-clause-counted g c =
+    let counts = counts_of g.C.Count.parsed_count g.C.Count.valued_count g.C.Count.encoded_count in
+    let count = first-count (base_of c.args.rows.now) c.args.rows.now.symbols.text.lines.now (length c.args.items.now.items) c.in_ok-passed.passed.items c.in_ok-passed.ensures.items in
+    let line = c.len-line.result + 1 in
+    let next : line ≡ length c.args.items.now.items + 1 = omega (arith, count, c.len-line.ensures.value) in
+    let last : line ≡ length c.args.rows.now.symbols.text.lines.now = omega (arith, next, c.if-line-len.false, c.len.ensures, c.requires.left.next) in
+    let back : line - 1 ≡ length c.args.items.now.items = omega (arith, next) in
+    both_counted (edited_text c.args.revision.now) 0 (length c.args.items.now.items) (length c.args.rows.now.symbols.text.lines.now) (counts c.args.counter.now) (counts c.renewed_in_one_pass.new.counter) (counts c.line_behind.new.counter) c.renewed_in_one_pass.ensures.counted
+    (subst (λ k. AreCounted (edited_text c.args.revision.now) k (length c.args.rows.now.symbols.text.lines.now) (counts c.renewed_in_one_pass.new.counter) (counts c.line_behind.new.counter)) back
+    (subst (λ n. AreCounted (edited_text c.args.revision.now) (line - 1) n (counts c.renewed_in_one_pass.new.counter) (counts c.line_behind.new.counter)) last c.line_behind.ensures.counted))
+
+pub returns-in_err-inserted-clause-counted : goal.returns-in_err-inserted-clause-counted
+returns-in_err-inserted-clause-counted g c =
+    let counts = counts_of g.C.Count.parsed_count g.C.Count.valued_count g.C.Count.encoded_count in
+    let count = first-count (base_of c.args.rows.now) c.args.rows.now.symbols.text.lines.now (length c.args.items.now.items) c.in_ok-passed.passed.items c.in_ok-passed.ensures.items in
+    let line = c.len-line.result + 1 in
+    let next : line ≡ length c.args.items.now.items + 1 = omega (arith, count, c.len-line.ensures.value) in
+    let last : line ≡ length c.args.rows.now.symbols.text.lines.now = omega (arith, next, c.if-line-len.false, c.len.ensures, c.requires.left.next) in
+    let back : line - 1 ≡ length c.args.items.now.items = omega (arith, next) in
+    both_counted (edited_text c.args.revision.now) 0 (length c.args.items.now.items) (length c.args.rows.now.symbols.text.lines.now) (counts c.args.counter.now) (counts c.renewed_in_one_pass.new.counter) (counts c.line_behind.new.counter) c.renewed_in_one_pass.ensures.counted
+    (subst (λ k. AreCounted (edited_text c.args.revision.now) k (length c.args.rows.now.symbols.text.lines.now) (counts c.renewed_in_one_pass.new.counter) (counts c.line_behind.new.counter)) back
+    (subst (λ n. AreCounted (edited_text c.args.revision.now) (line - 1) n (counts c.renewed_in_one_pass.new.counter) (counts c.line_behind.new.counter)) last c.line_behind.ensures.counted))
+
+pub returns-clause-items : goal.returns-clause-items
+returns-clause-items g c =
+    let count = first-count (base_of c.args.rows.now) c.args.rows.now.symbols.text.lines.now (length c.args.items.now.items) c.in_ok-passed.passed.items c.in_ok-passed.ensures.items in
+    let line = c.len-line.result + 1 in
+    let next : line ≡ length c.args.items.now.items + 1 = omega (arith, count, c.len-line.ensures.value) in
+    let last : line ≡ length c.args.rows.now.symbols.text.lines.now = omega (arith, next, c.if-line-len.false, c.len.ensures, c.requires.left.next) in
+    let back : line - 1 ≡ length c.args.items.now.items = omega (arith, next) in
+    with-last (base_of c.args.rows.now) c.args.rows.now.symbols.text.lines.now c.in_ok-passed.passed.items c.in_ok-inserted.field-0.items c.in_ok-item.item (length c.args.items.now.items) line c.in_ok-passed.ensures.items next last count c.in_ok-item.ensures.item c.in_ok-inserted.ensures.items
+
+pub returns-clause-changed : goal.returns-clause-changed
+returns-clause-changed g c =
+    let count = first-count (base_of c.args.rows.now) c.args.rows.now.symbols.text.lines.now (length c.args.items.now.items) c.in_ok-passed.passed.items c.in_ok-passed.ensures.items in
+    let line = c.len-line.result + 1 in
+    let next : line ≡ length c.args.items.now.items + 1 = omega (arith, count, c.len-line.ensures.value) in
+    let last : line ≡ length c.args.rows.now.symbols.text.lines.now = omega (arith, next, c.if-line-len.false, c.len.ensures, c.requires.left.next) in
+    let back : line - 1 ≡ length c.args.items.now.items = omega (arith, next) in
+    c.of-2.ensures ∙ listed-last (edited_text c.args.revision.now) (length c.args.items.now.items) line (length c.args.rows.now.symbols.text.lines.now) c.renewed_in_one_pass.new.changed.items _ back last c.in_ok-passed.ensures.changed c.in_ok-item.ensures.listed
+
+pub returns-clause-counted : goal.returns-clause-counted
+returns-clause-counted g c =
+    let counts = counts_of g.C.Count.parsed_count g.C.Count.valued_count g.C.Count.encoded_count in
+    let count = first-count (base_of c.args.rows.now) c.args.rows.now.symbols.text.lines.now (length c.args.items.now.items) c.in_ok-passed.passed.items c.in_ok-passed.ensures.items in
+    let line = c.len-line.result + 1 in
+    let next : line ≡ length c.args.items.now.items + 1 = omega (arith, count, c.len-line.ensures.value) in
+    let last : line ≡ length c.args.rows.now.symbols.text.lines.now = omega (arith, next, c.if-line-len.false, c.len.ensures, c.requires.left.next) in
+    let back : line - 1 ≡ length c.args.items.now.items = omega (arith, next) in
+    both_counted (edited_text c.args.revision.now) 0 (length c.args.items.now.items) (length c.args.rows.now.symbols.text.lines.now) (counts c.args.counter.now) (counts c.renewed_in_one_pass.new.counter) (counts c.line_behind.new.counter) c.renewed_in_one_pass.ensures.counted
+    (subst (λ k. AreCounted (edited_text c.args.revision.now) k (length c.args.rows.now.symbols.text.lines.now) (counts c.renewed_in_one_pass.new.counter) (counts c.line_behind.new.counter)) back
+    (subst (λ n. AreCounted (edited_text c.args.revision.now) (line - 1) n (counts c.renewed_in_one_pass.new.counter) (counts c.line_behind.new.counter)) last c.line_behind.ensures.counted))
