@@ -1,22 +1,53 @@
 -- Lines that a loop goes past.
-use Rattle.std.proofs.Common.{◌≡◌, ℕ, suc, ◌+◌, ◌<◌, ◌≤◌, ◌⊎◌, inl, inr, Bool, false, List, length, get_or, arith, ap, ◌∙◌}
+use Rattle.std.proofs.Common.{◌≡◌, ℕ, suc, ◌+◌, ◌-◌, ◌<◌, ◌≤◌, ◌⊎◌, inl, inr, false, List, [], length, get_or, map, take, drop, arith, ap, sym, ◌∙◌}
 use Rattle.std.proofs.lemmas.Bool.{cases_lt}
-use Rattle.rv_stmt.specs.declared.statement.Body.{Body}
+use Rattle.std.proofs.lemmas.List.{get_or-map, length-map}
 use Rattle.rv_stmt.specs.Statement.{statement_of}
-use Rattle.rv_program.specs.internal.LinesWithout.{AreWithout}
-use Rattle.rv_program.specs.Program.{Program, program_of, body_at}
-use Rattle.rv_program.specs.lemmas.ConstantRows.{body-read}
+use Rattle.rv_program.specs.declared.groups.Groups.{Groups}
+use Rattle.rv_program.specs.declared.groups.Kind.{Kind}
+use Rattle.rv_program.specs.internal.Briefs.{groups_on}
+use Rattle.rv_program.specs.internal.Groups.{no_groups, groups_together, has_kind, kind_bit}
+use Rattle.rv_program.specs.internal.LinesWithout.{is_of_kind, AreWithout, AreOthers}
+use Rattle.rv_program.specs.Program.{program_of, body_at, no_statement}
+use Rattle.rv_program.specs.lemmas.GroupLaws.{kind-below, block-lacks}
+use Rattle.rv_program.specs.lemmas.LineGroups.{kind-on}
 
-module _ (test : Body → Bool) where
-  pub without-none : (program : Program) (i : ℕ) → AreWithout test program i i
-  without-none program i = record { each = λ k first last. absurd (omega (arith, first, last)) }
+pub count-groups : (lines : List (List ℕ)) (groups : List Groups) → groups ≡ map groups_on lines → length groups ≡ length lines
+count-groups lines groups are = ap length are ∙ length-map lines groups_on
+
+module _ (groups : List Groups) (kind : Kind) where
+  pub others-none : (i : ℕ) → AreOthers groups kind i i
+  others-none i k first last = absurd (omega (arith, first, last))
+
+  -- further on
+  pub others-joined : (i j m : ℕ) → AreOthers groups kind i j → AreOthers groups kind j m → AreOthers groups kind i m
+  others-joined i j m before behind k first last = at (cases_lt k j)
+    where
+      at : (k < j) ⊎ (j ≤ k) → has_kind (get_or groups k no_groups) kind ≡ false
+      at (inl below) = before k first below
+      at (inr above) = behind k above last
 
   -- one line more
-  pub without-next : (lines : List (List ℕ)) (i j : ℕ) (line : List ℕ) → j < length lines → line ≡ get_or lines j line → test (statement_of line).body ≡ false → AreWithout test (program_of lines) i j → AreWithout test (program_of lines) i (j + 1)
-  without-next lines i j line within is none before = record { each = λ k first last. at k first last (cases_lt k j) }
+  pub others-next : (i j : ℕ) → has_kind (get_or groups j no_groups) kind ≡ false → AreOthers groups kind i j → AreOthers groups kind i (j + 1)
+  others-next i j none before k first last = at (cases_lt k j)
     where
-      at : (k : ℕ) → i ≤ k → k < j + 1 → (k < j) ⊎ (j ≤ k) → test (body_at (program_of lines) (suc k)) ≡ false
-      at k first last (inl below) = before.each k first below
-      at k first last (inr above) =
-          ap (λ n. test (body_at (program_of lines) (suc n))) (let e : k ≡ j = omega (arith, last, above) in e)
-          ∙ ap test (body-read lines j line within is) ∙ none
+      at : (k < j) ⊎ (j ≤ k) → has_kind (get_or groups k no_groups) kind ≡ false
+      at (inl below) = before k first below
+      at (inr above) = ap (λ n. has_kind (get_or groups n no_groups) kind) (let e : k ≡ j = omega (arith, last, above) in e) ∙ none
+
+  -- a block of lines, by their groups together
+  pub others-block : (i j : ℕ) → j ≤ length groups → has_kind (groups_together (take (j - i) (drop i groups))) kind ≡ false → AreOthers groups kind i j
+  others-block i j last none = block-lacks groups (kind_bit kind) i j (kind-below kind) last none
+
+  -- none of these lines is of the kind
+  pub others-without : (i j : ℕ) → j ≤ length groups → AreOthers groups kind i j → (lines : List (List ℕ)) → groups ≡ map groups_on lines → AreWithout (is_of_kind kind) (program_of lines) i j
+  others-without i j last others lines are = record {
+    each = λ k first below.
+        let within : k < length lines = omega (arith, below, last, count-groups lines groups are) in
+        let index : suc k - 1 ≡ k = omega arith in
+        let line = get_or lines k [] in
+        let body : body_at (program_of lines) (suc k) ≡ (statement_of line).body =
+        ap (λ n. (get_or (program_of lines) n no_statement).body) index ∙ ap (λ s. s.body) (get_or-map statement_of lines k [] no_statement within) in
+        let there : get_or groups k no_groups ≡ groups_on line = ap (λ gs. get_or gs k no_groups) are ∙ get_or-map groups_on lines k [] no_groups within in
+        ap (is_of_kind kind) body ∙ sym (kind-on line kind) ∙ ap (λ g. has_kind g kind) (sym there) ∙ others k first below;
+  }

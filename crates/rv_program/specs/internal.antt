@@ -6,6 +6,7 @@ pub mod Defining
 pub mod Differing
 pub mod Fits
 pub mod Former
+pub mod Groups
 pub mod Items
 pub mod LineConstants
 pub mod LineNames

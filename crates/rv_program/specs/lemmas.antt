@@ -9,10 +9,12 @@ pub mod DefinitionRows
 pub mod EarlierConstants
 pub mod EarlierLines
 pub mod EquLaws
+pub mod GroupLaws
 pub mod ItemLaws
 pub mod KeptLines
 pub mod KeptShapes
 pub mod LineNameLaws
+pub mod LineGroups
 pub mod Lists
 pub mod LocalLines
 pub mod MovedDefinitionLaws

@@ -1,9 +1,10 @@
 //! What lines have to do with other lines, in brief.
 
-ghost use Rattle.std.specs.Prelude.{◌≡◌, ◌||◌, not};
-ghost use Rattle.rv_program.specs.internal.Briefs.{brief_of};
+ghost use Rattle.std.specs.Prelude.{◌≡◌, ◌&&◌, ◌||◌, not};
+ghost use Rattle.rv_program.specs.internal.Briefs.{brief_of, groups_of_brief};
 ghost use Rattle.rv_program.specs.Uses.{uses_local_label, uses_paired_high, is_equ};
 
+use crate::groups::{Groups, Kind};
 use crate::highs::pcrel_high;
 use crate::jumps::target;
 use crate::locals::has_local_labels;
@@ -63,6 +64,24 @@ impl Brief {
             uncompared,
             plain: is_plain(symbols, address, uncompared),
         }
+    }
+
+    // Whether the shape of the line follows from symbols, or it is an `.equ`.
+    fn is_shaped(&self) -> bool
+        ensures { result ≡ ((self.now.sized && self.now.symbols) || self.now.equ) }
+    {
+        (self.sized && self.symbols) || self.equ
+    }
+
+    /// The groups that the line is in.
+    pub fn groups(&self) -> Groups
+        ensures { result ≡ groups_of_brief self.now }
+    {
+        self.names
+            .groups()
+            .with_kind(Kind::Equ, self.equ)
+            .with_kind(Kind::PcrelHigh, self.pcrel_high)
+            .with_kind(Kind::Shaped, self.is_shaped())
     }
 }
 

@@ -1,7 +1,8 @@
 //! The values of the `.equ`s of a text.
 
-ghost use Rattle.std.specs.Prelude.{◌≡◌, ◌≤◌, ◌<◌, ◌+◌, ◌^◌, ◌-◌, length, IfOk};
+ghost use Rattle.std.specs.Prelude.{◌≡◌, ◌≤◌, ◌<◌, ◌+◌, ◌^◌, ◌-◌, length, IfOk, map};
 ghost use Rattle.rv_stmt.specs.declared.statement.Body.{Body};
+ghost use Rattle.rv_program.specs.internal.Briefs.{groups_on};
 ghost use Rattle.rv_program.specs.declared.limits.TheConstants.{MAX_LINES};
 ghost use Rattle.rv_program.specs.Constants.{defined_value};
 ghost use Rattle.rv_program.specs.Program.{body_at};
@@ -10,9 +11,9 @@ ghost use Rattle.rv_program.specs.internal.Work.{equ_operands, operands_through}
 
 use crate::constants::defined_value;
 use crate::definitions::defining_equ_on;
-use crate::line::Line;
+use crate::groups::{Groups, Kind};
 use crate::line_names::references_before;
-use crate::lines::{Sought, lines_up_to};
+use crate::lines_of_kind::lines_up_to;
 use crate::text_rows::TextRows;
 use rv_expr::ValueFault;
 use rv_fix::Entry;
@@ -70,17 +71,17 @@ pub fn settle_equ<C: Count>(text: &TextRows<'_>, i: usize, row: &mut Vec<Entry>,
     row[number] = value_on(text, row, line, definition, counter);
 }
 
-/// The values of the `.equ`s of these lines, by the numbers of their names. The counter's number of expressions computed rises by at most
+/// The values of the `.equ`s of a text, by the numbers of their names. `groups` are those of its lines. The counter's number of expressions computed rises by at most
 /// the operands of the `.equ`s. Fails only where there is no memory, before anything is computed. Lines without an `.equ` are
 /// gone past.
 pub fn equ_values<C: Count>(
     alloc: Global,
     text: &TextRows<'_>,
-    lines: &[Line],
+    groups: &[Groups],
     counter: &mut C,
 ) -> Result<Vec<Entry>, AllocError>
     requires rows { AreTextRows text.now }
-    requires column { lines.now ≡ text.now.lines.now }
+    requires groups { groups.now ≡ map groups_on text.now.lines.now }
     requires few { length text.now.lines.now ≤ MAX_LINES }
     requires count { C.valued_count counter.old ≤ 2 ^ 63 + 2 ^ 32 }
     ensures values { IfOk result (λ row. AreEquValuesIn text.now (length text.now.lines.now) row.items) }
@@ -91,10 +92,10 @@ pub fn equ_values<C: Count>(
     ensures encoded { C.encoded_count counter.new ≡ C.encoded_count counter.old }
 {
     let mut row = vec![in alloc; Err(ValueFault::LaterEqu); text.names.len()]?;
-    let mut i = lines_up_to(lines, 0, Sought::Equ);
-    while i < lines.len() {
+    let mut i = lines_up_to(groups, 0, Kind::Equ);
+    while i < groups.len() {
         settle_equ(text, i, &mut row, counter);
-        i = lines_up_to(lines, i + 1, Sought::Equ);
+        i = lines_up_to(groups, i + 1, Kind::Equ);
     }
     Ok(row)
 }

@@ -1,21 +1,47 @@
-//! Groups of buckets of names.
+//! What a line has to do with other lines, in a few bits: a loop over the lines goes past blocks of them by these alone.
 
-ghost use Rattle.std.specs.Prelude.{◌≡◌, ◌%◌, ◌^◌, IsTrue};
-ghost use Rattle.rv_program.specs.internal.NameSets.{no_groups, every_group, with_group, groups_together, has_group, bits_of, groups_of, share_group};
+ghost use Rattle.std.specs.Prelude.{◌≡◌, ◌%◌, ◌<◌, IsTrue};
+ghost use Rattle.rv_program.specs.internal.Groups.{bits_of, groups_of, no_groups, every_group, with_bit, has_bit, with_group, has_group, kind_bit, with_kind, has_kind, groups_together, share_group};
 
-/// A set of groups of buckets, of which there are 64: a bit for each. It stands in two halves, since a line has one, and has no room for
-/// the alignment of a whole.
+/// How many lines a search takes together.
+pub const BLOCK: usize = 32;
+
+/// What a loop over the lines looks for.
+#[derive(Clone, Copy)]
+pub enum Kind {
+    /// An `.equ`.
+    Equ,
+    /// An `auipc` with `%pcrel_hi`.
+    PcrelHigh,
+    /// An `.equ`, or a line whose shape follows from symbols: it has a part in the constants.
+    Shaped,
+}
+
+/// The groups that a line is in, of which there are 64, a bit for each: 61 for the buckets of the names that it uses, and one for each kind
+/// of line. They stand in two halves, since a line has them, and has no room for the alignment of a whole.
 #[derive(Clone, Copy)]
 pub struct Groups {
     low: u32,
     high: u32,
 }
 
-// The bit of the group of a bucket.
-fn bit_of(bucket: u16) -> u64
-    ensures { result ≡ 2 ^ (bucket % 64) }
+// The number of the bit of a bucket.
+fn bit_of(bucket: u16) -> u32
+    ensures { result ≡ bucket % 61 }
 {
-    1 << (bucket % 64)
+    u32::from(bucket % 61)
+}
+
+// The number of the bit of a kind.
+fn kind_bit(kind: Kind) -> u32
+    ensures number { result ≡ kind_bit kind }
+    ensures below { result < 64 }
+{
+    match kind {
+        Kind::Equ => 61,
+        Kind::PcrelHigh => 62,
+        Kind::Shaped => 63,
+    }
 }
 
 // The two halves of the bits.
@@ -61,11 +87,30 @@ impl Groups {
         u64::from(self.high) << 32 | u64::from(self.low)
     }
 
+    // These and one more.
+    fn with_bit(self, bit: u32) -> Groups
+        requires { bit < 64 }
+        ensures { result ≡ with_bit self bit }
+    {
+        groups_of(self.bits() | 1 << bit)
+    }
+
     /// These and the group of a bucket.
     pub fn with(self, bucket: u16) -> Groups
         ensures { result ≡ with_group self bucket }
     {
-        groups_of(self.bits() | bit_of(bucket))
+        self.with_bit(bit_of(bucket))
+    }
+
+    /// These and that of a kind, for a line that is of it.
+    pub fn with_kind(self, kind: Kind, is: bool) -> Groups
+        ensures { result ≡ with_kind self kind is }
+    {
+        if is {
+            self.with_bit(kind_bit(kind))
+        } else {
+            self
+        }
     }
 
     /// Those of some lines together. Nothing in the loop depends on one of them, so that they are taken several at once.
@@ -80,12 +125,29 @@ impl Groups {
         groups_of(bits)
     }
 
+    // Whether one is among them.
+    #[inline]
+    fn has_bit(self, bit: u32) -> bool
+        requires { bit < 64 }
+        ensures { result ≡ has_bit self bit }
+    {
+        (self.bits() >> bit) % 2 == 1
+    }
+
     /// Whether the group of a bucket is one of them.
     #[inline]
     pub fn has(self, bucket: u16) -> bool
         ensures { result ≡ has_group self bucket }
     {
-        (self.bits() >> (bucket % 64)) % 2 == 1
+        self.has_bit(bit_of(bucket))
+    }
+
+    /// Whether they are those of a line of a kind.
+    #[inline]
+    pub fn has_kind(self, kind: Kind) -> bool
+        ensures { result ≡ has_kind self kind }
+    {
+        self.has_bit(kind_bit(kind))
     }
 
     /// Whether one of them is one of the others.

@@ -1,8 +1,9 @@
 //! The high halves on the lines of a text.
 
-ghost use Rattle.std.specs.Prelude.{◌≡◌, ◌≤◌, ◌<◌, ◌+◌, ◌^◌, ◌-◌, Err, length, IfOk};
+ghost use Rattle.std.specs.Prelude.{◌≡◌, ◌≤◌, ◌<◌, ◌+◌, ◌^◌, ◌-◌, Err, length, IfOk, map};
 ghost use Rattle.std.specs.Option.{is_some, option_map};
 ghost use Rattle.rv_expr.specs.declared.faults.ValueFault.TheVariants.{NoPartner};
+ghost use Rattle.rv_program.specs.internal.Briefs.{groups_on};
 ghost use Rattle.rv_program.specs.declared.limits.TheConstants.{MAX_LINES};
 ghost use Rattle.rv_program.specs.internal.Before.{IsBefore, IsAfter, base_before, lines_before, edit_on};
 ghost use Rattle.rv_program.specs.Changes.{is_invalidated};
@@ -14,10 +15,10 @@ ghost use Rattle.rv_program.specs.internal.TextRows.{AreTextRows, AreEquValuesIn
 ghost use Rattle.rv_program.specs.internal.Work.{high_operands, work};
 
 use crate::before::Before;
+use crate::groups::{Groups, Kind};
 use crate::invalidation::is_invalidated;
-use crate::line::Line;
 use crate::line_names::{high_in, references_at};
-use crate::lines::{Sought, lines_up_to};
+use crate::lines_of_kind::lines_up_to;
 use crate::name_set::NameSet;
 use crate::room::row_of;
 use crate::symbol_rows::SymbolRows;
@@ -149,7 +150,7 @@ fn high_after<C: Count>(
     high_on(&after.text, after.equ_values, line, counter)
 }
 
-/// The high half on each line of the text after an edit, which has these lines. Lines without `%pcrel_hi` are gone past; where there
+/// The high half on each line of the text after an edit, the lines of which have these groups. Lines without `%pcrel_hi` are gone past; where there
 /// are no others, the row is empty.
 ///
 /// The counter's number of expressions computed rises by at most the high halves on the lines that the edit invalidates,
@@ -162,13 +163,13 @@ pub fn highs<C: Count>(
     alloc: Global,
     before: &Before<'_, '_>,
     after: &SymbolRows<'_>,
-    lines: &[Line],
+    groups: &[Groups],
     counter: &mut C,
 ) -> Result<Vec<Entry>, AllocError>
     requires before { IsBefore before.now }
     requires rows { AreSymbolRows after.now }
     requires after { IsAfter before.now after.now.text }
-    requires column { lines.now ≡ after.now.text.lines.now }
+    requires groups { groups.now ≡ map groups_on after.now.text.lines.now }
     requires valued { C.valued_count counter.old + length after.now.text.lines.now < 2 ^ 64 }
     ensures highs { IfOk result (λ row. AreHighs after.now.text.base (program_in after.now.text) row.items) }
     ensures least { C.valued_count counter.old ≤ C.valued_count counter.new }
@@ -177,14 +178,14 @@ pub fn highs<C: Count>(
     ensures parsed { C.parsed_count counter.new ≡ C.parsed_count counter.old }
     ensures encoded { C.encoded_count counter.new ≡ C.encoded_count counter.old }
 {
-    let mut i = lines_up_to(lines, 0, Sought::PcrelHigh);
-    if i >= lines.len() {
+    let mut i = lines_up_to(groups, 0, Kind::PcrelHigh);
+    if i >= groups.len() {
         return Ok(Vec::new(alloc));
     }
-    let mut row = row_of(alloc, Err(ValueFault::NoPartner), lines.len())?;
-    while i < lines.len() {
+    let mut row = row_of(alloc, Err(ValueFault::NoPartner), groups.len())?;
+    while i < groups.len() {
         row[i] = high_after(before, after, i as u32 + 1, counter);
-        i = lines_up_to(lines, i + 1, Sought::PcrelHigh);
+        i = lines_up_to(groups, i + 1, Kind::PcrelHigh);
     }
     Ok(row)
 }

@@ -1,9 +1,6 @@
 //! The lines of a text, in a column or in the items of a tree.
 
 ghost use Rattle.std.specs.Prelude.{◌≡◌, ◌≤◌, ◌-◌, length, map, get_or};
-ghost use Rattle.rv_stmt.specs.Statement.{statement_of};
-ghost use Rattle.rv_program.specs.internal.LinesWithout.{is_sought, AreWithout};
-ghost use Rattle.rv_program.specs.Program.{program_of};
 
 use crate::item::Item;
 use crate::line::Line;
@@ -32,41 +29,6 @@ impl<'a> Model for Lines<'a> {
     ghost Value = { List (List ℕ) };
 
     ghost view = { λ l. lines_in l.standing };
-}
-
-/// What a loop over the lines looks for.
-#[derive(Clone, Copy)]
-pub enum Sought {
-    /// An `.equ`.
-    Equ,
-    /// An `auipc` with `%pcrel_hi`.
-    PcrelHigh,
-}
-
-// Whether a line is what is looked for, without a look at its statement.
-fn is_sought(line: &Line, sought: Sought) -> bool
-    ensures { result ≡ is_sought sought (statement_of line.now).body }
-{
-    let brief = line.brief();
-    match sought {
-        Sought::Equ => brief.equ,
-        Sought::PcrelHigh => brief.pcrel_high,
-    }
-}
-
-/// How many lines there are before the next one behind the first `i` that is what is looked for.
-pub fn lines_up_to(lines: &[Line], i: usize, sought: Sought) -> usize
-    requires within { i ≤ length lines.now }
-    ensures up { i ≤ result }
-    ensures within { result ≤ length lines.now }
-    ensures passed { AreWithout (is_sought sought) (program_of lines.now) i result }
-{
-    for k in i..lines.len() {
-        if is_sought(&lines[k], sought) {
-            return k;
-        }
-    }
-    lines.len()
 }
 
 impl<'a> Lines<'a> {

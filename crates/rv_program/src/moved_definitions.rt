@@ -6,12 +6,12 @@ ghost use Rattle.rv_list.specs.declared.view.DefinitionPlace.TheVariants.{Nowher
 ghost use Rattle.rv_program.specs.internal.Defining.{also_on, Holds};
 ghost use Rattle.rv_program.specs.Definitions.{definition_of};
 ghost use Rattle.rv_program.specs.Edits.{edit_of, place_of_edit};
-ghost use Rattle.rv_program.specs.internal.MovedDefinitions.{is_on, takes_out, line_after_edit, moved_place, place_after, found_after, kept_after, put_in, leaves_definitions};
+ghost use Rattle.rv_program.specs.internal.MovedDefinitions.{is_on, takes_out, line_after_edit, moved_place, place_after, found_after, kept_after, put_in};
 ghost use Rattle.rv_program.specs.Program.{program_of};
 ghost use Rattle.rv_program.specs.internal.Rows.{number_of, in_row, Grows, AreDefinitions};
 ghost use Rattle.rv_program.specs.Text.{refusal_of, lines_after};
 
-use crate::definitions::{define_line, may_define};
+use crate::definitions::define_line;
 use crate::edit::LineEdit;
 use crate::first_definition::first_place;
 use crate::limits::MAX_LINES;
@@ -105,53 +105,18 @@ pub fn keep_places(
     edit: &LineEdit<'_>,
     lines: &[Line],
     names: &NameTable,
-    row: &mut [DefinitionPlace],
+    row: &mut Vec<DefinitionPlace>,
 )
     requires first { 1 ≤ place_of_edit (edit_of edit.now) }
     requires within { place_of_edit (edit_of edit.now) - 1 ≤ length lines.now }
     requires few { length lines.now ≤ MAX_LINES }
-    requires named { length row.old ≤ length names.now }
-    ensures row { in_row names.now row.new Nowhere ≡ kept_after (edit_of edit.now) lines.now (in_row names.now row.old Nowhere) }
-    ensures as_many { length row.new ≡ length row.old }
+    requires named { length row.old.items ≤ length names.now }
+    ensures row { in_row names.now row.new.items Nowhere ≡ kept_after (edit_of edit.now) lines.now (in_row names.now row.old.items Nowhere) }
+    ensures as_many { length row.new.items ≡ length row.old.items }
 {
     for number in 0..row.len() {
         row[number] = place_after(edit, lines, names, number, row[number]);
     }
-}
-
-// Whether an edit takes out no definition and moves none: it puts a line at the end, or in the place of one that defines nothing.
-fn leaves_definitions(old: &Lines<'_>, edit: &LineEdit<'_>) -> bool
-    requires allowed { refusal_of old.now (edit_of edit.now) ≡ None }
-    ensures { result ≡ leaves_definitions old.now (edit_of edit.now) }
-{
-    match *edit {
-        LineEdit::Insert(k, _) => old.len() < k as usize,
-        LineEdit::Delete(_) => false,
-        LineEdit::Replace(k, _) => !may_define(old.line(k)),
-    }
-}
-
-// Where the names of a text are defined after an edit, but for what the line defines that it puts in.
-fn kept_definitions(
-    alloc: Global,
-    row: &[DefinitionPlace],
-    old: &Lines<'_>,
-    lines: &[Line],
-    edit: &LineEdit<'_>,
-    names: &NameTable,
-) -> Result<Vec<DefinitionPlace>, AllocError>
-    requires row { AreDefinitions (program_of old.now) names.now row.now }
-    requires allowed { refusal_of old.now (edit_of edit.now) ≡ None }
-    requires edited { lines.now ≡ lines_after old.now (edit_of edit.now) }
-    requires few { length lines.now ≤ MAX_LINES }
-    ensures { IfOk result (λ row'. Holds names.now row'.items (kept_after (edit_of edit.now) lines.now (definition_of (program_of old.now)))) }
-{
-    let mut kept = Vec::from_slice(alloc, row)?;
-    if leaves_definitions(old, edit) {
-        return Ok(kept);
-    }
-    keep_places(edit, lines, names, kept.as_mut_slice());
-    Ok(kept)
 }
 
 // Writes what the line defines that an edit puts in.
@@ -195,7 +160,8 @@ pub fn definitions_after(
     ensures definitions { IfOk result (λ row'. AreDefinitions (program_of lines.now) names.new row'.items) }
     ensures names { Grows names.old names.new }
 {
-    let mut after = kept_definitions(alloc, row, old, lines, edit, names)?;
+    let mut after = Vec::from_slice(alloc, row)?;
+    keep_places(edit, lines, names, &mut after);
     define_put_in(alloc, old, lines, edit, names, &mut after)?;
     Ok(after)
 }

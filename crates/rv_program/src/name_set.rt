@@ -2,23 +2,24 @@
 
 ghost use Rattle.std.specs.Prelude.{◌≡◌, ◌<◌, ℕ, IfOk, IsTrue, true, false};
 ghost use Rattle.rv_program.specs.declared.name_set.Mark.TheVariants.{Unknown, Changed};
-ghost use Rattle.rv_program.specs.internal.NameSets.{bucket_of, differs, IsBelow, HasMoved, mark_of, has_bucket, has_group};
+ghost use Rattle.rv_program.specs.internal.NameSets.{bucket_of, differs, IsBelow, HasMoved, mark_of, has_bucket};
+ghost use Rattle.rv_program.specs.internal.Groups.{has_group};
 
 use crate::groups::Groups;
 use std::alloc::{AllocError, Global};
 use std::marker::Model;
 
 // How many buckets there are.
-const BUCKETS: usize = 4096;
+const BUCKETS: usize = 16_384;
 
 /// The bucket of a name. By the factor 37 names that end in other numbers are mostly in other buckets.
 pub fn bucket_of(mut name: &[u8]) -> u16
     ensures bucket { result ≡ bucket_of name.entry.now }
-    ensures below { result < 4096 }
+    ensures below { result < 16384 }
 {
     let mut bucket = 0;
     while let [byte, rest @ ..] = name {
-        bucket = (bucket * 37 + u32::from(*byte)) % 4096;
+        bucket = (bucket * 37 + u32::from(*byte)) % 16384;
         name = rest;
     }
     bucket as u16
@@ -136,7 +137,7 @@ impl NameSet {
 
     /// Adds a name of this bucket, of which this is true.
     pub fn add(&mut self, bucket: u16, mark: Mark)
-        requires { bucket < 4096 }
+        requires { bucket < 16384 }
         ensures kept { (other : ℕ) → IsBelow (mark_of self.old other) (mark_of self.new other) }
         ensures added { IsBelow mark (mark_of self.new bucket) }
         ensures shift { self.new.shift ≡ self.old.shift }

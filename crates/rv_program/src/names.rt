@@ -68,7 +68,7 @@ impl NameTable {
     pub fn bucket(&self, number: usize) -> u16
         requires { number < length self.now }
         ensures bucket { (name : List ℕ) → number_of self.now name ≡ Some number → result ≡ bucket_of name }
-        ensures below { result < 4096 }
+        ensures below { result < 16384 }
         ensures numbered { IsNumber self.now (Some number) }
     {
         let _name = self.name(number);

@@ -1,15 +1,16 @@
 //! The high halves that `%pcrel_lo` belongs to.
 
-ghost use Rattle.std.specs.Prelude.{◌≡◌, ◌≤◌, ◌<◌, ◌+◌, length, IfOk};
+ghost use Rattle.std.specs.Prelude.{◌≡◌, ◌≤◌, ◌<◌, ◌+◌, length, IfOk, map};
+ghost use Rattle.rv_program.specs.internal.Briefs.{groups_on};
 ghost use Rattle.rv_program.specs.declared.limits.TheConstants.{MAX_LINES};
 ghost use Rattle.rv_program.specs.internal.PairedHighs.{ArePairedThrough};
 ghost use Rattle.rv_program.specs.Pairs.{high_at};
 ghost use Rattle.rv_program.specs.internal.Rows.{AreHighs};
 ghost use Rattle.rv_program.specs.internal.TextRows.{AreTextRows, ArePairedHighsIn, program_in};
 
-use crate::line::Line;
+use crate::groups::{Groups, Kind};
 use crate::line_names::high_in;
-use crate::lines::{Sought, lines_up_to};
+use crate::lines_of_kind::lines_up_to;
 use crate::room::row_of;
 use crate::text_lines::place_on;
 use crate::text_rows::TextRows;
@@ -56,11 +57,11 @@ fn give_high(text: &TextRows<'_>, i: usize, high: Entry, row: &mut [Entry])
 pub fn paired_highs(
     alloc: Global,
     text: &TextRows<'_>,
-    lines: &[Line],
+    groups: &[Groups],
     highs: &[Entry],
 ) -> Result<Vec<Entry>, AllocError>
     requires rows { AreTextRows text.now }
-    requires column { lines.now ≡ text.now.lines.now }
+    requires groups { groups.now ≡ map groups_on text.now.lines.now }
     requires highs { AreHighs text.now.base (program_in text.now) highs.now }
     requires few { length text.now.lines.now ≤ MAX_LINES }
     ensures { IfOk result (λ row. ArePairedHighsIn text.now row.items) }
@@ -68,12 +69,12 @@ pub fn paired_highs(
     if highs.is_empty() {
         return Ok(Vec::new(alloc));
     }
-    let mut row = row_of(alloc, Err(ValueFault::NoPartner), lines.len())?;
-    let mut i = lines_up_to(lines, 0, Sought::PcrelHigh);
-    while i < lines.len() {
+    let mut row = row_of(alloc, Err(ValueFault::NoPartner), groups.len())?;
+    let mut i = lines_up_to(groups, 0, Kind::PcrelHigh);
+    while i < groups.len() {
         let high = high_in(highs, i as u32 + 1);
         give_high(text, i, high, &mut row);
-        i = lines_up_to(lines, i + 1, Sought::PcrelHigh);
+        i = lines_up_to(groups, i + 1, Kind::PcrelHigh);
     }
     Ok(row)
 }

@@ -1,24 +1,24 @@
 -- Lines with which no line of a text has to do: what they add, and who uses it.
-use Rattle.std.proofs.Common.{◌≡◌, ℕ, zero, suc, ◌+◌, ◌-◌, ◌<◌, ◌≤◌, ◌⊎◌, inl, inr, Bool, true, false, not, ◌&&◌, ◌||◌, List, [], ◌∷◌, ◌++◌, length, map, take, drop, get_or, bytes_eq, None, if◌then◌else◌, append-nil, true≢false, arith, ap, sym, subst, ◌∙◌, refl}
+use Rattle.std.proofs.Common.{◌≡◌, ℕ, zero, suc, ◌+◌, ◌-◌, ◌%◌, ◌<◌, ◌≤◌, ◌⊎◌, inl, inr, Bool, true, false, not, ◌&&◌, ◌||◌, List, [], ◌∷◌, ◌++◌, length, map, take, drop, get_or, bytes_eq, None, if◌then◌else◌, append-nil, true≢false, arith, ap, sym, subst, ◌∙◌, refl}
 use Rattle.std.specs.List.{list_any}
 use Rattle.std.proofs.Math.Path.{fun_ext}
 use Rattle.std.proofs.lemmas.Bool.{cases_lt, lt-ltb, le-ltb}
-use Rattle.std.proofs.lemmas.List.{length-drop, length-map, length-take-le, get_or-take, get_or-drop, get_or-map}
+use Rattle.std.proofs.lemmas.List.{length-map, get_or-map}
 use Rattle.std.proofs.lemmas.Slice.Eq.{bytes_eq-Decides}
 use Rattle.rv_stmt.specs.declared.statement.Stmt.{Stmt}
 use Rattle.rv_stmt.specs.LabelNames.{Label}
 use Rattle.rv_stmt.specs.Statement.{statement_of}
 use Rattle.rv_list.specs.declared.view.DefinitionPlace.{DefinitionPlace}
 use Rattle.rv_list.specs.declared.view.DefinitionPlace.TheVariants.{Nowhere, Label as ByLabel, Equ}
-use Rattle.rv_program.specs.declared.groups.Groups.{Groups}
 use Rattle.rv_store.specs.declared.apart.LineBehind.{LineBehind}
 use Rattle.rv_store.specs.internal.Apart.{added_by}
-use Rattle.rv_store.specs.internal.Column.{groups_on}
+use Rattle.rv_program.specs.internal.Briefs.{groups_on}
 use Rattle.rv_store.specs.internal.Appended.{adds, is_earlier, TellEarlier, adds_by_rows, IsApart}
 use Rattle.rv_program.specs.internal.Defining.{IsOn}
 use Rattle.rv_program.specs.Definitions.{defines_symbol, place_among_labels, place_in_body, or_place, place_in_statement, definition_of, is_defined}
 use Rattle.rv_program.specs.internal.Locals.{has_local_labels}
-use Rattle.rv_program.specs.internal.NameSets.{Marks, Has, bucket_of, brief_of_names, groups_used, groups_together, no_groups, has_bucket, has_group, may_have}
+use Rattle.rv_program.specs.internal.NameSets.{Marks, Has, bucket_of, brief_of_names, has_bucket, may_have}
+use Rattle.rv_program.specs.internal.Groups.{groups_together, no_groups, has_group}
 use Rattle.rv_program.specs.Pairs.{pcrel_high_of}
 use Rattle.rv_program.specs.Program.{Program, program_of, no_statement, body_at, lines_that}
 use Rattle.rv_program.specs.internal.Rows.{in_row, AreDefinitions}
@@ -29,7 +29,9 @@ use Rattle.rv_store.proofs.StillLaws.{lines_that-still}
 use Rattle.rv_program.specs.lemmas.DefinitionLaws.{IsWithin, statement-within, definition-within}
 use Rattle.rv_program.specs.lemmas.DefinitionParts.{within-on}
 use Rattle.rv_program.specs.lemmas.LocalLines.{none-among}
-use Rattle.rv_program.specs.lemmas.NameSetLaws.{none-passes, no-group-together, unused-group}
+use Rattle.rv_program.specs.lemmas.GroupLaws.{block-lacks}
+use Rattle.rv_program.specs.lemmas.LineGroups.{unused-group}
+use Rattle.rv_program.specs.lemmas.NameSetLaws.{none-passes}
 use Rattle.rv_program.specs.lemmas.Programs.{length-program}
 
 -- a line whose groups no added name is in uses none
@@ -43,44 +45,19 @@ only_in behind set has name = at (added_by behind name) refl
 pub unused-by_buckets : (behind : LineBehind) (set : Marks) (names : List (List ℕ)) → ((name : List ℕ) → added_by behind name ≡ true → Has set name) → ((bucket : ℕ) → has_bucket set bucket ≡ true → may_have (brief_of_names names) bucket ≡ false) → list_any (added_by behind) names ≡ false
 unused-by_buckets behind set names has apart = none-passes (has_bucket set) (added_by behind) (only_in behind set has) names apart
 
-pub unused-by_groups : (behind : LineBehind) (set : Marks) (names : List (List ℕ)) → ((name : List ℕ) → added_by behind name ≡ true → Has set name) → ((bucket : ℕ) → has_bucket set bucket ≡ true → has_group (groups_used (brief_of_names names)) bucket ≡ false) → list_any (added_by behind) names ≡ false
-unused-by_groups behind set names has apart =
-    unused-by_buckets behind set names has (λ bucket is. unused-group (brief_of_names names) bucket (apart bucket is))
+pub unused-by_groups : (behind : LineBehind) (set : Marks) (line : List ℕ) → ((name : List ℕ) → added_by behind name ≡ true → Has set name) → ((bucket : ℕ) → has_bucket set bucket ≡ true → has_group (groups_on line) bucket ≡ false) → list_any (added_by behind) (names_used (statement_of line).body) ≡ false
+unused-by_groups behind set line has apart =
+    unused-by_buckets behind set (names_used (statement_of line).body) has (λ bucket is. unused-group line bucket (apart bucket is))
 
 -- nor do those of a block where none is in the groups of all of them
 pub block-unused : (lines : List (List ℕ)) (behind : LineBehind) (set : Marks) (begin end : ℕ) → end ≤ length lines → ((name : List ℕ) → added_by behind name ≡ true → Has set name) → ((bucket : ℕ) → has_bucket set bucket ≡ true → has_group (groups_together (take (end - begin) (drop begin (map groups_on lines)))) bucket ≡ false) → (i : ℕ) → begin < i → i ≤ end → uses_any (added_by behind) (program_of lines) i ≡ false
 block-unused lines behind set begin end last has none i past within =
+    let short : i - 1 < length lines = omega (arith, past, within, last) in
+    let count = length-map lines groups_on in
     ap (λ s. list_any (added_by behind) (names_used s.body)) (get_or-map statement_of lines (i - 1) [] no_statement short)
-    ∙ unused-by_groups behind set (names_used (statement_of line).body) has (λ bucket is. ap (λ g. has_group g bucket) (sym there) ∙ no-group-together block place bucket no_groups inside (none bucket is))
-  where
-    groups : List Groups
-    groups = map groups_on lines
-
-    block : List Groups
-    block = take (end - begin) (drop begin groups)
-
-    line : List ℕ
-    line = get_or lines (i - 1) []
-
-    place : ℕ
-    place = i - 1 - begin
-
-    short : i - 1 < length lines
-    short = omega (arith, past, within, last)
-
-    inside : place < length block
-    inside =
-        let rest : length (drop begin groups) ≡ length lines - begin = length-drop begin groups ∙ ap (λ n. n - begin) (length-map lines groups_on) in
-        let count : length block ≡ end - begin = length-take-le (end - begin) (drop begin groups) (omega (arith, rest, last)) in
-        omega (arith, count, past, within)
-
-    there : get_or block place no_groups ≡ groups_on line
-    there =
-        let same : begin + place ≡ i - 1 = omega (arith, past) in
-        get_or-take (end - begin) (drop begin groups) place no_groups (omega (arith, past, within))
-        ∙ get_or-drop begin groups place no_groups
-        ∙ ap (λ k. get_or groups k no_groups) same
-        ∙ get_or-map groups_on lines (i - 1) [] no_groups short
+    ∙ unused-by_groups behind set (get_or lines (i - 1) []) has (λ bucket is.
+    ap (λ g. has_group g bucket) (sym (get_or-map groups_on lines (i - 1) [] no_groups short))
+    ∙ block-lacks (map groups_on lines) (bucket % 61) begin end (omega arith) (omega (arith, count, last)) (none bucket is) (i - 1) (omega (arith, past)) (omega (arith, past, within)))
 
 -- Names that a statement defines
 

@@ -88,6 +88,10 @@ former-new ms lines (Replace place line) shape other count has new = get_or-set_
 
 -- Lines without a part in the constants
 
+neither_part : (a b t : Bool) → (a && b) ≡ false → (a && (b && t)) ≡ false
+neither_part false b t h = refl
+neither_part true b t h = ap (λ c. c && t) h
+
 module _ (before : Before) (is : IsBefore before) where
   pub shape_count : length before.shapes.now ≡ length (lines_before before)
   shape_count =
@@ -131,8 +135,8 @@ module _ (before : Before) (is : IsBefore before) (lines : List (List ℕ)) (aft
         at None h = former-here i other h
         at (Some j) h = former-stood i j other within h
 
-    pub former-stays : (i : ℕ) (text : List ℕ) (other : Measured) → i < length lines → text ≡ get_or lines i text → is_sized (statement_of text).body ≡ false → get_or former i other ≡ shape_at (program_of lines) (i + 1)
-    former-stays i text other within read unsized = at (line_before_edit (edit_on before) (i + 1)) refl
+    pub former-stays : (i : ℕ) (text : List ℕ) (other : Measured) → i < length lines → text ≡ get_or lines i text → (is_sized (statement_of text).body && uses_symbols (statement_of text).body) ≡ false → get_or former i other ≡ shape_at (program_of lines) (i + 1)
+    former-stays i text other within read apart = at (line_before_edit (edit_on before) (i + 1)) refl
       where
         body : Body
         body = (statement_of text).body
@@ -145,7 +149,7 @@ module _ (before : Before) (is : IsBefore before) (lines : List (List ℕ)) (aft
         at (Some j) h =
             let differs = λ (name : List ℕ). differs_from (program_of (lines_before before)) j (constant_of program (i + 1)) name in
             let same : (is_sized body && (uses_symbols body && list_any differs (names_used body))) ≡ false =
-            ap (λ t. t && (uses_symbols body && list_any differs (names_used body))) unsized in
+            neither_part (is_sized body) (uses_symbols body) (list_any differs (names_used body)) apart in
             former-stood i j other within h
             ∙ sym (shape-stays before is lines after i j within h (constant_of program (i + 1)) refl body (body-on lines i text within read) same)
 

@@ -16,8 +16,6 @@ pub mod FormerItems
 pub mod FormerShapes
 pub mod ImageExamples
 pub mod ItemsLeft
-pub mod KeptConstants
-pub mod KeptRows
 pub mod LastDefinitions
 pub mod LastLines
 pub mod LongerPrograms
@@ -26,6 +24,7 @@ pub mod PassedItems
 pub mod QuietLines
 pub mod RememberedNames
 pub mod Rooms
+pub mod SettledShapes
 pub mod ShapeRows
 pub mod ShownLines
 pub mod StillLaws

@@ -8,7 +8,6 @@ pub mod ConstantPairs
 pub mod Ends
 pub mod Forgetting
 pub mod FormerShapes
-pub mod KeptConstants
 pub mod Passed
 pub mod Renewed
 pub mod Still

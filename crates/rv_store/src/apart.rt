@@ -6,7 +6,7 @@ ghost use Rattle.rv_stmt.specs.Statement.{statement_of};
 ghost use Rattle.rv_program.specs.declared.limits.TheConstants.{MAX_LINES};
 ghost use Rattle.rv_store.specs.internal.Appended.{adds, is_earlier, TellEarlier, IsApart};
 ghost use Rattle.rv_store.specs.internal.Apart.{added_by, AreMarked};
-ghost use Rattle.rv_store.specs.internal.Column.{groups_on};
+ghost use Rattle.rv_program.specs.internal.Briefs.{groups_on};
 ghost use Rattle.rv_program.specs.Definitions.{defines_symbol, place_in_body, is_defined};
 ghost use Rattle.rv_program.specs.internal.NameSets.{Has};
 ghost use Rattle.rv_program.specs.Program.{program_of, body_at, lines_that};
@@ -15,14 +15,11 @@ ghost use Rattle.rv_program.specs.Uses.{names_used};
 
 use rv_list::DefinitionPlace;
 use rv_program::{
-    Groups, Line, MAX_LINES, Mark, NameSet, NameTable, NameTest, any_name, bucket_of, entry_of,
-    is_defined, may_define, place_on,
+    BLOCK, Groups, Line, MAX_LINES, Mark, NameSet, NameTable, NameTest, any_name, bucket_of,
+    entry_of, is_defined, may_define, place_on,
 };
 use rv_stmt::{Body, LabelName, LabelSlice};
 use std::alloc::{AllocError, Global};
-
-// How many lines a search takes together.
-const BLOCK: usize = 32;
 
 // Whether a definition is on a line before this one.
 fn is_earlier(line: u32, place: DefinitionPlace) -> bool
@@ -201,7 +198,7 @@ impl Added {
     }
 }
 
-/// What a line behind a text adds to it. `groups` are those of the names that each line uses, and `definitions` says where names are defined,
+/// What a line behind a text adds to it. `groups` are those of the lines, and `definitions` says where names are defined,
 /// with that line or without it. `None` if another line may have to do with it otherwise than by a name: an `.equ` or a high half of the text
 /// uses one that it adds, or the line has a local label, or is a high half, or there is no memory to find out.
 pub fn adds_apart(

@@ -1,7 +1,8 @@
 //! The lines of a text in a column, which edits change in place.
 
 ghost use Rattle.std.specs.Prelude.{◌≡◌, ◌≤◌, ◌<◌, [], length, map, get_or, insert, remove, take, set, IfOk, OnOk, OnErr, IsOk};
-ghost use Rattle.rv_store.specs.internal.Column.{groups_on, HasPlace, HasRoom, taken_back};
+ghost use Rattle.rv_store.specs.internal.Column.{HasPlace, HasRoom, taken_back};
+ghost use Rattle.rv_program.specs.internal.Briefs.{groups_on};
 ghost use Rattle.rv_program.specs.Edits.{edit_of_read};
 ghost use Rattle.rv_program.specs.internal.Still.{set_or_push};
 ghost use Rattle.rv_program.specs.Text.{lines_after};
@@ -11,8 +12,8 @@ use std::alloc::{AllocError, Global};
 use std::marker::Model;
 use std::mem;
 
-/// The lines of a text. Beside each stand the groups of the names that it uses: a search for the lines that use a name goes past most of the
-/// others without a look at them. Contracts see the lines, and for how many there is room.
+/// The lines of a text. Beside each stand the groups that it is in: a search for the lines that use a name, or are of a kind, goes past
+/// most of the others without a look at them. Contracts see the lines, and for how many there is room.
 #[derive(Drop)]
 pub struct Column {
     lines: Vec<Line>,
@@ -21,20 +22,14 @@ pub struct Column {
 
 impl Model for Column {
     ghost use Rattle.std.specs.Prelude.{◌≡◌, map, vec_capacity};
-    ghost use Rattle.rv_store.specs.internal.Column.{Listed, groups_on};
+    ghost use Rattle.rv_program.specs.internal.Briefs.{groups_on};
+    ghost use Rattle.rv_store.specs.internal.Column.{Listed};
 
     ghost Value = { Listed };
 
     ghost view = { λ c. record { items = c.lines.items; room = vec_capacity c.lines; group_room = vec_capacity c.groups } };
 
     ghost invariant = { λ c. c.groups.items ≡ map groups_on c.lines.items };
-}
-
-// The groups of the names that a line uses.
-fn groups_on(line: &Line) -> Groups
-    ensures { result ≡ groups_on line.now }
-{
-    line.brief().names.groups()
 }
 
 impl Column {
@@ -62,7 +57,7 @@ impl Column {
         self.lines.as_slice()
     }
 
-    /// The groups of the names that each of them uses.
+    /// The groups that each of them is in.
     pub fn groups(&self) -> &[Groups]
         ensures { result.now ≡ map groups_on self.now.items }
     {
@@ -76,7 +71,7 @@ impl Column {
         ensures err { OnErr result (self.new.items ≡ self.old.items) }
         ensures succeeds { length self.old.items < self.old.room → length self.old.items < self.old.group_room → IsOk result }
     {
-        self.groups.insert(place, groups_on(&line))?;
+        self.groups.insert(place, line.groups())?;
         match self.lines.insert(place, line) {
             Ok(()) => Ok(()),
             Err(e) => {
@@ -104,7 +99,7 @@ impl Column {
         ensures former { result ≡ get_or self.old.items place result }
         ensures lines { self.new.items ≡ set self.old.items place line }
     {
-        self.groups[place] = groups_on(&line);
+        self.groups[place] = line.groups();
         mem::replace(&mut self.lines[place], line)
     }
 

@@ -143,7 +143,7 @@ impl Survey {
         self.forget_equ(names, line, number);
         let (earlier, _) = self.lines.as_slice().split_at(number as usize - 1);
         let back = LineEdit::Delete(number);
-        keep_places(&back, earlier, names, self.definitions.as_mut_slice());
+        keep_places(&back, earlier, names, &mut self.definitions);
     }
 
     /// Adds what the last line defines to the rows by names, if it defines any, where the text before it has nothing to do with it.

@@ -9,7 +9,6 @@ mod column;
 mod ending;
 mod ends;
 mod forgetting;
-mod kept_constants;
 mod last_definitions;
 mod last_line;
 mod new_shape;

@@ -1,15 +1,15 @@
 //! The shapes of the lines of a text, with its constants.
 
-ghost use Rattle.std.specs.Prelude.{◌≡◌, ◌≤◌, ◌<◌, ◌+◌, ◌*◌, ◌-◌, ◌^◌, ◌&&◌, ◌||◌, true, false, length, get_or, set, IfOk, IsTrue};
+ghost use Rattle.std.specs.Prelude.{◌≡◌, ◌≤◌, ◌<◌, ◌+◌, ◌*◌, ◌-◌, ◌^◌, ◌&&◌, true, false, length, get_or, set, IfOk, IsTrue, map};
 ghost use Rattle.std.specs.List.{list_any};
 ghost use Rattle.rv_stmt.specs.Statement.{statement_of};
 ghost use Rattle.rv_layout.specs.Places.{IsLimited, AreLimited};
 ghost use Rattle.rv_layout.specs.Shapes.{shape_of, size_operands};
 ghost use Rattle.rv_program.specs.declared.limits.TheConstants.{MAX_LINES};
+ghost use Rattle.rv_program.specs.internal.Briefs.{groups_on};
 ghost use Rattle.rv_program.specs.internal.Before.{IsBefore, base_before, lines_before, edit_on};
 ghost use Rattle.rv_store.specs.internal.ConstantPairs.{IsConstantPair, differs_in_constant};
 ghost use Rattle.rv_store.specs.internal.FormerShapes.{former_shape, former_shapes};
-ghost use Rattle.rv_store.specs.internal.KeptConstants.{edits_constants};
 ghost use Rattle.rv_program.specs.Layout.{shape_at};
 ghost use Rattle.rv_program.specs.internal.NewShapes.{IsNewShape, shape_operands, shape_operands_through};
 ghost use Rattle.rv_program.specs.Program.{program_of, body_at};
@@ -19,12 +19,12 @@ ghost use Rattle.rv_program.specs.internal.TextRows.{program_in};
 ghost use Rattle.rv_program.specs.Uses.{is_sized, is_equ, names_used, uses_symbols};
 ghost use Rattle.rv_program.specs.internal.Work.{constant_operands, equ_operands, work};
 
-use crate::kept_constants::edits_constants;
 use rv_layout::{Consts, Measured, measure, shapes_are_limited, size_operands_are_few};
 use rv_list::DefinitionPlace;
+use rv_program::lines_of_kind::lines_up_to;
 use rv_program::{
-    Before, Line, LineConstants, LineEdit, NameTable, NameTest, SymbolRows, any_name, room_for,
-    settle_constant,
+    Before, Groups, Kind, Line, LineConstants, LineEdit, NameTable, NameTest, SymbolRows, any_name,
+    room_for, settle_constant,
 };
 use rv_text::Count;
 use std::alloc::{AllocError, Global};
@@ -160,16 +160,20 @@ fn keeps_shape(before: &Before<'_, '_>, shape: &Measured) -> bool
     }
 }
 
-// Whether a line has a part in the constants: its shape may follow from them, or it may define one. Its statement is not looked at.
-fn has_part(line: &Line) -> bool
-    ensures { result ≡ (is_sized (statement_of line.now).body || is_equ (statement_of line.now).body) }
-{
-    let brief = line.brief();
-    brief.sized || brief.equ
+impl ShapeRows {
+    // Writes the shape of a line.
+    fn write(&mut self, i: usize, shape: Measured)
+        requires { i < length self.old.shapes.items }
+        ensures shapes { self.new.shapes.items ≡ set self.old.shapes.items i shape }
+        ensures constants { self.new.constants ≡ self.old.constants }
+        ensures same { self.new.same ≡ true → (self.old.same ≡ true) × (self.new.shapes.items ≡ self.old.shapes.items) }
+    {
+        self.same &= self.shapes[i] == shape;
+        self.shapes[i] = shape;
+    }
 }
 
 // Writes the shape of line `i + 1` of the text after an edit, and its constant if it defines one.
-#[inline(never)]
 fn settle_line<C: Count>(
     before: &Before<'_, '_>,
     lines: &[Line],
@@ -190,9 +194,10 @@ fn settle_line<C: Count>(
     requires constants { AreConstants (program_of lines.now) i names.now rows.old.constants.items }
     requires valued { C.valued_count counter.old < 2 ^ 64 - 2 }
     ensures shapes { rows.new.shapes.items ≡ set rows.old.shapes.items i (shape_at (program_of lines.now) (i + 1)) }
+    ensures limited { IsLimited (shape_at (program_of lines.now) (i + 1)) }
     ensures constants { AreConstants (program_of lines.now) (i + 1) names.now rows.new.constants.items }
     ensures as_many { length rows.new.constants.items ≡ length definitions.now }
-    ensures same { rows.new.same ≡ rows.old.same }
+    ensures same { rows.new.same ≡ true → (rows.old.same ≡ true) × (rows.new.shapes.items ≡ rows.old.shapes.items) }
     ensures least { C.valued_count counter.old ≤ C.valued_count counter.new }
     ensures two { C.valued_count counter.new ≤ C.valued_count counter.old + 2 }
     ensures work { C.valued_count counter.new + work size_operands (base_before before.now) (lines_before before.now) (edit_on before.now) i + shape_operands_through (edit_on before.now) (i + 1)
@@ -206,83 +211,13 @@ fn settle_line<C: Count>(
         row: rows.constants.as_slice(),
     };
     let shape = shape_after(before, lines, i, rows.shapes[i], &given, counter);
-    rows.shapes[i] = shape;
+    rows.write(i, shape);
     settle_constant(lines, i, names, definitions, &mut rows.constants, counter);
 }
 
-// It is as for `shapes`, whatever the edit: one loop over the lines, since the shape of a line follows from the constants of the lines
-// before it. Those that stood in the text before and have no part in the constants keep their shapes.
-fn settled_shapes<C: Count>(
-    alloc: Global,
-    before: &Before<'_, '_>,
-    lines: &[Line],
-    definitions: &[DefinitionPlace],
-    shape: Measured,
-    counter: &mut C,
-) -> Result<ShapeRows, AllocError>
-    requires before { IsBefore before.now }
-    requires shape { IsNewShape (lines_before before.now) (edit_on before.now) shape }
-    requires after { lines.now ≡ lines_after (lines_before before.now) (edit_on before.now) }
-    requires few { length lines.now ≤ MAX_LINES }
-    requires definitions { AreDefinitions (program_of lines.now) before.now.symbols.text.names.now definitions.now }
-    requires valued { C.valued_count counter.old ≤ 2 ^ 63 + 1 }
-    ensures shapes { IfOk result (λ r. AreShapes (program_of lines.now) r.shapes.items) }
-    ensures limited { IfOk result (λ r. AreLimited r.shapes.items) }
-    ensures same { IfOk result (λ r. r.same ≡ true → r.shapes.items ≡ before.now.shapes.now) }
-    ensures constants { IfOk result (λ r. AreConstants (program_of lines.now) (length lines.now) before.now.symbols.text.names.now r.constants.items) }
-    ensures least { C.valued_count counter.old ≤ C.valued_count counter.new }
-    ensures most { C.valued_count counter.new ≤ C.valued_count counter.old + 2 * length lines.now }
-    ensures work { C.valued_count counter.new + shape_operands (edit_on before.now) ≤ C.valued_count counter.old + work constant_operands (base_before before.now) (lines_before before.now) (edit_on before.now) (length lines.now) }
-    ensures parsed { C.parsed_count counter.new ≡ C.parsed_count counter.old }
-    ensures encoded { C.encoded_count counter.new ≡ C.encoded_count counter.old }
-{
-    shapes_are_limited();
-    let names = before.symbols.text.names;
-    let constants = vec![in alloc; None; definitions.len()]?;
-    let shapes = former_shapes(alloc, before, lines.len(), shape)?;
-    let mut rows = ShapeRows {
-        shapes,
-        constants,
-        same: false,
-    };
-    for i in 0..lines.len() {
-        lines[i].data_are_few();
-        if has_part(&lines[i]) {
-            settle_line(before, lines, i, names, definitions, &mut rows, counter);
-        }
-    }
-    Ok(rows)
-}
-
-// It is as for `shapes`, where the edit changes no constant: nothing is computed.
-fn kept_shapes(
-    alloc: Global,
-    before: &Before<'_, '_>,
-    lines: &[Line],
-    shape: Measured,
-) -> Result<ShapeRows, AllocError>
-    requires before { IsBefore before.now }
-    requires shape { IsNewShape (lines_before before.now) (edit_on before.now) shape }
-    requires limited { IsLimited shape }
-    requires after { lines.now ≡ lines_after (lines_before before.now) (edit_on before.now) }
-    requires kept { edits_constants (lines_before before.now) (edit_on before.now) ≡ false }
-    ensures shapes { IfOk result (λ r. AreShapes (program_of lines.now) r.shapes.items) }
-    ensures limited { IfOk result (λ r. AreLimited r.shapes.items) }
-    ensures same { IfOk result (λ r. r.same ≡ true → r.shapes.items ≡ before.now.shapes.now) }
-    ensures constants { IfOk result (λ r. AreConstants (program_of lines.now) (length lines.now) before.now.symbols.text.names.now r.constants.items) }
-{
-    let same = keeps_shape(before, &shape);
-    let shapes = former_shapes(alloc, before, lines.len(), shape)?;
-    let constants = Vec::from_slice(alloc, before.symbols.constants)?;
-    Ok(ShapeRows {
-        shapes,
-        constants,
-        same,
-    })
-}
-
-/// The shapes of all lines of the text after an edit, with its constants. `shape` is that of the line that the edit puts in. Where the edit
-/// changes no constant, all others are those before it.
+/// The shapes of all lines of the text after an edit, with its constants: the shape of a line follows from the constants of the lines
+/// before it, so that they are gone over from the first on. `groups` are those of the lines, and `shape` is the shape of the line that the edit
+/// puts in. All others that have no part in the constants keep their shapes, and are gone past.
 ///
 /// The counter's number of expressions computed rises by at most the size operands and the `.equ`s on the lines that the edit
 /// invalidates, the operand from which that shape follows apart.
@@ -290,6 +225,7 @@ pub fn shapes<C: Count>(
     alloc: Global,
     before: &Before<'_, '_>,
     lines: &[Line],
+    groups: &[Groups],
     definitions: &[DefinitionPlace],
     shape: Measured,
     counter: &mut C,
@@ -298,6 +234,7 @@ pub fn shapes<C: Count>(
     requires shape { IsNewShape (lines_before before.now) (edit_on before.now) shape }
     requires limited { IsLimited shape }
     requires after { lines.now ≡ lines_after (lines_before before.now) (edit_on before.now) }
+    requires groups { groups.now ≡ map groups_on lines.now }
     requires few { length lines.now ≤ MAX_LINES }
     requires definitions { AreDefinitions (program_of lines.now) before.now.symbols.text.names.now definitions.now }
     requires valued { C.valued_count counter.old ≤ 2 ^ 63 + 1 }
@@ -311,8 +248,18 @@ pub fn shapes<C: Count>(
     ensures parsed { C.parsed_count counter.new ≡ C.parsed_count counter.old }
     ensures encoded { C.encoded_count counter.new ≡ C.encoded_count counter.old }
 {
-    if edits_constants(before, lines, definitions) {
-        return settled_shapes(alloc, before, lines, definitions, shape, counter);
+    let names = before.symbols.text.names;
+    let constants = vec![in alloc; None; definitions.len()]?;
+    let shapes = former_shapes(alloc, before, lines.len(), shape)?;
+    let mut rows = ShapeRows {
+        shapes,
+        constants,
+        same: keeps_shape(before, &shape),
+    };
+    let mut i = lines_up_to(groups, 0, Kind::Shaped);
+    while i < lines.len() {
+        settle_line(before, lines, i, names, definitions, &mut rows, counter);
+        i = lines_up_to(groups, i + 1, Kind::Shaped);
     }
-    kept_shapes(alloc, before, lines, shape)
+    Ok(rows)
 }

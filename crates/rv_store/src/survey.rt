@@ -1,8 +1,9 @@
 //! What is kept of the lines of a text.
 
-ghost use Rattle.std.specs.Prelude.{◌≡◌, ℕ, ◌≤◌, ◌<◌, ◌+◌, ◌*◌, ◌^◌, [], None, length, true, IfOk};
+ghost use Rattle.std.specs.Prelude.{◌≡◌, ℕ, ◌≤◌, ◌<◌, ◌+◌, ◌*◌, ◌^◌, [], None, length, true, IfOk, map};
 ghost use Rattle.rv_layout.specs.Places.{section_base_of, section_end_of, sum_below, IsLimited, AreLimited, is_base};
 ghost use Rattle.rv_layout.specs.Sections.{sections};
+ghost use Rattle.rv_program.specs.internal.Briefs.{groups_on};
 ghost use Rattle.rv_program.specs.internal.Before.{IsBefore, base_before, lines_before, edit_on};
 ghost use Rattle.rv_program.specs.Edits.{edit_of};
 ghost use Rattle.rv_store.specs.internal.Ends.{ends_of, end_in, place_by_shapes};
@@ -28,8 +29,8 @@ use rv_program::highs::highs;
 use rv_program::locals_after::locals_after;
 use rv_program::paired_highs::paired_highs;
 use rv_program::{
-    Before, Line, LineEdit, Lines, Locals, MAX_LINES, NameTable, SymbolRows, TextRows, ValueRows,
-    definitions_after,
+    Before, Groups, Line, LineEdit, Lines, Locals, MAX_LINES, NameTable, SymbolRows, TextRows,
+    ValueRows, definitions_after,
 };
 use rv_text::Count;
 use std::alloc::{AllocError, Global};
@@ -158,15 +159,17 @@ impl Survey {
         ensures encoded { C.encoded_count counter.new ≡ C.encoded_count counter.old }
     {
         let lines = self.lines.as_slice();
+        let groups = self.lines.groups();
         let definitions = definitions_after(alloc, &self.definitions, old, lines, edit, names)?;
         let before = self.before(old, base, names, edit);
-        let sized = shapes(alloc, &before, lines, &definitions, shape, counter)?;
+        let sized = shapes(alloc, &before, lines, groups, &definitions, shape, counter)?;
         let placed = placed(alloc, base, &sized, &self.ends, &self.places)?;
         let locals = locals_after(alloc, &before, lines)?;
         Survey::by_rows(
             alloc,
             &before,
             lines,
+            groups,
             definitions,
             sized,
             placed,
@@ -175,7 +178,8 @@ impl Survey {
         )
     }
 
-    /// That of the lines of a text after an edit, by the rows that the others are made from. It does not get the lines.
+    /// That of the lines of a text after an edit, which have these groups, by the rows that the others are made from. It does not get the
+    /// lines.
     ///
     /// The counter's number of expressions computed rises by at most two for each line: the `.equ`s, and the high halves that
     /// the edit invalidates.
@@ -183,6 +187,7 @@ impl Survey {
         alloc: Global,
         before: &Before<'_, '_>,
         lines: &[Line],
+        groups: &[Groups],
         definitions: Vec<DefinitionPlace>,
         sized: ShapeRows,
         placed: Placed,
@@ -192,6 +197,7 @@ impl Survey {
         requires base { is_base (base_before before.now) ≡ true }
         requires before { IsBefore before.now }
         requires edited { lines.now ≡ lines_after (lines_before before.now) (edit_on before.now) }
+        requires groups { groups.now ≡ map groups_on lines.now }
         requires few { length lines.now ≤ MAX_LINES }
         requires definitions { AreDefinitions (program_of lines.now) before.now.symbols.text.names.now definitions.items }
         requires constants { AreConstants (program_of lines.now) (length lines.now) before.now.symbols.text.names.now sized.constants.items }
@@ -218,14 +224,14 @@ impl Survey {
             places: &placed.places,
             locals: &locals,
         };
-        let equ_values = equ_values(alloc, &text, lines, counter)?;
+        let equ_values = equ_values(alloc, &text, groups, counter)?;
         let after = SymbolRows {
             text,
             constants: &sized.constants,
             equ_values: &equ_values,
         };
-        let highs = highs(alloc, before, &after, lines, counter)?;
-        let paired_highs = paired_highs(alloc, &text, lines, &highs)?;
+        let highs = highs(alloc, before, &after, groups, counter)?;
+        let paired_highs = paired_highs(alloc, &text, groups, &highs)?;
         Ok(Survey {
             lines: Column::new(alloc),
             definitions,

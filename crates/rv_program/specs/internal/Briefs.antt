@@ -1,9 +1,13 @@
 -- What a line has to do with other lines, in brief.
-use Rattle.std.specs.Prelude.{◌==◌, not, ◌||◌, length}
+use Rattle.std.specs.Prelude.{ℕ, ◌==◌, not, ◌&&◌, ◌||◌, List, length}
 use Rattle.std.specs.Option.{is_some}
 use Rattle.rv_stmt.specs.declared.statement.Stmt.{Stmt}
+use Rattle.rv_stmt.specs.Statement.{statement_of}
 use Rattle.rv_program.specs.declared.brief.Brief.{Brief}
-use Rattle.rv_program.specs.internal.NameSets.{brief_of_names}
+use Rattle.rv_program.specs.declared.groups.Groups.{Groups}
+use Rattle.rv_program.specs.declared.groups.Kind.TheVariants.{Equ, PcrelHigh, Shaped}
+use Rattle.rv_program.specs.internal.Groups.{with_kind}
+use Rattle.rv_program.specs.internal.NameSets.{brief_of_names, groups_used}
 use Rattle.rv_program.specs.Jumps.{target_of}
 use Rattle.rv_program.specs.internal.Locals.{has_local_labels}
 use Rattle.rv_program.specs.Pairs.{pcrel_high_of}
@@ -23,3 +27,10 @@ brief_of s = record {
   uncompared = uses_local_label s.body || uses_paired_high s.body || is_equ s.body;
   plain = not (uses_symbols s.body || uses_address s.body || (uses_local_label s.body || uses_paired_high s.body || is_equ s.body));
 }
+
+-- the groups of a line
+abbrev pub groups_of_brief : Brief → Groups
+groups_of_brief b = with_kind (with_kind (with_kind (groups_used b.names) Equ b.equ) PcrelHigh b.pcrel_high) Shaped ((b.sized && b.symbols) || b.equ)
+
+abbrev pub groups_on : List ℕ → Groups
+groups_on line = groups_of_brief (brief_of (statement_of line))

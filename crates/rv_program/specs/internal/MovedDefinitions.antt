@@ -1,5 +1,5 @@
 -- Where names are defined after an edit: where they were, on the lines as they move, but for what the edit takes out or puts in.
-use Rattle.std.specs.Prelude.{ℕ, ◌+◌, ◌-◌, ◌^◌, ◌==◌, nat_lt, min, Bool, false, not, ◌||◌, List, [], length, get_or, drop, if◌then◌else◌}
+use Rattle.std.specs.Prelude.{ℕ, ◌+◌, ◌-◌, ◌^◌, ◌==◌, nat_lt, min, Bool, false, List, drop, if◌then◌else◌}
 use Rattle.rv_stmt.specs.Statement.{statement_of}
 use Rattle.rv_list.specs.declared.view.DefinitionPlace.{DefinitionPlace}
 use Rattle.rv_list.specs.declared.view.DefinitionPlace.TheVariants.{Nowhere, Label as ByLabel, Equ}
@@ -8,11 +8,6 @@ use Rattle.rv_program.specs.Definitions.{place_in_statement, first_place}
 use Rattle.rv_program.specs.Edits.{place_of_edit}
 use Rattle.rv_program.specs.Program.{program_of}
 use Rattle.rv_program.specs.Text.{Edit, Insert, Delete, Replace}
-use Rattle.rv_program.specs.Uses.{is_equ}
-
--- a line has labels or an `.equ`
-abbrev pub may_define : List ℕ → Bool
-may_define line = not (length (statement_of line).labels == 0) || is_equ (statement_of line).body
 
 -- a definition on this line
 abbrev pub is_on : (line : ℕ) → DefinitionPlace → Bool
@@ -55,9 +50,3 @@ abbrev pub put_in : Edit → Definitions
 put_in (Insert place line) name = place_in_statement place (statement_of line) name
 put_in (Delete place) name = Nowhere
 put_in (Replace place line) name = place_in_statement place (statement_of line) name
-
--- an edit takes out no definition and moves none: it puts a line at the end, or in the place of one that defines nothing
-abbrev pub leaves_definitions : (lines : List (List ℕ)) → Edit → Bool
-leaves_definitions lines (Insert place line) = nat_lt (length lines) place
-leaves_definitions lines (Delete place) = false
-leaves_definitions lines (Replace place line) = not (may_define (get_or lines (place - 1) []))

@@ -1,17 +1,16 @@
 -- Sets of names by their buckets: a set that has a name has all names of its bucket.
-use Rattle.std.specs.Prelude.{◌≡◌, ℕ, ℤ, ◌+◌, ◌-◌, ◌*◌, ◌/◌, ◌%◌, ◌^◌, ◌==◌, Bool, true, false, not, ◌||◌, List, length, get_or, Option, Some, None}
-use Rattle.std.specs.Int.{bit_at}
-use Rattle.std.specs.Int.Bits.{bit_and, bit_or}
+use Rattle.std.specs.Prelude.{◌≡◌, ℕ, ℤ, ◌+◌, ◌*◌, ◌%◌, ◌==◌, Bool, true, false, ◌||◌, List, length, get_or, Option, Some, None}
 use Rattle.std.specs.List.{fold}
 use Rattle.rv_program.specs.declared.groups.Groups.{Groups}
 use Rattle.rv_program.specs.declared.used_names.UsedNames.{UsedNames}
 use Rattle.rv_program.specs.declared.used_names.UsedNames.TheVariants.{Few, Many}
 use Rattle.rv_program.specs.declared.name_set.Mark.{Mark}
 use Rattle.rv_program.specs.declared.name_set.Mark.TheVariants.{Unknown, Same, Moved, Changed}
+use Rattle.rv_program.specs.internal.Groups.{no_groups, with_group, has_group}
 
 -- the bucket of a name, by its bytes from the first to the last
 abbrev pub next_bucket : (bucket byte : ℕ) → ℕ
-next_bucket bucket byte = (bucket * 37 + byte) % 4096
+next_bucket bucket byte = (bucket * 37 + byte) % 16384
 
 abbrev pub bucket_of : (name : List ℕ) → ℕ
 bucket_of name = fold next_bucket 0 name
@@ -41,37 +40,6 @@ HasMoved Unknown = Unit {0}
 HasMoved Moved = Unit {0}
 HasMoved mark = ⊥
 
--- Groups of buckets: there are 64
-
-abbrev pub bits_of : Groups → ℕ
-bits_of groups = groups.high * 2 ^ 32 + groups.low
-
-abbrev pub groups_of : (bits : ℕ) → Groups
-groups_of bits = record { low = bits % 2 ^ 32; high = bits / 2 ^ 32 % 2 ^ 32 }
-
-abbrev pub no_groups : Groups
-no_groups = record { low = 0; high = 0 }
-
-abbrev pub every_group : Groups
-every_group = record { low = 2 ^ 32 - 1; high = 2 ^ 32 - 1 }
-
--- with the group of a bucket
-abbrev pub with_group : Groups → (bucket : ℕ) → Groups
-with_group groups bucket = groups_of (bit_or (bits_of groups) (2 ^ (bucket % 64)))
-
--- with those of others
-abbrev pub with_groups : Groups → Groups → Groups
-with_groups groups others = groups_of (bit_or (bits_of groups) (bits_of others))
-
-abbrev pub groups_together : List Groups → Groups
-groups_together all = fold with_groups no_groups all
-
-abbrev pub has_group : Groups → (bucket : ℕ) → Bool
-has_group groups bucket = bit_at (bits_of groups) (bucket % 64) == 1
-
-abbrev pub share_group : Groups → Groups → Bool
-share_group groups others = not (bit_and (bits_of groups) (bits_of others) == 0)
-
 -- Sets of any number of names: a mark for each bucket, or none where the set has every name, and how far the lines behind the edit
 -- moved
 
@@ -81,7 +49,7 @@ pub record Marks : Type 0 where
 
 abbrev pub IsSized : Option (List Mark) → Type 0
 IsSized None = Unit {0}
-IsSized (Some marks) = length marks ≡ 4096
+IsSized (Some marks) = length marks ≡ 16384
 
 abbrev pub mark_among : Option (List Mark) → (bucket : ℕ) → Mark
 mark_among None bucket = Changed

@@ -1,9 +1,9 @@
 -- Where names are defined after an edit.
-use Rattle.std.proofs.Common.{◌≡◌, ℕ, suc, ◌+◌, ◌-◌, ◌^◌, ◌<◌, ◌≤◌, ◌⊎◌, inl, inr, nat_lt, nat_le, ◌==◌, min, Bool, true, false, List, [], ◌∷◌, ◌++◌, length, get_or, set, take, drop, bytes_eq, Option, Some, None, if◌then◌else◌, true≢false, arith, ap, sym, subst, ◌∙◌, refl}
+use Rattle.std.proofs.Common.{◌≡◌, ℕ, suc, ◌+◌, ◌-◌, ◌^◌, ◌<◌, ◌≤◌, ◌⊎◌, inl, inr, nat_lt, nat_le, ◌==◌, min, Bool, true, false, List, [], ◌∷◌, ◌++◌, length, get_or, set, take, drop, bytes_eq, Option, Some, None, if◌then◌else◌, arith, ap, sym, subst, ◌∙◌, refl}
 use Rattle.std.specs.Prelude.{remove}
 use Rattle.std.proofs.Math.Path.{fun_ext}
 use Rattle.std.proofs.Math.Seq.{drop-append_seam}
-use Rattle.std.proofs.lemmas.Bool.{cases_lt, eq-eqb, ne_eqb, not-true, lt-ltb, ltb-true}
+use Rattle.std.proofs.lemmas.Bool.{cases_lt, eq-eqb, ne_eqb}
 use Rattle.std.proofs.lemmas.Bool.Decides.{nat_tests}
 use Rattle.std.proofs.lemmas.Grind.{common_steps}
 use Rattle.std.proofs.lemmas.List.Edits.{length-insert, get_or-insert_at, length-remove}
@@ -19,12 +19,12 @@ use Rattle.rv_program.specs.declared.limits.TheConstants.{MAX_LINES}
 use Rattle.rv_program.specs.internal.Defining.{Definitions, is_up_to, or_here, also_on}
 use Rattle.rv_program.specs.Definitions.{defines_symbol, place_among_labels, place_in_body, or_place, place_in_statement, first_place, definition_of}
 use Rattle.rv_program.specs.Edits.{place_of_edit}
-use Rattle.rv_program.specs.internal.MovedDefinitions.{may_define, is_on, line_after_edit, moved_place, place_after, found_after, kept_after, put_in, leaves_definitions}
+use Rattle.rv_program.specs.internal.MovedDefinitions.{is_on, line_after_edit, moved_place, place_after, found_after, kept_after, put_in}
 use Rattle.rv_program.specs.Program.{Program, program_of}
 use Rattle.rv_program.specs.internal.Rows.{number_of, entry_at, in_row}
 use Rattle.rv_program.specs.Text.{Edit, Insert, Delete, Replace, refusal_of, lines_after}
 use Rattle.rv_program.specs.lemmas.DefinitionLaws.{IsWithin, statement-within, within-lines}
-use Rattle.rv_program.specs.lemmas.DefinitionRows.{or_place-assoc, here-kept, here-first, here-nothing, within-up, nothing-defined}
+use Rattle.rv_program.specs.lemmas.DefinitionRows.{or_place-assoc, here-kept, here-first, here-nothing, within-up}
 use Rattle.rv_program.specs.lemmas.EarlierLines.{insert_within, delete_within, replace_within}
 
 -- Places that move
@@ -213,19 +213,6 @@ module _ (before behind : List (List ℕ)) (name : List ℕ) where
       ∙ sym (taken number end (λ j. j) found earlier gone (later (number + 1)) earlier-within (statement-within number (statement_of former) name) (later-within (number + 1)) (sym (moved-nowhere earlier)))
       ∙ ap (λ p. if is_on number p then found else moved_place (λ j. j) p) (sym old))
 
-  -- a line that defines nothing is the definition of no name
-  line-without : (former : List ℕ) → may_define former ≡ false → is_on number (definition_of (program_of (before ++ former ∷ behind)) name) ≡ false
-  line-without former nothing =
-      ap (is_on number)
-      (parted before (former ∷ behind) name
-      ∙ ap (λ f. or_place earlier (or_place (f name) (later (number + 1)))) (nothing-defined number (statement_of former) nothing))
-      ∙ apart earlier earlier-within
-    where
-      apart : (a : DefinitionPlace) → IsWithin 1 number a → is_on number (or_place a (later (number + 1))) ≡ false
-      apart Nowhere w = on-behind number (number + 1 + length (program_of behind)) (later (number + 1)) (later-within (number + 1))
-      apart (ByLabel l index) w = on-before 1 number (ByLabel l index) w
-      apart (Equ l) w = on-before 1 number (Equ l) w
-
 -- Edits
 
 -- a line at the end of `count` lines moves as it should
@@ -320,10 +307,6 @@ module _ (lines : List (List ℕ)) (place : ℕ) (line name : List ℕ) (first :
       (if is_on (number-at i) (definition_of (program_of (whole-before i)) name) then first_place (number-at i) (program_of (from i)) name else moved_place (λ j. j) (definition_of (program_of (whole-before i)) name))
       (place_in_statement (number-at i) (statement_of line) name))
 
-  without : may_define former_line ≡ false → is_on place (definition_of (program_of lines) name) ≡ false
-  without nothing =
-      (λ i. is_on (sym number-at i) (definition_of (program_of (sym whole-before i)) name)) ∙ line-without before_place behind_place name former_line nothing
-
 after-edit : (lines : List (List ℕ)) (edit : Edit) (name : List ℕ) → length lines ≤ MAX_LINES → refusal_of lines edit ≡ None → HoldsAfter lines edit name
 after-edit lines (Insert place line) name few allowed =
     let within = insert_within lines place line allowed in inserted lines place line name few within.0 within.1
@@ -353,28 +336,6 @@ place-within lines after (Delete place) is allowed =
 place-within lines after (Replace place line) is allowed =
     let within = replace_within lines place line allowed in
     let count = length-set lines (place - 1) line in omega (arith, ap length is, count, within.1)
-
--- a definition before the place of a line that is put in
-stays-before : (place : ℕ) (line : List ℕ) (found a : DefinitionPlace) (end : ℕ) → IsWithin 1 end a → end ≤ place → a ≡ place_after (Insert place line) found a
-stays-before place line found Nowhere end within before = refl
-stays-before place line found (ByLabel l index) end within before =
-    ap (λ b. ByLabel (if b then l else min (l + 1) (2 ^ 32 - 1)) index) (sym (lt-ltb l place (omega (arith, within.1, before))))
-stays-before place line found (Equ l) end within before =
-    ap (λ b. Equ (if b then l else min (l + 1) (2 ^ 32 - 1))) (sym (lt-ltb l place (omega (arith, within.1, before))))
-
--- where an edit takes out no definition and moves none, all stay
-pub all-stay : (lines after : List (List ℕ)) (edit : Edit) → refusal_of lines edit ≡ None → leaves_definitions lines edit ≡ true → definition_of (program_of lines) ≡ kept_after edit after (definition_of (program_of lines))
-all-stay lines after (Insert place line) allowed end = fun_ext (λ name.
-    let behind : length lines < place = ltb-true (length lines) place end in
-    let within = within-lines 1 (program_of lines) name in
-    stays-before place line (found_after (Insert place line) after name) (definition_of (program_of lines) name) (1 + length (program_of lines)) within (omega (arith, behind, length-map lines statement_of)))
-all-stay lines after (Delete place) allowed nothing = absurd (true≢false (sym nothing))
-all-stay lines after (Replace place line) allowed nothing = fun_ext (λ name.
-    let within = replace_within lines place line allowed in
-    let was = definition_of (program_of lines) name in
-    let found = found_after (Replace place line) after name in
-    moved-nowhere was
-    ∙ sym (ap (λ t. if t then found else moved_place (λ j. j) was) (without lines place line name within.0 within.1 (not-true (may_define (get_or lines (place - 1) [])) nothing))))
 
 -- What the line defines that an edit puts in
 

@@ -188,8 +188,8 @@ module _ (names : List (List ℕ)) (buckets : List ℕ) (is : buckets ≡ map bu
   bucket-of_number name numbered =
       of_place ∙ ap bucket_of (sym (name-at names name n [] numbered))
 
-  pub bucket-of_number-below : bucket < 4096
-  bucket-of_number-below = subst (λ b. b < 4096) (sym of_place) (bucket-below (get_or names n []))
+  pub bucket-of_number-below : bucket < 16384
+  bucket-of_number-below = subst (λ b. b < 16384) (sym of_place) (bucket-below (get_or names n []))
 
 -- Rows
 

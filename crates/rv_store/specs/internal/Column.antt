@@ -1,9 +1,5 @@
 -- A column of lines, and edits of it.
 use Rattle.std.specs.Prelude.{ℕ, ◌+◌, ◌<◌, ◌≤◌, List, length, take, set, Option, Some, None}
-use Rattle.rv_stmt.specs.Statement.{statement_of}
-use Rattle.rv_program.specs.declared.groups.Groups.{Groups}
-use Rattle.rv_program.specs.internal.Briefs.{brief_of}
-use Rattle.rv_program.specs.internal.NameSets.{groups_used}
 use Rattle.rv_program.specs.Text.{Edit, Insert, Delete, Replace}
 
 -- the lines, and for how many of them and of their groups there is room
@@ -11,10 +7,6 @@ pub record Listed : Type 0 where
   pub items : List (List ℕ)
   pub room : ℕ
   pub group_room : ℕ
-
--- the groups of the names that a line uses
-abbrev pub groups_on : List ℕ → Groups
-groups_on line = groups_used (brief_of (statement_of line)).names
 
 -- there are so many lines that the edit has its place
 abbrev pub HasPlace : List (List ℕ) → Edit → Type 0

@@ -1,13 +1,11 @@
 use Rattle.std.proofs.Common.{◌≡◌, ◌+◌, length, replicate, Err, rules, arith, ap, refl, subst, ◌∙◌}
 use Rattle.std.proofs.lemmas.List.{length-replicate}
 use Rattle.rv_expr.specs.declared.faults.ValueFault.TheVariants.{LaterEqu}
-use Rattle.rv_program.specs.declared.lines.Sought.TheVariants.{Equ}
-use Rattle.rv_program.specs.internal.LinesWithout.{is_sought, AreWithout}
-use Rattle.rv_program.specs.Program.{program_of}
 use Rattle.rv_program.specs.internal.TextRows.{program_in, AreEquValuesIn}
 use Rattle.rv_program.specs.internal.Work.{equ_operands}
 use Rattle.rv_program.specs.lemmas.EquLaws.{equ_values-none, equ_values-past}
 use Rattle.rv_program.specs.lemmas.ShapeWork.{operands-next, operands-more}
+use Rattle.rv_program.proofs.LinesWithout.{count-groups}
 use Rattle.rv_program.proofs.equ_values.equ_values.Goals as goal
 
 pub loop-i-init : goal.loop-i-init
@@ -17,7 +15,7 @@ loop-i-init g c =
     let none : c.in_ok-row.row.items ≡ replicate (length names) (Err LaterEqu) = search rules in
     let past = c.lines_up_to-i.ensures in
     let i = c.lines_up_to-i.result in
-    let passed = subst (λ lines. AreWithout (is_sought Equ) (program_of lines) 0 i) c.requires.column past.passed in
+    let passed = past.passed text.lines.now c.requires.groups in
     record {
       within = past.within;
       values = rw none (equ_values-past text.base (program_in text) 0 i names (replicate (length names) (Err LaterEqu)) past.up passed (equ_values-none text.base (program_in text) names));
@@ -38,7 +36,7 @@ loop-i-preserved g c =
     let past = c.lines_up_to-i-in-loop-i.ensures in
     let i = c.loop-i.i in
     let next = c.lines_up_to-i-in-loop-i.result in
-    let passed = subst (λ lines. AreWithout (is_sought Equ) (program_of lines) (i + 1) next) c.requires.column past.passed in
+    let passed = past.passed text.lines.now c.requires.groups in
     let more = operands-more equ_operands program (i + 1) next past.up in
     record {
       within = past.within;
@@ -54,7 +52,7 @@ loop-i-preserved g c =
 pub returns-clause-values : goal.returns-clause-values
 returns-clause-values g c =
     let text = c.args.text.now in
-    let end : c.loop-i.i ≡ length text.lines.now = omega (arith, c.loop-i-test.false, c.loop-i.invariant.within, ap length c.requires.column) in
+    let end : c.loop-i.i ≡ length text.lines.now = omega (arith, c.loop-i-test.false, c.loop-i.invariant.within, count-groups text.lines.now c.args.groups.now c.requires.groups) in
     subst (λ k. AreEquValuesIn text k c.loop-i.row.items) end c.loop-i.invariant.values
 
 pub returns-clause-parsed : goal.returns-clause-parsed

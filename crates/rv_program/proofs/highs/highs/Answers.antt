@@ -2,13 +2,11 @@ use Rattle.std.proofs.Common.{◌≡◌, ◌<◌, suc, ◌+◌, ◌-◌, [], len
 use Rattle.std.proofs.lemmas.List.{length-set, length-replicate}
 use Rattle.rv_expr.specs.declared.faults.ValueFault.TheVariants.{NoPartner}
 use Rattle.rv_program.specs.internal.Before.{base_before, lines_before, edit_on}
-use Rattle.rv_program.specs.declared.lines.Sought.TheVariants.{PcrelHigh}
-use Rattle.rv_program.specs.internal.LinesWithout.{is_sought, AreWithout}
 use Rattle.rv_program.specs.Pairs.{high_at}
-use Rattle.rv_program.specs.Program.{program_of}
 use Rattle.rv_program.specs.internal.Rows.{AreHighs}
 use Rattle.rv_program.specs.internal.TextRows.{program_in}
 use Rattle.rv_program.specs.internal.Work.{high_operands, work}
+use Rattle.rv_program.proofs.LinesWithout.{count-groups}
 use Rattle.rv_program.proofs.HighRows.{AreHighsThrough, highs-none, highs-past, highs-set, highs-all}
 use Rattle.rv_program.specs.lemmas.Programs.{length-program}
 use Rattle.rv_program.specs.lemmas.WorkLaws.{work-up}
@@ -18,11 +16,11 @@ pub loop-i-init : goal.loop-i-init
 loop-i-init g c =
     let text = c.args.after.now.text in
     let program = program_in text in
-    let count = length c.args.lines.now in
+    let count = length c.args.groups.now in
     let none : c.in_ok-row.row.items ≡ replicate count (Err NoPartner) = c.in_ok-row.ensures in
     let past = c.lines_up_to-i.ensures in
     let i = c.lines_up_to-i.result in
-    let passed = subst (λ lines. AreWithout (is_sought PcrelHigh) (program_of lines) 0 i) c.requires.column past.passed in
+    let passed = past.passed text.lines.now c.requires.groups in
     record {
       within = past.within;
       row = subst (AreHighsThrough text.base program i) (sym none)
@@ -44,7 +42,7 @@ loop-i-preserved g c =
     let line = c.high_after.ensures in
     let i = c.loop-i.i in
     let next = c.lines_up_to-i-in-loop-i.result in
-    let passed = subst (λ lines. AreWithout (is_sought PcrelHigh) (program_of lines) (i + 1) next) c.requires.column past.passed in
+    let passed = past.passed text.lines.now c.requires.groups in
     let row = c.loop-i.row.items in
     let high = c.high_after.result in
     let within : i < length row = omega (arith, c.loop-i-test.true, before.many) in
@@ -66,20 +64,20 @@ pub returns-clause-highs : goal.returns-clause-highs
 returns-clause-highs g c =
     let text = c.args.after.now.text in
     let program = program_in text in
-    let count : length program ≡ length c.args.lines.now = length-program text.lines.now ∙ sym (ap length c.requires.column) in
+    let count : length program ≡ length c.args.groups.now = length-program text.lines.now ∙ sym (count-groups text.lines.now c.args.groups.now c.requires.groups) in
     let end : c.loop-i.i ≡ length program = omega (arith, c.loop-i-test.false, c.loop-i.invariant.within, count) in
     highs-all text.base program c.loop-i.row.items (omega (arith, c.loop-i.invariant.many, count))
     (subst (λ n. AreHighsThrough text.base program n c.loop-i.row.items) end c.loop-i.invariant.row)
 
 -- no line has a high half
-pub returns-then-i-lines-clause-highs : goal.returns-then-i-lines-clause-highs
-returns-then-i-lines-clause-highs g c =
+pub returns-then-i-groups-clause-highs : goal.returns-then-i-groups-clause-highs
+returns-then-i-groups-clause-highs g c =
     let text = c.args.after.now.text in
     let program = program_in text in
     let past = c.lines_up_to-i.ensures in
     let i = c.lines_up_to-i.result in
-    let passed = subst (λ lines. AreWithout (is_sought PcrelHigh) (program_of lines) 0 i) c.requires.column past.passed in
-    let end : i ≡ length program = omega (arith, c.if-i-lines.true, past.within, length-program text.lines.now, ap length c.requires.column) in
+    let passed = past.passed text.lines.now c.requires.groups in
+    let end : i ≡ length program = omega (arith, c.if-i-groups.true, past.within, length-program text.lines.now, count-groups text.lines.now c.args.groups.now c.requires.groups) in
     subst (AreHighs text.base program) (sym c.new.ensures.items)
     (highs-all text.base program [] (omega arith)
     (subst (λ n. AreHighsThrough text.base program n []) end (highs-past text.base program 0 i [] past.up passed (highs-none text.base program 0))))

@@ -5,7 +5,7 @@ use Rattle.rv_program.proofs.name_set.bucket_of.Given as goal
 
 abbrev pub invariant-loop-name : goal.invariant-loop-name
 invariant-loop-name l = record {
-  below : l.bucket < 4096;
+  below : l.bucket < 16384;
   bucket : fold next_bucket l.bucket l.name ≡ bucket_of l.initial.name;
 }
 

@@ -3,12 +3,10 @@ use Rattle.std.proofs.lemmas.Bool.{eqb-true}
 use Rattle.std.proofs.lemmas.List.{append-nil, take_all, drop_all}
 use Rattle.rv_expr.specs.declared.faults.ValueFault.TheVariants.{NoPartner}
 use Rattle.rv_fix.specs.Values.{Entry}
-use Rattle.rv_program.specs.declared.lines.Sought.TheVariants.{PcrelHigh}
-use Rattle.rv_program.specs.internal.LinesWithout.{is_sought, AreWithout}
 use Rattle.rv_program.specs.internal.PairedHighs.{ArePairedThrough}
-use Rattle.rv_program.specs.Program.{program_of}
 use Rattle.rv_program.specs.internal.Rows.{AreHighs, ArePairedHighs}
 use Rattle.rv_program.specs.internal.TextRows.{program_in}
+use Rattle.rv_program.proofs.LinesWithout.{count-groups}
 use Rattle.rv_program.proofs.HighLaws.{high_of_line}
 use Rattle.rv_program.proofs.PairedHighs.{paired-none, paired-past, paired-all, paired-nowhere}
 use Rattle.rv_program.specs.lemmas.Programs.{length-program}
@@ -37,15 +35,15 @@ pub loop-i-init : goal.loop-i-init
 loop-i-init c =
     let text = c.args.text.now in
     let program = program_in text in
-    let count = length c.args.lines.now in
+    let count = length c.args.groups.now in
     let past = c.lines_up_to-i.ensures in
     let i = c.lines_up_to-i.result in
-    let passed = subst (λ lines. AreWithout (is_sought PcrelHigh) (program_of lines) 0 i) c.requires.column past.passed in
+    let passed = past.passed text.lines.now c.requires.groups in
     record {
       within = past.within;
       row = subst (ArePairedThrough text.base program i) (sym c.in_ok-row.ensures)
           (paired-past text.base program 0 i (replicate count (Err NoPartner)) past.up passed
-          (paired-none text.base program count (ap length c.requires.column ∙ sym (length-program text.lines.now))));
+          (paired-none text.base program count (count-groups text.lines.now c.args.groups.now c.requires.groups ∙ sym (length-program text.lines.now))));
     }
 
 pub loop-i-preserved : goal.loop-i-preserved
@@ -54,7 +52,7 @@ loop-i-preserved c =
     let program = program_in text in
     let past = c.lines_up_to-i-in-loop-i.ensures in
     let next = c.lines_up_to-i-in-loop-i.result in
-    let passed = subst (λ lines. AreWithout (is_sought PcrelHigh) (program_of lines) (c.loop-i.i + 1) next) c.requires.column past.passed in
+    let passed = past.passed text.lines.now c.requires.groups in
     let before = c.loop-i.invariant.row in
     let after = c.give_high.ensures.after in
     let row = c.give_high.new.row in
@@ -68,7 +66,7 @@ pub returns : goal.returns
 returns c =
     let text = c.args.text.now in
     let program = program_in text in
-    let end : c.loop-i.i ≡ length program = omega (arith, c.loop-i-test.false, c.loop-i.invariant.within, length-program text.lines.now, ap length c.requires.column) in
+    let end : c.loop-i.i ≡ length program = omega (arith, c.loop-i-test.false, c.loop-i.invariant.within, length-program text.lines.now, count-groups text.lines.now c.args.groups.now c.requires.groups) in
     paired-all text.base program c.loop-i.row.items (subst (λ n. ArePairedThrough text.base program n c.loop-i.row.items) end c.loop-i.invariant.row)
 
 pub give_high-requires-clause-high : goal.give_high-requires-clause-high
@@ -77,4 +75,4 @@ give_high-requires-clause-high c =
     let highs = c.args.highs.now in
     let i = c.loop-i.i in
     c.high_in-high.ensures
-    ∙ high_of_line text.base text.lines.now highs (i + 1) c.requires.highs (omega arith) (omega (arith, c.loop-i-test.true, ap length c.requires.column))
+    ∙ high_of_line text.base text.lines.now highs (i + 1) c.requires.highs (omega arith) (omega (arith, c.loop-i-test.true, count-groups text.lines.now c.args.groups.now c.requires.groups))

@@ -6,9 +6,9 @@ use Rattle.rv_program.proofs.paired_highs.paired_highs.Given as goal
 -- what the high halves on the lines so far give
 abbrev pub invariant-loop-i : goal.invariant-loop-i
 invariant-loop-i l = record {
-  within : l.i ≤ length l.lines;
+  within : l.i ≤ length l.groups;
   row : ArePairedThrough l.text.base (program_in l.text) l.i l.row.items;
 }
 
 abbrev pub decreases-loop-i : goal.decreases-loop-i
-decreases-loop-i l = length l.lines - l.i
+decreases-loop-i l = length l.groups - l.i

@@ -5,7 +5,7 @@ use Rattle.rv_layout.specs.Places.{IsLimited, AreLimited}
 use Rattle.rv_store.specs.declared.ends.Ends.{Ends}
 use Rattle.rv_program.specs.declared.limits.TheConstants.{MAX_LINES}
 use Rattle.rv_store.specs.internal.Appended.{adds, TellEarlier, IsApart}
-use Rattle.rv_store.specs.internal.Column.{groups_on}
+use Rattle.rv_program.specs.internal.Briefs.{groups_on}
 use Rattle.rv_store.specs.internal.Ends.{ends_of, IsBehind}
 use Rattle.rv_program.specs.Program.{program_of, lines_that}
 use Rattle.rv_store.specs.internal.Still.{uses_any}

@@ -4,7 +4,7 @@ use Rattle.std.proofs.lemmas.List.{take-map}
 use Rattle.rv_program.specs.Program.{program_of}
 use Rattle.rv_store.specs.declared.survey.Survey.{Survey}
 use Rattle.rv_store.specs.internal.Appended.{TellEarlier}
-use Rattle.rv_store.specs.internal.Column.{groups_on}
+use Rattle.rv_program.specs.internal.Briefs.{groups_on}
 use Rattle.rv_store.specs.internal.Ends.{ends_of}
 use Rattle.rv_store.specs.internal.Surveys.{IsSurvey}
 use Rattle.rv_store.proofs.ApartLines.{tell-longer}

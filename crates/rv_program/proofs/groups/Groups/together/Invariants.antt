@@ -1,6 +1,6 @@
 use Rattle.std.proofs.Common.{◌≡◌, length}
 use Rattle.std.specs.List.{fold}
-use Rattle.rv_program.specs.internal.NameSets.{groups_of, with_groups, groups_together}
+use Rattle.rv_program.specs.internal.Groups.{groups_of, with_groups, groups_together}
 use Rattle.rv_program.proofs.groups.Groups.together.Given as goal
 
 abbrev pub invariant-loop-all : goal.invariant-loop-all

@@ -1,6 +1,6 @@
 use Rattle.std.proofs.Common.{◌≡◌, ◌≤◌, ◌<◌, ◌-◌, ℕ, Bool, false, length, take, drop, arith, ap, sym, ◌∙◌}
 use Rattle.rv_program.specs.Program.{program_of, body_at}
-use Rattle.rv_program.specs.internal.NameSets.{groups_together, has_group}
+use Rattle.rv_program.specs.internal.Groups.{groups_together, has_group}
 use Rattle.rv_store.specs.internal.Apart.{added_by}
 use Rattle.rv_store.specs.internal.Still.{is_settled, uses_any}
 use Rattle.rv_store.proofs.ApartLines.{block-unused, none-through, with-block}

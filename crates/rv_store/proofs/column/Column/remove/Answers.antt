@@ -1,5 +1,5 @@
 use Rattle.std.proofs.Common.{remove, map, ap, sym, ◌∙◌}
-use Rattle.rv_store.specs.internal.Column.{groups_on}
+use Rattle.rv_program.specs.internal.Briefs.{groups_on}
 use Rattle.rv_store.proofs.Columns.{map-remove}
 use Rattle.rv_store.proofs.column.Column.remove.Goals as goal
 

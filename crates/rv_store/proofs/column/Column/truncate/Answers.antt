@@ -1,6 +1,6 @@
 use Rattle.std.proofs.Common.{take, map, ap, sym, ◌∙◌}
 use Rattle.std.proofs.lemmas.List.{take-map}
-use Rattle.rv_store.specs.internal.Column.{groups_on}
+use Rattle.rv_program.specs.internal.Briefs.{groups_on}
 use Rattle.rv_store.proofs.column.Column.truncate.Goals as goal
 
 pub invariant_of-self : goal.invariant_of-self

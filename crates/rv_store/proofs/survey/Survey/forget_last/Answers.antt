@@ -1,7 +1,5 @@
-use Rattle.std.proofs.Common.{◌≡◌, ◌-◌, suc, [], ◌∷◌, ◌++◌, length, take, drop, vec_len, append-nil, true≢false, arith, ap, sym, ◌∙◌, refl}
-use Rattle.std.proofs.Math.ListN.{drop_of_length-le}
+use Rattle.std.proofs.Common.{◌≡◌, ◌-◌, suc, [], ◌∷◌, ◌++◌, length, take, true≢false, arith, ap, sym, ◌∙◌, refl}
 use Rattle.std.proofs.Math.Seq.{take-append_seam}
-use Rattle.std.proofs.lemmas.List.{take_all}
 use Rattle.rv_list.specs.declared.view.DefinitionPlace.TheVariants.{Nowhere}
 use Rattle.rv_program.specs.internal.MovedDefinitions.{kept_after}
 use Rattle.rv_program.specs.internal.Rows.{in_row}
@@ -24,14 +22,6 @@ returns-clause-symbols c any base lines listed part =
     let same : c.as_slice.result.now ≡ lines ++ line ∷ [] = c.as_slice.ensures ∙ c.forget_equ.ensures.lines.lines ∙ listed in
     let earlier : c.split_at.result.0.now ≡ lines =
     c.split_at.ensures.front ∙ (λ i. take (let k : c.len-number.result - 1 ≡ length lines = omega (arith, number) in k i) (same i)) ∙ take-append_seam lines (line ∷ []) in
-    let row = c.keep_places.new.row in
-    let lent = c.as_mut_slice.ensures.value in
-    let count : length row ≡ length forgotten.definitions.items = c.keep_places.ensures.as_many ∙ ap length lent in
-    let len : vec_len forgotten.definitions ≡ length forgotten.definitions.items = omega (arith, forgotten.definitions.ok.0) in
-    let whole : take (vec_len forgotten.definitions) (row ++ drop (length row) forgotten.definitions.items) ≡ row =
-    ap (λ rest. take (vec_len forgotten.definitions) (row ++ rest)) (drop_of_length-le forgotten.definitions.items (omega (arith, count)))
-    ∙ ap (take (vec_len forgotten.definitions)) (append-nil row) ∙ take_all (vec_len forgotten.definitions) row (omega (arith, count, len)) in
     symbols-forgotten base lines names forgotten _ left
-    (ap (λ r. in_row names r Nowhere) whole ∙ c.keep_places.ensures.row
-    ∙ (λ i. kept_after (Delete (number i)) (earlier i) (in_row names (lent i) Nowhere)))
-    (ap length whole ∙ count) refl refl
+    (c.keep_places.ensures.row ∙ (λ i. kept_after (Delete (number i)) (earlier i) (in_row names forgotten.definitions.items Nowhere)))
+    c.keep_places.ensures.as_many refl refl
