@@ -6,21 +6,20 @@ ghost use Rattle.rv_program.specs.Counted.{counts_of};
 ghost use Rattle.rv_program.specs.Edits.{edit_of, line_before_edit};
 ghost use Rattle.rv_program.specs.Program.{program_of};
 ghost use Rattle.rv_program.specs.Text.{refusal_of, lines_after};
-ghost use Rattle.rv_program.specs.internal.Before.{IsBefore, IsAfter, base_before, lines_before, edit_on};
 ghost use Rattle.rv_program.specs.internal.Former.{AreFormer};
 ghost use Rattle.rv_program.specs.internal.Items.{IsItem, AreItems};
 ghost use Rattle.rv_program.specs.internal.Lines.{lines_of};
 ghost use Rattle.rv_program.specs.internal.Renewals.{changed_through, AreCounted, AreCountedRenewed, AreListed};
-ghost use Rattle.rv_program.specs.internal.Revisions.{edited_text, edited_before, IsRevised};
-ghost use Rattle.rv_program.specs.internal.ValueRows.{AreValueRows, base_of};
+ghost use Rattle.rv_program.specs.internal.Revisions.{edited_text, IsRevised};
+ghost use Rattle.rv_program.specs.internal.ValueRows.{base_of};
 ghost use Rattle.rv_store.specs.internal.Renewed.{edited_by, AreItemsLeft, ArePut};
 ghost use Rattle.rv_store.specs.internal.Surveys.{IsSurvey};
 
 use crate::changed::Changed;
 use crate::survey::Survey;
 use rv_program::{
-    Before, EditError, Item, Line, LineEdit, Lines, NameTable, Revision, ValueRows, due_lines,
-    renewed, renewed_in_one_pass,
+    EditError, Item, Line, LineEdit, Lines, NameTable, Revision, ValueRows, due_lines, renewed,
+    renewed_in_one_pass,
 };
 use rv_text::Count;
 use rv_tree::SumTree;
@@ -92,35 +91,9 @@ pub fn items_passed<C: Count>(
     Ok((passed.inserted(line, item)?, Changed::of(changed)))
 }
 
-/// It is as for `items_passed`, by the rows of the text before the edit and of that after it, which has these lines: those that are due are
-/// looked for. For each jump to a local label among the invalidated lines, one expression more may be computed.
-pub fn items_renewed<C: Count>(
-    alloc: Global,
-    before: &Before<'_, '_>,
-    rows: &ValueRows<'_>,
-    lines: &[Line],
-    items: &SumTree<Item>,
-    counter: &mut C,
-) -> Result<(SumTree<Item>, Changed), EditError>
-    requires before { IsBefore before.now }
-    requires rows { AreValueRows rows.now }
-    requires after { IsAfter before.now rows.now.symbols.text }
-    requires column { lines.now ≡ rows.now.symbols.text.lines.now }
-    requires count { length items.now.items ≡ length rows.now.symbols.text.lines.now }
-    requires former { AreFormer (base_before before.now) (lines_before before.now) (edit_on before.now) 0 items.now.items }
-    requires valued { C.valued_count counter.old + 1001 * length rows.now.symbols.text.lines.now < 2 ^ 64 }
-    requires encoded { C.encoded_count counter.old + length rows.now.symbols.text.lines.now < 2 ^ 64 }
-    ensures items { IfOk result (λ r. AreItems (base_of rows.now) rows.now.symbols.text.lines.now r.0.items) }
-    ensures changed { IfOk result (λ r. r.1.lines ≡ changed_through (edited_before before.now) (length rows.now.symbols.text.lines.now)) }
-    ensures memory { IfErr result (λ e. e ≡ EditError.Memory) }
-    ensures counted { AreCountedRenewed (edited_before before.now) (length rows.now.symbols.text.lines.now) (counts_of C.parsed_count C.valued_count C.encoded_count counter.old) (counts_of C.parsed_count C.valued_count C.encoded_count counter.new) }
-{
-    let due = due_lines(alloc, before, &rows.symbols, lines, counter)?;
-    items_passed(alloc, &before.revision(), rows, items, &due, counter)
-}
-
-/// It is as for `items_renewed`, by the survey of the text before the edit, `old`, whose lines are `old_lines`, and by that of the text after
-/// it, whose lines are `lines`.
+/// It is as for `items_passed`, by the survey of the text before the edit, `old`, whose lines are `old_lines`, and by that of the text after
+/// it, whose lines are `lines`: those that are due are looked for. For each jump to a local label among the invalidated lines, one expression
+/// more may be computed.
 pub fn items_edited<'a, C: Count>(
     alloc: Global,
     base: u32,
@@ -151,7 +124,8 @@ pub fn items_edited<'a, C: Count>(
     let before = old.before(old_lines, base, names, edit);
     let column = Lines::in_column(lines);
     let rows = survey.rows(&column, base, names);
-    items_renewed(alloc, &before, &rows, lines, items, counter)
+    let due = due_lines(alloc, &before, &rows.symbols, lines, counter)?;
+    items_passed(alloc, &before.revision(), &rows, items, &due, counter)
 }
 
 /// It is as for `items_passed`, where a line is put in the place of another one or behind the last one, and others have to do with it by its

@@ -23,7 +23,7 @@ use rv_layout::{Consts, Measured, measure, shapes_are_limited, size_operands_are
 use rv_list::DefinitionPlace;
 use rv_program::lines_of_kind::lines_up_to;
 use rv_program::{
-    Before, Groups, Kind, Line, LineConstants, LineEdit, NameTable, NameTest, SymbolRows, any_name,
+    Before, Groups, Kind, Line, LineConstants, LineEdit, NameTest, SymbolRows, any_name, entry_at,
     room_for, settle_constant,
 };
 use rv_text::Count;
@@ -53,7 +53,8 @@ impl NameTest for ConstantPair<'_, '_> {
     ghost test = { differs_in_constant };
 
     fn passes(&self, name: &[u8]) -> bool {
-        self.given.constant(name) != self.before.constant(self.stood, name)
+        let number = self.given.names.number(name);
+        entry_at(self.given.row, None, number) != self.before.constant_of(self.stood, number)
     }
 }
 
@@ -99,6 +100,7 @@ fn shape_after<C: Count>(
     requires few { length lines.now ≤ MAX_LINES }
     requires within { i < length lines.now }
     requires former { former ≡ former_shape (program_in before.now.symbols.text) (program_of lines.now) (edit_on before.now) (i + 1) }
+    requires names { given.now.names.now ≡ before.now.symbols.text.names.now }
     requires constants { AreConstants (program_of lines.now) i given.now.names.now given.now.row.now }
     requires valued { C.valued_count counter.old < 2 ^ 64 - 1 }
     ensures shape { result ≡ shape_at (program_of lines.now) (i + 1) }
@@ -178,7 +180,6 @@ fn settle_line<C: Count>(
     before: &Before<'_, '_>,
     lines: &[Line],
     i: usize,
-    names: &NameTable,
     definitions: &[DefinitionPlace],
     rows: &mut ShapeRows,
     counter: &mut C,
@@ -187,15 +188,15 @@ fn settle_line<C: Count>(
     requires after { lines.now ≡ lines_after (lines_before before.now) (edit_on before.now) }
     requires few { length lines.now ≤ MAX_LINES }
     requires within { i < length lines.now }
-    requires definitions { AreDefinitions (program_of lines.now) names.now definitions.now }
+    requires definitions { AreDefinitions (program_of lines.now) before.now.symbols.text.names.now definitions.now }
     requires shapes { i < length rows.old.shapes.items }
     requires former { (other : Measured) → get_or rows.old.shapes.items i other ≡ former_shape (program_in before.now.symbols.text) (program_of lines.now) (edit_on before.now) (i + 1) }
     requires as_many { length rows.old.constants.items ≡ length definitions.now }
-    requires constants { AreConstants (program_of lines.now) i names.now rows.old.constants.items }
+    requires constants { AreConstants (program_of lines.now) i before.now.symbols.text.names.now rows.old.constants.items }
     requires valued { C.valued_count counter.old < 2 ^ 64 - 2 }
     ensures shapes { rows.new.shapes.items ≡ set rows.old.shapes.items i (shape_at (program_of lines.now) (i + 1)) }
     ensures limited { IsLimited (shape_at (program_of lines.now) (i + 1)) }
-    ensures constants { AreConstants (program_of lines.now) (i + 1) names.now rows.new.constants.items }
+    ensures constants { AreConstants (program_of lines.now) (i + 1) before.now.symbols.text.names.now rows.new.constants.items }
     ensures as_many { length rows.new.constants.items ≡ length definitions.now }
     ensures same { rows.new.same ≡ true → (rows.old.same ≡ true) × (rows.new.shapes.items ≡ rows.old.shapes.items) }
     ensures least { C.valued_count counter.old ≤ C.valued_count counter.new }
@@ -206,6 +207,7 @@ fn settle_line<C: Count>(
     ensures parsed { C.parsed_count counter.new ≡ C.parsed_count counter.old }
     ensures encoded { C.encoded_count counter.new ≡ C.encoded_count counter.old }
 {
+    let names = before.symbols.text.names;
     let given = LineConstants {
         names,
         row: rows.constants.as_slice(),
@@ -248,7 +250,6 @@ pub fn shapes<C: Count>(
     ensures parsed { C.parsed_count counter.new ≡ C.parsed_count counter.old }
     ensures encoded { C.encoded_count counter.new ≡ C.encoded_count counter.old }
 {
-    let names = before.symbols.text.names;
     let constants = vec![in alloc; None; definitions.len()]?;
     let shapes = former_shapes(alloc, before, lines.len(), shape)?;
     let mut rows = ShapeRows {
@@ -258,7 +259,7 @@ pub fn shapes<C: Count>(
     };
     let mut i = lines_up_to(groups, 0, Kind::Shaped);
     while i < lines.len() {
-        settle_line(before, lines, i, names, definitions, &mut rows, counter);
+        settle_line(before, lines, i, definitions, &mut rows, counter);
         i = lines_up_to(groups, i + 1, Kind::Shaped);
     }
     Ok(rows)
