@@ -1,8 +1,7 @@
 -- Which lines are due after an edit, and the row of those lines.
-use Rattle.std.proofs.Common.{◌≡◌, ℕ, ℤ, suc, ◌+◌, ◌≤◌, Bool, true, false, not, ◌&&◌, ◌||◌, List, [], ◌∷◌, ◌++◌, length, map, if◌then◌else◌, Option, Some, None, is_some, Ok, arith, ap, subst, sym, ◌∙◌, refl}
+use Rattle.std.proofs.Common.{◌≡◌, ℕ, ℤ, ◌≤◌, Bool, true, false, not, ◌&&◌, ◌||◌, List, [], ◌∷◌, length, map, if◌then◌else◌, Option, Some, None, is_some, Ok, ap, sym, ◌∙◌, refl}
 use Rattle.std.specs.List.{list_any}
 use Rattle.std.proofs.lemmas.Bool.{not_from_true, or_right, or_from}
-use Rattle.std.proofs.lemmas.List.{append-nil}
 use Rattle.rv_stmt.specs.declared.directive.Definition.{Definition}
 use Rattle.rv_expr.specs.Tree as Tree
 use Rattle.rv_expr.specs.Value.{Environment, value_of}
@@ -29,7 +28,7 @@ use Rattle.rv_program.specs.Edits.{line_before_edit}
 use Rattle.rv_program.specs.Jumps.{label_in, target_in, target_among, target_of, distance}
 use Rattle.rv_program.specs.Layout.{shape_at, address_at}
 use Rattle.rv_program.specs.Pairs.{names_at}
-use Rattle.rv_program.specs.Program.{Program, program_of, body_at, lines_that}
+use Rattle.rv_program.specs.Program.{Program, program_of, body_at}
 use Rattle.rv_program.specs.Sameness.{same_entry, same_values}
 use Rattle.rv_program.specs.Text.{Edit, refusal_of, lines_after}
 use Rattle.rv_program.specs.internal.TextRows.{program_in}
@@ -172,20 +171,3 @@ module _ (base : ℕ) (lines : List (List ℕ)) (edit : Edit) (k : ℕ) where
       at : (compared : Bool) → false ≡ (if compared then is_reencoded base lines edit k else is_invalidated base lines edit k)
       at true = sym (not_reencoded base lines edit k allowed first last valid)
       at false = sym valid
-
--- The row of due lines
-
-module _ (test : ℕ → Bool) (n : ℕ) (row : List ℕ) (so_far : row ≡ lines_that test n) where
-  next-line : lines_that test (n + 1) ≡ lines_that test n ++ (if test (n + 1) then (n + 1) ∷ [] else [])
-  next-line =
-      subst (λ m. lines_that test m ≡ lines_that test n ++ (if test m then m ∷ [] else [])) (let e : suc n ≡ n + 1 = omega arith in e) refl
-
-  -- the next line passes
-  pub row-added : test (n + 1) ≡ true → row ++ (n + 1) ∷ [] ≡ lines_that test (n + 1)
-  row-added passes =
-      ap (λ r. r ++ (n + 1) ∷ []) so_far ∙ sym (next-line ∙ ap (λ b. lines_that test n ++ (if b then (n + 1) ∷ [] else [])) passes)
-
-  -- it does not
-  pub row-kept : test (n + 1) ≡ false → row ≡ lines_that test (n + 1)
-  row-kept fails =
-      so_far ∙ sym (next-line ∙ ap (λ b. lines_that test n ++ (if b then (n + 1) ∷ [] else [])) fails ∙ append-nil (lines_that test n))

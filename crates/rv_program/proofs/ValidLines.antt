@@ -1,31 +1,39 @@
 -- Lines that an edit does not invalidate, by their briefs.
-use Rattle.std.proofs.Common.{◌≡◌, ℕ, ◌≤◌, Bool, true, false, not, true≢false, ◌&&◌, ◌||◌, List, [], ◌∷◌, length, Option, Some, None, ap, sym, ◌∙◌, refl}
+use Rattle.std.proofs.Common.{◌≡◌, ℕ, ◌+◌, ◌-◌, ◌%◌, ◌<◌, ◌≤◌, Bool, true, false, ◌&&◌, ◌||◌, List, [], length, map, get_or, Option, Some, None, arith, ap, sym, subst, ◌∙◌, refl}
 use Rattle.std.specs.List.{list_any}
 use Rattle.std.proofs.lemmas.Bool.{or_parts}
+use Rattle.std.proofs.lemmas.List.{get_or_default, get_or-map}
 use Rattle.rv_stmt.specs.declared.statement.Body.{Body}
+use Rattle.rv_stmt.specs.Statement.{statement_of}
 use Rattle.rv_program.specs.declared.before.Before.{Before}
 use Rattle.rv_program.specs.declared.brief.Brief.{Brief}
+use Rattle.rv_program.specs.declared.groups.Groups.{Groups}
+use Rattle.rv_program.specs.declared.groups.Kind.{Kind}
+use Rattle.rv_program.specs.declared.groups.Kind.TheVariants.{Addressed, Uncompared}
 use Rattle.rv_program.specs.declared.text_rows.TextRows.{TextRows}
-use Rattle.rv_program.specs.internal.Before.{IsBefore, IsAfter, base_before, lines_before, edit_on}
-use Rattle.rv_program.specs.internal.Briefs.{brief_of}
-use Rattle.rv_program.specs.Changes.{differs_in_name, differs_in_place, is_invalidated}
-use Rattle.rv_program.specs.internal.Differing.{HasDiffering}
-use Rattle.rv_program.specs.Edits.{line_before_edit}
+use Rattle.rv_program.specs.internal.Before.{IsBefore, IsAfter, AreStill, base_before, lines_before, edit_on}
+use Rattle.rv_program.specs.internal.Briefs.{brief_of, groups_on}
+use Rattle.rv_program.specs.Changes.{differs_in_name, differs_in_place, is_invalidated, is_due}
+use Rattle.rv_program.specs.internal.Differing.{HasDiffering, HasDueGroups}
+use Rattle.rv_program.specs.Edits.{line_before_edit, place_of_edit}
+use Rattle.rv_program.specs.internal.Groups.{no_groups, kind_bit, has_kind, SharesNone}
+use Rattle.rv_program.specs.internal.LinesWithout.{is_of_kind, AreOthers}
 use Rattle.rv_program.specs.internal.NameSets.{Marks, brief_of_names, has_bucket, may_have, IsOutside}
-use Rattle.rv_program.specs.Program.{Program, statement_at, body_at}
+use Rattle.rv_program.specs.Program.{Program, program_of, statement_at, body_at}
 use Rattle.rv_program.specs.internal.TextRows.{program_in}
-use Rattle.rv_program.specs.Uses.{names_used, uses_symbols, uses_address, uses_local_label, uses_paired_high, is_equ}
+use Rattle.rv_program.specs.Uses.{names_used, uses_address, uses_local_label, uses_paired_high, is_equ}
 use Rattle.rv_program.proofs.DifferingNames.{differing-on}
+use Rattle.rv_program.proofs.DueLines.{due-valid}
 use Rattle.rv_program.proofs.LinePairLaws.{same-by_brief, invalidated-by_uses}
+use Rattle.rv_program.specs.lemmas.GroupLaws.{kind-below}
+use Rattle.rv_program.specs.lemmas.LineGroups.{count-groups, kind-on, unused-group}
+use Rattle.rv_program.specs.lemmas.LocalLines.{statement-of-line}
 use Rattle.rv_program.specs.lemmas.NameSetLaws.{none-passes}
+use Rattle.rv_program.specs.lemmas.NewShapeLaws.{new-place}
 
-not-true : (b : Bool) → not b ≡ true → b ≡ false
-not-true false h = refl
-not-true true h = absurd (true≢false (sym h))
-
-no-names : (names : List (List ℕ)) → list_any (λ name. true) names ≡ false → names ≡ []
-no-names [] none = refl
-no-names (n ∷ ns) none = absurd (true≢false none)
+and_false : (a : Bool) {b : Bool} → b ≡ false → (a && b) ≡ false
+and_false true none = none
+and_false false none = refl
 
 module _ (before : Before) (after : TextRows) (line : ℕ) (is : IsBefore before) (is_after : IsAfter before after) (first : 1 ≤ line) (last : line ≤ length after.lines.now) (set : Marks) (has : HasDiffering (base_before before) (lines_before before) (edit_on before) set) (brief : Brief) (of_line : brief ≡ brief_of (statement_at (program_in after) line)) where
   -- a line that stayed, and uses no symbol that differs, nor its own address where it moved, nor what is not compared
@@ -60,15 +68,43 @@ module _ (before : Before) (after : TextRows) (line : ℕ) (is : IsBefore before
           invalidated-by_uses before after line stood is is_after first last stands
           ∙ same-by_brief (base_before before) old new line stood body names unmoved compared_body
 
-  -- a line that stayed, and uses no symbol, nor its own address, nor what is not compared
-  pub valid-by_plain : (line_before_edit (edit_on before) line ≡ None → ⊥) → brief.plain ≡ true → is_invalidated (base_before before) (lines_before before) (edit_on before) line ≡ false
-  valid-by_plain stays plain =
-      let body = body_at (program_in after) line in
-      let uncompared = uses_local_label body || uses_paired_high body || is_equ body in
-      let nothing : (uses_symbols body || uses_address body || uncompared) ≡ false = not-true _ (sym (ap (λ b. b.plain) of_line) ∙ plain) in
-      let others = or_parts (uses_symbols body || uses_address body) uncompared nothing in
-      let both = or_parts (uses_symbols body) (uses_address body) others.0 in
-      let names : names_used body ≡ [] = no-names (names_used body) both.0 in
-      valid-by_brief stays (ap (λ b. b.uncompared) of_line ∙ others.1)
-      (λ bucket has. ap (λ b. may_have b.names bucket) of_line ∙ ap (λ ns. may_have (brief_of_names ns) bucket) names)
-      (λ stood stands. ap (λ used. used && differs_in_place (base_before before) (program_in before.symbols.text) (program_in after) line stood) (ap (λ b. b.address) of_line ∙ both.1))
+  -- a line that stayed, and is in none of the groups of those that may be due
+  pub valid-by_groups : (text : List ℕ) → statement_at (program_in after) line ≡ statement_of text → (still : Bool) (wanted : Groups) → HasDueGroups set still wanted → SharesNone wanted (groups_on text) → (still ≡ true → AreStill before after) → (line_before_edit (edit_on before) line ≡ None → ⊥) → is_invalidated (base_before before) (lines_before before) (edit_on before) line ≡ false
+  valid-by_groups text statement still wanted due apart unmoved stays =
+      valid-by_brief stays (ap (λ b. b.uncompared) is_brief ∙ without Uncompared due.uncompared)
+      (λ bucket has. ap (λ b. may_have b.names bucket) is_brief ∙ unused-group text bucket (apart (bucket % 59) (omega arith) (due.names bucket has)))
+      (at still refl)
+    where
+      is_brief : brief ≡ brief_of (statement_of text)
+      is_brief = of_line ∙ ap brief_of statement
+
+      without : (kind : Kind) → has_kind wanted kind ≡ true → is_of_kind kind (statement_of text).body ≡ false
+      without kind is = sym (kind-on text kind) ∙ apart (kind_bit kind) (kind-below kind) is
+
+      at : (b : Bool) → still ≡ b → (stood : ℕ) → line_before_edit (edit_on before) line ≡ Some stood → (brief.address && differs_in_place (base_before before) (program_in before.symbols.text) (program_in after) line stood) ≡ false
+      at false moved stood stands =
+          ap (λ used. used && differs_in_place (base_before before) (program_in before.symbols.text) (program_in after) line stood)
+          (ap (λ b. b.address) is_brief ∙ without Addressed (due.addressed moved))
+      at true same stood stands = and_false brief.address (unmoved same line stood first last stands)
+
+-- Lines in none of the groups of those that may be due
+
+module _ (before : Before) (after : TextRows) (lines : List (List ℕ)) (groups : List Groups) (still : Bool) (wanted : Groups) (set : Marks) (is : IsBefore before) (is_after : IsAfter before after) (column : lines ≡ after.lines.now) (are : groups ≡ map groups_on lines) (unmoved : still ≡ true → AreStill before after) (has : HasDiffering (base_before before) (lines_before before) (edit_on before) set) (due : HasDueGroups set still wanted) where
+  -- none of them is due, but for the one that the edit puts in
+  pub due-apart : (i j : ℕ) → j ≤ length groups → AreOthers groups wanted i j → ((k : ℕ) → i ≤ k → k < j → k + 1 ≡ place_of_edit (edit_on before) → ⊥) → (line : ℕ) → i < line → line ≤ j → is_due (base_before before) (lines_before before) (edit_on before) line ≡ false
+  due-apart i j last others apart line past within =
+      let k = line - 1 in
+      let next : k + 1 ≡ line = omega (arith, past) in
+      let few : k < length lines = omega (arith, past, within, last, count-groups lines groups are) in
+      let text = get_or lines k [] in
+      let first : 1 ≤ line = omega (arith, past) in
+      let inside : line ≤ length after.lines.now = omega (arith, few, ap length column, next) in
+      let statement : statement_at (program_in after) line ≡ statement_of text =
+      ap (λ ls. statement_at (program_of ls) line) (sym column)
+      ∙ ap (statement_at (program_of lines)) (sym next)
+      ∙ statement-of-line lines k text few (get_or_default lines k [] text few) in
+      let there : get_or groups k no_groups ≡ groups_on text = ap (λ gs. get_or gs k no_groups) are ∙ get_or-map groups_on lines k [] no_groups few in
+      let valid = valid-by_groups before after line is is_after first inside set has (brief_of (statement_at (program_in after) line)) refl text statement still wanted due
+      (subst (SharesNone wanted) there (others k (omega (arith, past)) (omega (arith, past, within)))) unmoved
+      (λ new. apart k (omega (arith, past)) (omega (arith, past, within)) (next ∙ new-place (edit_on before) line new)) in
+      sym (due-valid (base_before before) (lines_before before) (edit_on before) line is.allowed first (subst (λ ls. line ≤ length ls) is_after.lines inside) valid)

@@ -13,8 +13,9 @@ pub mod GroupLaws
 pub mod ItemLaws
 pub mod KeptLines
 pub mod KeptShapes
-pub mod LineNameLaws
 pub mod LineGroups
+pub mod LineNameLaws
+pub mod LineRows
 pub mod Lists
 pub mod LocalLines
 pub mod MovedDefinitionLaws

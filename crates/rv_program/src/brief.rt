@@ -38,8 +38,6 @@ pub struct Brief {
     pub jump: bool,
     /// It uses a local label or `%pcrel_lo`, or is an `.equ`: such a line counts as invalidated whatever these give.
     pub uncompared: bool,
-    /// It uses no symbol and not its own address, nor is it uncompared: it is invalidated only where it is new.
-    pub plain: bool,
 }
 
 impl Brief {
@@ -62,7 +60,6 @@ impl Brief {
             address,
             jump: target(body).is_some(),
             uncompared,
-            plain: is_plain(symbols, address, uncompared),
         }
     }
 
@@ -82,14 +79,9 @@ impl Brief {
             .with_kind(Kind::Equ, self.equ)
             .with_kind(Kind::PcrelHigh, self.pcrel_high)
             .with_kind(Kind::Shaped, self.is_shaped())
+            .with_kind(Kind::Addressed, self.address)
+            .with_kind(Kind::Uncompared, self.uncompared)
     }
-}
-
-// Whether a line is none of this.
-fn is_plain(symbols: bool, address: bool, uncompared: bool) -> bool
-    ensures { result ≡ not (symbols || address || uncompared) }
-{
-    !symbols && !address && !uncompared
 }
 
 // Whether a line uses a local label or `%pcrel_lo`, or is an `.equ`.

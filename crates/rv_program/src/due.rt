@@ -1,14 +1,15 @@
 //! Which lines are due after an edit: what is kept of them is made anew.
 
-ghost use Rattle.std.specs.Prelude.{◌≡◌, ◌≤◌, ◌<◌, ◌+◌, ◌-◌, ◌^◌, not, true, false, Some, length, IfOk, IsTrue};
+ghost use Rattle.std.specs.Prelude.{◌≡◌, ◌≤◌, ◌<◌, ◌+◌, ◌-◌, ◌^◌, ℕ, not, true, false, Some, length, map, IfOk, IsTrue};
 ghost use Rattle.rv_stmt.specs.declared.statement.Body.TheVariants.{Equ as EquBody};
-ghost use Rattle.rv_program.specs.internal.Before.{IsBefore, IsAfter, base_before, lines_before, edit_on};
-ghost use Rattle.rv_program.specs.internal.Briefs.{brief_of};
+ghost use Rattle.rv_program.specs.internal.Before.{IsBefore, IsAfter, AreStill, base_before, lines_before, edit_on};
+ghost use Rattle.rv_program.specs.internal.Briefs.{brief_of, groups_on};
 ghost use Rattle.rv_program.specs.Changes.{is_reencoded, is_due};
 ghost use Rattle.rv_program.specs.Codes.{values_of_body};
 ghost use Rattle.rv_program.specs.internal.Compared.{IsCompared, AreCompared};
 ghost use Rattle.rv_program.specs.Counted.{counts_of};
-ghost use Rattle.rv_program.specs.internal.Differing.{HasDiffering};
+ghost use Rattle.rv_program.specs.internal.Differing.{HasDiffering, HasDueGroups};
+ghost use Rattle.rv_program.specs.internal.LinesWithout.{AreOthers};
 ghost use Rattle.rv_program.specs.Jumps.{target_of};
 ghost use Rattle.rv_program.specs.Program.{statement_at, body_at};
 ghost use Rattle.rv_program.specs.Sameness.{same_values};
@@ -19,10 +20,12 @@ ghost use Rattle.rv_program.specs.internal.TextRows.{program_in};
 use crate::before::Before;
 use crate::brief::Brief;
 use crate::differing::differing_names;
+use crate::groups::{Groups, Kind};
 use crate::invalidation::{is_invalidated, may_be_invalidated};
 use crate::jumps::{differs_in_distance, differs_in_local_distance, rise};
 use crate::line::Line;
 use crate::line_values::symbol_value;
+use crate::lines_of_kind::lines_up_to_groups;
 use crate::name_set::NameSet;
 use crate::symbol_rows::SymbolRows;
 use crate::text_lines::{brief_on, equ_on, target_on};
@@ -195,8 +198,33 @@ fn is_due_by_brief<C: Count>(
     !is_carried(before, after, differing, line) && is_due(before, after, differing, line, counter)
 }
 
+// The groups of the lines that may be due, but for a new one: those that use a symbol of a set, or what is not compared, or their own
+// address, but that only where lines moved.
+fn due_groups(differing: &NameSet, still: bool) -> Groups
+    ensures { HasDueGroups differing.now still result }
+{
+    differing
+        .groups()
+        .with_kind(Kind::Uncompared, true)
+        .with_kind(Kind::Addressed, !still)
+}
+
+// How many lines there are before the next one behind the first `i` that is in one of the wanted groups, or stands at the place of the edit.
+fn lines_up_to_due(groups: &[Groups], i: usize, wanted: Groups, place: u32) -> usize
+    requires within { i ≤ length groups.now }
+    ensures up { i ≤ result }
+    ensures within { result ≤ length groups.now }
+    ensures passed { AreOthers groups.now wanted i result }
+    ensures apart { (k : ℕ) → i ≤ k → k < result → k + 1 ≡ place → ⊥ }
+{
+    let next = lines_up_to_groups(groups, i, wanted);
+    let edited = (place as usize).saturating_sub(1);
+    if i <= edited { next.min(edited) } else { next }
+}
+
 /// The lines of the text after an edit that are due, rising: the edit invalidates each of them, and all others keep their values and their
-/// shape. The text has these lines.
+/// shape. The text has these lines, of these groups; `still` is only true where each line is where it was. Lines whose groups say that they
+/// are not due are gone past.
 ///
 /// The counter's number of expressions computed rises by one for each jump to a local label that stood in the text before: the distance of
 /// the label is computed in both texts.
@@ -209,23 +237,31 @@ pub fn due_lines<C: Count>(
     before: &Before<'_, '_>,
     after: &SymbolRows<'_>,
     lines: &[Line],
+    groups: &[Groups],
+    still: bool,
     counter: &mut C,
 ) -> Result<Vec<u32>, AllocError>
     requires before { IsBefore before.now }
     requires rows { AreSymbolRows after.now }
     requires after { IsAfter before.now after.now.text }
     requires column { lines.now ≡ after.now.text.lines.now }
+    requires groups { groups.now ≡ map groups_on lines.now }
+    requires still { still ≡ true → AreStill before.now after.now.text }
     requires count { C.valued_count counter.old + length after.now.text.lines.now < 2 ^ 64 }
     ensures due { IfOk result (λ row. AreDue (edited_before before.now) (length after.now.text.lines.now) row.items) }
     ensures compared { AreCompared (edited_before before.now) (length after.now.text.lines.now) (counts_of C.parsed_count C.valued_count C.encoded_count counter.old) (counts_of C.parsed_count C.valued_count C.encoded_count counter.new) }
 {
     let differing = differing_names(alloc, before, after)?;
+    let wanted = due_groups(&differing, still);
+    let place = before.edit.place();
     let mut row = Vec::new(alloc);
-    for (i, line) in lines.iter().enumerate() {
-        let number = i as u32 + 1;
-        if is_due_by_brief(before, after, &differing, line.brief(), number, counter) {
-            row.push(number)?;
+    let mut i = lines_up_to_due(groups, 0, wanted, place);
+    'lines: while i < lines.len() {
+        let line = i as u32 + 1;
+        if is_due_by_brief(before, after, &differing, lines[i].brief(), line, counter) {
+            row.push(line)?;
         }
+        i = lines_up_to_due(groups, i + 1, wanted, place);
     }
     Ok(row)
 }

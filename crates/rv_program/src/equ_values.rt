@@ -71,9 +71,9 @@ pub fn settle_equ<C: Count>(text: &TextRows<'_>, i: usize, row: &mut Vec<Entry>,
     row[number] = value_on(text, row, line, definition, counter);
 }
 
-/// The values of the `.equ`s of a text, by the numbers of their names. `groups` are those of its lines. The counter's number of expressions computed rises by at most
-/// the operands of the `.equ`s. Fails only where there is no memory, before anything is computed. Lines without an `.equ` are
-/// gone past.
+/// The values of the `.equ`s of a text, by the numbers of their names. `groups` are those of its lines. The counter's number of
+/// expressions computed rises by at most the operands of the `.equ`s. Fails only where there is no memory, before anything is
+/// computed. Lines without an `.equ` are gone past.
 pub fn equ_values<C: Count>(
     alloc: Global,
     text: &TextRows<'_>,

@@ -1,10 +1,7 @@
 //! What a line has to do with other lines, in a few bits: a loop over the lines goes past blocks of them by these alone.
 
 ghost use Rattle.std.specs.Prelude.{◌≡◌, ◌%◌, ◌<◌, IsTrue};
-ghost use Rattle.rv_program.specs.internal.Groups.{bits_of, groups_of, no_groups, every_group, with_bit, has_bit, with_group, has_group, kind_bit, with_kind, has_kind, groups_together, share_group};
-
-/// How many lines a search takes together.
-pub const BLOCK: usize = 32;
+ghost use Rattle.rv_program.specs.internal.Groups.{bits_of, groups_of, no_groups, every_group, with_bit, has_bit, with_group, has_group, kind_bit, with_kind, of_kind, groups_together, share_group};
 
 /// What a loop over the lines looks for.
 #[derive(Clone, Copy)]
@@ -15,9 +12,13 @@ pub enum Kind {
     PcrelHigh,
     /// An `.equ`, or a line whose shape follows from symbols: it has a part in the constants.
     Shaped,
+    /// A line that uses its own address.
+    Addressed,
+    /// A line that uses a local label or `%pcrel_lo`, or is an `.equ`: each edit invalidates it.
+    Uncompared,
 }
 
-/// The groups that a line is in, of which there are 64, a bit for each: 61 for the buckets of the names that it uses, and one for each kind
+/// The groups that a line is in, of which there are 64, a bit for each: 59 for the buckets of the names that it uses, and one for each kind
 /// of line. They stand in two halves, since a line has them, and has no room for the alignment of a whole.
 #[derive(Clone, Copy)]
 pub struct Groups {
@@ -27,9 +28,9 @@ pub struct Groups {
 
 // The number of the bit of a bucket.
 fn bit_of(bucket: u16) -> u32
-    ensures { result ≡ bucket % 61 }
+    ensures { result ≡ bucket % 59 }
 {
-    u32::from(bucket % 61)
+    u32::from(bucket % 59)
 }
 
 // The number of the bit of a kind.
@@ -38,9 +39,11 @@ fn kind_bit(kind: Kind) -> u32
     ensures below { result < 64 }
 {
     match kind {
-        Kind::Equ => 61,
-        Kind::PcrelHigh => 62,
-        Kind::Shaped => 63,
+        Kind::Equ => 59,
+        Kind::PcrelHigh => 60,
+        Kind::Shaped => 61,
+        Kind::Addressed => 62,
+        Kind::Uncompared => 63,
     }
 }
 
@@ -51,6 +54,15 @@ fn groups_of(bits: u64) -> Groups
     Groups {
         low: (bits % 0x1_0000_0000) as u32,
         high: (bits / 0x1_0000_0000 % 0x1_0000_0000) as u32,
+    }
+}
+
+impl Kind {
+    /// The group of the lines of this kind.
+    pub fn groups(self) -> Groups
+        ensures { result ≡ of_kind self }
+    {
+        Groups::none().with_kind(self, true)
     }
 }
 
@@ -103,10 +115,10 @@ impl Groups {
     }
 
     /// These and that of a kind, for a line that is of it.
-    pub fn with_kind(self, kind: Kind, is: bool) -> Groups
-        ensures { result ≡ with_kind self kind is }
+    pub fn with_kind(self, kind: Kind, is_of_kind: bool) -> Groups
+        ensures { result ≡ with_kind self kind is_of_kind }
     {
-        if is {
+        if is_of_kind {
             self.with_bit(kind_bit(kind))
         } else {
             self
@@ -140,14 +152,6 @@ impl Groups {
         ensures { result ≡ has_group self bucket }
     {
         self.has_bit(bit_of(bucket))
-    }
-
-    /// Whether they are those of a line of a kind.
-    #[inline]
-    pub fn has_kind(self, kind: Kind) -> bool
-        ensures { result ≡ has_kind self kind }
-    {
-        self.has_bit(kind_bit(kind))
     }
 
     /// Whether one of them is one of the others.

@@ -150,8 +150,8 @@ fn high_after<C: Count>(
     high_on(&after.text, after.equ_values, line, counter)
 }
 
-/// The high half on each line of the text after an edit, the lines of which have these groups. Lines without `%pcrel_hi` are gone past; where there
-/// are no others, the row is empty.
+/// The high half on each line of the text after an edit, the lines of which have these groups. Lines without `%pcrel_hi` are
+/// gone past; where there are no others, the row is empty.
 ///
 /// The counter's number of expressions computed rises by at most the high halves on the lines that the edit invalidates,
 /// whatever the outcome.

@@ -152,13 +152,6 @@ impl NameSet {
         }
     }
 
-    /// Whether it has no name.
-    pub fn is_empty(&self) -> bool
-        ensures { IsTrue result → (bucket : ℕ) → has_bucket self.now bucket ≡ false }
-    {
-        self.groups.are_none()
-    }
-
     // What is true of the names of a bucket.
     #[inline]
     fn mark(&self, bucket: u16) -> Mark
@@ -179,6 +172,13 @@ impl NameSet {
         ensures { result ≡ has_bucket self.now bucket }
     {
         self.mark(bucket).differs()
+    }
+
+    /// The groups of its names, and maybe others.
+    pub fn groups(&self) -> Groups
+        ensures { (bucket : ℕ) → has_bucket self.now bucket ≡ true → has_group result bucket ≡ true }
+    {
+        self.groups
     }
 
     /// Whether it may have names of these groups.

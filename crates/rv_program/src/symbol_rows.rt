@@ -86,12 +86,4 @@ impl SymbolRows<'_> {
             DefinitionPlace::Equ(_) => None,
         }
     }
-
-    /// The constant that a symbol is on a line, if it is one there.
-    pub fn constant(&self, line: u32, name: &[u8]) -> Option<i64>
-        requires { AreSymbolRows self.now }
-        ensures { result ≡ constant_of (program_in self.now.text) line name.now }
-    {
-        self.constant_of(line, self.text.names.number(name))
-    }
 }

@@ -1,9 +1,9 @@
 -- Lines with which no line of a text has to do: what they add, and who uses it.
-use Rattle.std.proofs.Common.{◌≡◌, ℕ, zero, suc, ◌+◌, ◌-◌, ◌%◌, ◌<◌, ◌≤◌, ◌⊎◌, inl, inr, Bool, true, false, not, ◌&&◌, ◌||◌, List, [], ◌∷◌, ◌++◌, length, map, take, drop, get_or, bytes_eq, None, if◌then◌else◌, append-nil, true≢false, arith, ap, sym, subst, ◌∙◌, refl}
+use Rattle.std.proofs.Common.{◌≡◌, ℕ, suc, ◌+◌, ◌-◌, ◌%◌, ◌<◌, ◌≤◌, ◌⊎◌, inl, inr, Bool, true, false, not, ◌&&◌, ◌||◌, List, [], ◌∷◌, ◌++◌, length, map, get_or, bytes_eq, None, if◌then◌else◌, true≢false, arith, ap, sym, subst, ◌∙◌, refl}
 use Rattle.std.specs.List.{list_any}
 use Rattle.std.proofs.Math.Path.{fun_ext}
 use Rattle.std.proofs.lemmas.Bool.{cases_lt, lt-ltb, le-ltb}
-use Rattle.std.proofs.lemmas.List.{length-map, get_or-map}
+use Rattle.std.proofs.lemmas.List.{get_or-map}
 use Rattle.std.proofs.lemmas.Slice.Eq.{bytes_eq-Decides}
 use Rattle.rv_stmt.specs.declared.statement.Stmt.{Stmt}
 use Rattle.rv_stmt.specs.LabelNames.{Label}
@@ -11,14 +11,15 @@ use Rattle.rv_stmt.specs.Statement.{statement_of}
 use Rattle.rv_list.specs.declared.view.DefinitionPlace.{DefinitionPlace}
 use Rattle.rv_list.specs.declared.view.DefinitionPlace.TheVariants.{Nowhere, Label as ByLabel, Equ}
 use Rattle.rv_store.specs.declared.apart.LineBehind.{LineBehind}
-use Rattle.rv_store.specs.internal.Apart.{added_by}
+use Rattle.rv_store.specs.internal.Apart.{added_by, HasGroupOf}
+use Rattle.rv_program.specs.declared.groups.Groups.{Groups}
 use Rattle.rv_program.specs.internal.Briefs.{groups_on}
 use Rattle.rv_store.specs.internal.Appended.{adds, is_earlier, TellEarlier, adds_by_rows, IsApart}
 use Rattle.rv_program.specs.internal.Defining.{IsOn}
 use Rattle.rv_program.specs.Definitions.{defines_symbol, place_among_labels, place_in_body, or_place, place_in_statement, definition_of, is_defined}
 use Rattle.rv_program.specs.internal.Locals.{has_local_labels}
-use Rattle.rv_program.specs.internal.NameSets.{Marks, Has, bucket_of, brief_of_names, has_bucket, may_have}
-use Rattle.rv_program.specs.internal.Groups.{groups_together, no_groups, has_group}
+use Rattle.rv_program.specs.internal.Groups.{no_groups, has_group, SharesNone}
+use Rattle.rv_program.specs.internal.LinesWithout.{AreOthers}
 use Rattle.rv_program.specs.Pairs.{pcrel_high_of}
 use Rattle.rv_program.specs.Program.{Program, program_of, no_statement, body_at, lines_that}
 use Rattle.rv_program.specs.internal.Rows.{in_row, AreDefinitions}
@@ -29,35 +30,31 @@ use Rattle.rv_store.proofs.StillLaws.{lines_that-still}
 use Rattle.rv_program.specs.lemmas.DefinitionLaws.{IsWithin, statement-within, definition-within}
 use Rattle.rv_program.specs.lemmas.DefinitionParts.{within-on}
 use Rattle.rv_program.specs.lemmas.LocalLines.{none-among}
-use Rattle.rv_program.specs.lemmas.GroupLaws.{block-lacks}
-use Rattle.rv_program.specs.lemmas.LineGroups.{unused-group}
+use Rattle.rv_program.specs.lemmas.LineGroups.{count-groups, unused-group}
 use Rattle.rv_program.specs.lemmas.NameSetLaws.{none-passes}
 use Rattle.rv_program.specs.lemmas.Programs.{length-program}
 
 -- a line whose groups no added name is in uses none
-only_in : (behind : LineBehind) (set : Marks) → ((name : List ℕ) → added_by behind name ≡ true → Has set name) → (name : List ℕ) → (has_bucket set (bucket_of name) ≡ true) ⊎ (added_by behind name ≡ false)
-only_in behind set has name = at (added_by behind name) refl
+only_in : (behind : LineBehind) (added : Groups) → ((name : List ℕ) → added_by behind name ≡ true → HasGroupOf name added) → (name : List ℕ) → HasGroupOf name added ⊎ (added_by behind name ≡ false)
+only_in behind added has name = at (added_by behind name) refl
   where
-    at : (b : Bool) → added_by behind name ≡ b → (has_bucket set (bucket_of name) ≡ true) ⊎ (added_by behind name ≡ false)
+    at : (b : Bool) → added_by behind name ≡ b → HasGroupOf name added ⊎ (added_by behind name ≡ false)
     at true e = inl (has name e)
     at false e = inr e
 
-pub unused-by_buckets : (behind : LineBehind) (set : Marks) (names : List (List ℕ)) → ((name : List ℕ) → added_by behind name ≡ true → Has set name) → ((bucket : ℕ) → has_bucket set bucket ≡ true → may_have (brief_of_names names) bucket ≡ false) → list_any (added_by behind) names ≡ false
-unused-by_buckets behind set names has apart = none-passes (has_bucket set) (added_by behind) (only_in behind set has) names apart
+unused-by_groups : (behind : LineBehind) (added : Groups) (line : List ℕ) → ((name : List ℕ) → added_by behind name ≡ true → HasGroupOf name added) → SharesNone added (groups_on line) → list_any (added_by behind) (names_used (statement_of line).body) ≡ false
+unused-by_groups behind added line has apart =
+    none-passes (has_group added) (added_by behind) (only_in behind added has) (names_used (statement_of line).body)
+    (λ bucket is. unused-group line bucket (apart (bucket % 59) (omega arith) is))
 
-pub unused-by_groups : (behind : LineBehind) (set : Marks) (line : List ℕ) → ((name : List ℕ) → added_by behind name ≡ true → Has set name) → ((bucket : ℕ) → has_bucket set bucket ≡ true → has_group (groups_on line) bucket ≡ false) → list_any (added_by behind) (names_used (statement_of line).body) ≡ false
-unused-by_groups behind set line has apart =
-    unused-by_buckets behind set (names_used (statement_of line).body) has (λ bucket is. unused-group line bucket (apart bucket is))
-
--- nor do those of a block where none is in the groups of all of them
-pub block-unused : (lines : List (List ℕ)) (behind : LineBehind) (set : Marks) (begin end : ℕ) → end ≤ length lines → ((name : List ℕ) → added_by behind name ≡ true → Has set name) → ((bucket : ℕ) → has_bucket set bucket ≡ true → has_group (groups_together (take (end - begin) (drop begin (map groups_on lines)))) bucket ≡ false) → (i : ℕ) → begin < i → i ≤ end → uses_any (added_by behind) (program_of lines) i ≡ false
-block-unused lines behind set begin end last has none i past within =
-    let short : i - 1 < length lines = omega (arith, past, within, last) in
-    let count = length-map lines groups_on in
-    ap (λ s. list_any (added_by behind) (names_used s.body)) (get_or-map statement_of lines (i - 1) [] no_statement short)
-    ∙ unused-by_groups behind set (get_or lines (i - 1) []) has (λ bucket is.
-    ap (λ g. has_group g bucket) (sym (get_or-map groups_on lines (i - 1) [] no_groups short))
-    ∙ block-lacks (map groups_on lines) (bucket % 61) begin end (omega arith) (omega (arith, count, last)) (none bucket is) (i - 1) (omega (arith, past)) (omega (arith, past, within)))
+-- nor do those that are gone past
+pub others-unused : (lines : List (List ℕ)) (behind : LineBehind) (added : Groups) (groups : List Groups) → groups ≡ map groups_on lines → ((name : List ℕ) → added_by behind name ≡ true → HasGroupOf name added) → (i j : ℕ) → j ≤ length groups → AreOthers groups added i j → (line : ℕ) → i < line → line ≤ j → uses_any (added_by behind) (program_of lines) line ≡ false
+others-unused lines behind added groups are has i j last others line past within =
+    let short : line - 1 < length lines = omega (arith, past, within, last, count-groups lines groups are) in
+    ap (λ s. list_any (added_by behind) (names_used s.body)) (get_or-map statement_of lines (line - 1) [] no_statement short)
+    ∙ unused-by_groups behind added (get_or lines (line - 1) []) has
+    (subst (SharesNone added) (ap (λ gs. get_or gs (line - 1) no_groups) are ∙ get_or-map groups_on lines (line - 1) [] no_groups short)
+    (others (line - 1) (omega (arith, past)) (omega (arith, past, within))))
 
 -- Names that a statement defines
 
@@ -115,30 +112,8 @@ pub no_users : (p : Program) (test : List ℕ → Bool) (n : ℕ) → ((name : L
 no_users p test n none =
     lines_that-still (uses_any test p) (uses_any test p) 0 n (omega arith) (λ i first last. refl) (λ i first last. none-of test (names_used (body_at p i)) none)
 
--- A row of the lines that pass a test, with the next line
+-- What holds of each of the first lines
 
-pub row-used : (f : ℕ → Bool) (n : ℕ) (row row' : List ℕ) → row ≡ lines_that f n → f (n + 1) ≡ true → row' ≡ row ++ (n + 1) ∷ [] → row' ≡ lines_that f (n + 1)
-row-used f n row row' are passes is =
-    let next : suc n ≡ n + 1 = omega arith in
-    is ∙ (λ j. are j ++ sym next j ∷ []) ∙ ap (λ b. lines_that f n ++ (if b then suc n ∷ [] else [])) (sym (ap f next ∙ passes)) ∙ ap (lines_that f) next
-
-pub row-unused : (f : ℕ → Bool) (n : ℕ) (row row' : List ℕ) → row ≡ lines_that f n → f (n + 1) ≡ false → row' ≡ row → row' ≡ lines_that f (n + 1)
-row-unused f n row row' are fails is =
-    let next : suc n ≡ n + 1 = omega arith in
-    is ∙ are ∙ sym (append-nil (lines_that f n)) ∙ ap (λ b. lines_that f n ++ (if b then suc n ∷ [] else [])) (sym (ap f next ∙ fails)) ∙ ap (lines_that f) next
-
-pub none-through : (f : ℕ → Bool) (n m : ℕ) → n ≤ m → ((i : ℕ) → n < i → i ≤ m → f i ≡ false) → lines_that f m ≡ lines_that f n
-none-through f n zero up none = ap (lines_that f) (let e : 0 ≡ n = omega (arith, up) in e)
-none-through f n (suc m) up none = at (cases_lt n (suc m)) (none-through f n m)
-  where
-    at : (n < suc m) ⊎ (suc m ≤ n) → (n ≤ m → ((i : ℕ) → n < i → i ≤ m → f i ≡ false) → lines_that f m ≡ lines_that f n) → lines_that f (suc m) ≡ lines_that f n
-    at (inl more) rest =
-        ap (λ b. lines_that f m ++ (if b then suc m ∷ [] else [])) (none (suc m) more (omega arith))
-        ∙ append-nil (lines_that f m)
-        ∙ rest (omega (arith, more)) (λ i past last. none i past (omega (arith, last)))
-    at (inr all) rest = ap (lines_that f) (let e : suc m ≡ n = omega (arith, all, up) in e)
-
--- and what holds of each of them
 pub with-next : (f settled : ℕ → Bool) (begin n : ℕ) → ((i : ℕ) → begin < i → i ≤ n → settled i ≡ true → f i ≡ false) → (settled (n + 1) ≡ true → f (n + 1) ≡ false) → (i : ℕ) → begin < i → i ≤ n + 1 → settled i ≡ true → f i ≡ false
 with-next f settled begin n earlier here i first last h = at (cases_lt n i)
   where

@@ -1,6 +1,7 @@
 -- Edits of a column of lines, and the edits that take them back.
-use Rattle.std.proofs.Common.{◌≡◌, ℕ, zero, suc, ◌<◌, ◌≤◌, List, [], ◌∷◌, length, map, set, get_or, None, arith, ap, refl}
+use Rattle.std.proofs.Common.{◌≡◌, ℕ, zero, suc, ◌<◌, ◌≤◌, List, [], ◌∷◌, length, set, get_or, None, arith, ap, ◌∙◌, refl}
 use Rattle.std.specs.Prelude.{insert, remove}
+use Rattle.std.proofs.lemmas.List.{set-get_or, set-set}
 use Rattle.rv_store.specs.internal.Column.{HasPlace}
 use Rattle.rv_program.specs.Text.{Edit, Insert, Delete, Replace, refusal_of}
 use Rattle.rv_program.specs.lemmas.EarlierLines.{insert_within, delete_within, replace_within}
@@ -19,28 +20,11 @@ inserted-removed (y ∷ xs) (suc i) x within is = ap (λ ys. y ∷ ys) (inserted
 
 -- what is there already
 pub set-same : {A : Type 0} (xs : List A) (i : ℕ) (a : A) → a ≡ get_or xs i a → set xs i a ≡ xs
-set-same [] i a h = refl
-set-same (x ∷ xs) zero a h = ap (λ y. y ∷ xs) h
-set-same (x ∷ xs) (suc i) a h = ap (λ ys. x ∷ ys) (set-same xs i a h)
+set-same xs i a there = ap (set xs i) there ∙ set-get_or xs i a
 
 -- what was there is put back
 pub set-back : {A : Type 0} (xs : List A) (i : ℕ) (a b : A) → b ≡ get_or xs i b → set (set xs i a) i b ≡ xs
-set-back [] i a b h = refl
-set-back (x ∷ xs) zero a b h = ap (λ y. y ∷ xs) h
-set-back (x ∷ xs) (suc i) a b h = ap (λ ys. x ∷ ys) (set-back xs i a b h)
-
--- What stands beside each line moves with it
-
-pub map-insert : {A B : Type 0} (f : A → B) (xs : List A) (i : ℕ) (x : A) → map f (insert xs i x) ≡ insert (map f xs) i (f x)
-map-insert f xs zero x = refl
-map-insert f [] (suc i) x = refl
-map-insert f (y ∷ ys) (suc i) x = ap (λ zs. f y ∷ zs) (map-insert f ys i x)
-
-pub map-remove : {A B : Type 0} (f : A → B) (xs : List A) (i : ℕ) → map f (remove xs i) ≡ remove (map f xs) i
-map-remove f [] zero = refl
-map-remove f [] (suc i) = refl
-map-remove f (x ∷ xs) zero = refl
-map-remove f (x ∷ xs) (suc i) = ap (λ ys. f x ∷ ys) (map-remove f xs i)
+set-back xs i a b there = set-set xs i a b ∙ set-same xs i b there
 
 -- an edit that is not refused has its place
 pub has_place : (lines : List (List ℕ)) (edit : Edit) → refusal_of lines edit ≡ None → HasPlace lines edit

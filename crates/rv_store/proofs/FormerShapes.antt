@@ -1,5 +1,5 @@
 -- The shapes of the lines of a text after an edit, line by line from those before it.
-use Rattle.std.proofs.Common.{◌≡◌, ℕ, suc, ℤ, ◌+◌, ◌-◌, ◌<◌, ◌≤◌, ◌⊎◌, inl, inr, Bool, true, false, ◌&&◌, ◌||◌, List, [], ◌∷◌, ◌++◌, length, get_or, set, drop, Option, Some, None, arith, ap, sym, ◌∙◌, refl}
+use Rattle.std.proofs.Common.{◌≡◌, ℕ, suc, ℤ, ◌+◌, ◌-◌, ◌<◌, ◌≤◌, ◌⊎◌, inl, inr, Bool, true, false, ◌&&◌, List, [], ◌∷◌, ◌++◌, length, get_or, set, drop, Option, Some, None, arith, ap, sym, ◌∙◌, refl}
 use Rattle.std.specs.Prelude.{insert, remove}
 use Rattle.std.specs.List.{list_any}
 use Rattle.std.proofs.Math.Seq.{get_or-append_seam, set-append_seam}
@@ -152,10 +152,6 @@ module _ (before : Before) (is : IsBefore before) (lines : List (List ℕ)) (aft
             neither_part (is_sized body) (uses_symbols body) (list_any differs (names_used body)) apart in
             former-stood i j other within h
             ∙ sym (shape-stays before is lines after i j within h (constant_of program (i + 1)) refl body (body-on lines i text within read) same)
-
-pub neither : (a b : Bool) → (a || b) ≡ false → (a ≡ false) × (b ≡ false)
-neither true b h = absurd (let wrong : false ≡ true = sym h in cc)
-neither false b h = (refl, h)
 
 -- a line without an `.equ` leaves the constants
 not-equ : (body : Body) (d : Definition) → is_equ body ≡ false → body ≡ EquBody d → ⊥

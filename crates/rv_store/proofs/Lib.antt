@@ -29,6 +29,7 @@ pub mod ShapeRows
 pub mod ShownLines
 pub mod StillLaws
 pub mod StillRows
+pub mod StillShapes
 pub mod StillTexts
 pub mod Stores
 pub mod Surveys

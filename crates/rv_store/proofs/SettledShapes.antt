@@ -1,5 +1,6 @@
 -- The shapes and the constants of a text after an edit, up to a line.
 use Rattle.std.proofs.Common.{◌≡◌, ℕ, zero, suc, ℤ, ◌+◌, ◌*◌, ◌-◌, ◌<◌, ◌≤◌, false, ◌&&◌, List, [], length, get_or, Option, arith, ap, sym, subst, ◌∙◌}
+use Rattle.std.proofs.lemmas.Bool.{or_parts}
 use Rattle.std.proofs.lemmas.List.{get_or_default}
 use Rattle.rv_stmt.specs.Statement.{statement_of}
 use Rattle.rv_layout.specs.declared.measured.Measured.{Measured}
@@ -20,7 +21,7 @@ use Rattle.rv_program.specs.lemmas.KeptShapes.{body-on}
 use Rattle.rv_program.specs.lemmas.NewShapeLaws.{through-next}
 use Rattle.rv_program.specs.lemmas.ShapeWork.{operands-next}
 use Rattle.rv_store.specs.internal.FormerShapes.{former_shapes, shapes_through}
-use Rattle.rv_store.proofs.FormerShapes.{former, former-length, former-stays, constants-stay, through-kept, neither}
+use Rattle.rv_store.proofs.FormerShapes.{former, former-length, former-stays, constants-stay, through-kept}
 
 -- the rows after the first i lines, where so many expressions were computed before them, and so many are now
 pub record AreSettled (before : Before) (lines : List (List ℕ)) (shape : Measured) (start i : ℕ) (row : List Measured) (constant_row : List (Option ℤ)) (count : ℕ) : Type 0 where
@@ -43,7 +44,7 @@ module _ (before : Before) (is : IsBefore before) (lines : List (List ℕ)) (aft
       let text = get_or lines i [] in
       let read : text ≡ get_or lines i text = get_or_default lines i [] text within in
       let body : (statement_of text).body ≡ body_at (program_of lines) (suc i) = body-on lines i text within read ∙ ap (body_at (program_of lines)) (let e : i + 1 ≡ suc i = omega arith in e) in
-      let parts = neither (is_sized (statement_of text).body && uses_symbols (statement_of text).body) (is_equ (statement_of text).body) (ap (is_of_kind Shaped) body ∙ none) in
+      let parts = or_parts (is_sized (statement_of text).body && uses_symbols (statement_of text).body) (is_equ (statement_of text).body) (ap (is_of_kind Shaped) body ∙ none) in
       let other = shape_at (program_of lines) (i + 1) in
       let there : i < length (former before is lines after shape) = omega (arith, within, former-length before is lines after shape) in
       let part = through-next (base_before before) (lines_before before) (edit_on before) is.allowed i in

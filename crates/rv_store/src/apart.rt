@@ -5,21 +5,20 @@ ghost use Rattle.std.specs.List.{list_any};
 ghost use Rattle.rv_stmt.specs.Statement.{statement_of};
 ghost use Rattle.rv_program.specs.declared.limits.TheConstants.{MAX_LINES};
 ghost use Rattle.rv_store.specs.internal.Appended.{adds, is_earlier, TellEarlier, IsApart};
-ghost use Rattle.rv_store.specs.internal.Apart.{added_by, AreMarked};
+ghost use Rattle.rv_store.specs.internal.Apart.{added_by, HasGroupOf, AreMarked};
 ghost use Rattle.rv_program.specs.internal.Briefs.{groups_on};
 ghost use Rattle.rv_program.specs.Definitions.{defines_symbol, place_in_body, is_defined};
-ghost use Rattle.rv_program.specs.internal.NameSets.{Has};
 ghost use Rattle.rv_program.specs.Program.{program_of, body_at, lines_that};
 ghost use Rattle.rv_store.specs.internal.Still.{is_settled, uses_any};
-ghost use Rattle.rv_program.specs.Uses.{names_used};
 
 use rv_list::DefinitionPlace;
+use rv_program::lines_of_kind::lines_up_to_groups;
 use rv_program::{
-    BLOCK, Groups, Line, MAX_LINES, Mark, NameSet, NameTable, NameTest, any_name, bucket_of,
-    entry_of, is_defined, may_define, place_on,
+    Groups, Line, MAX_LINES, NameTable, NameTest, any_name, bucket_of, entry_of, is_defined,
+    may_define, place_on,
 };
 use rv_stmt::{Body, LabelName, LabelSlice};
-use std::alloc::{AllocError, Global};
+use std::alloc::Global;
 
 // Whether a definition is on a line before this one.
 fn is_earlier(line: u32, place: DefinitionPlace) -> bool
@@ -46,8 +45,11 @@ impl NameTest for LineBehind<'_> {
     ghost test = { added_by };
 
     fn passes(&self, name: &[u8]) -> bool {
+        if !is_defined(place_on(self.line, self.number, name)) {
+            return false;
+        }
         let place = entry_of(self.names, self.definitions, DefinitionPlace::Nowhere, name);
-        !is_earlier(self.number, place) && is_defined(place_on(self.line, self.number, name))
+        !is_earlier(self.number, place)
     }
 }
 
@@ -60,17 +62,17 @@ fn is_settled(line: &Line) -> bool
 }
 
 impl LineBehind<'_> {
-    // Adds a symbol to a set, if the line adds it.
-    fn mark(&self, symbol: &[u8], added: &mut NameSet)
+    // Adds the group of a symbol, if the line adds it.
+    fn mark(&self, symbol: &[u8], added: &mut Groups)
         ensures { AreMarked (added_by self.now) (λ name. name ≡ symbol.now) added.old added.new }
     {
         if self.passes(symbol) {
-            added.add(bucket_of(symbol), Mark::Changed);
+            *added = added.with(bucket_of(symbol));
         }
     }
 
-    // Adds the symbols of some labels.
-    fn mark_labels(&self, mut labels: LabelSlice<'_>, added: &mut NameSet)
+    // Adds those of the symbols of some labels.
+    fn mark_labels(&self, mut labels: LabelSlice<'_>, added: &mut Groups)
         ensures { AreMarked (added_by self.now) (λ name. list_any (λ l. defines_symbol l.name name) labels.entry ≡ true) added.old added.new }
     {
         'labels: while let Some((label, rest)) = labels.split_first() {
@@ -81,8 +83,8 @@ impl LineBehind<'_> {
         }
     }
 
-    // Adds the symbol of an `.equ`.
-    fn mark_equ(&self, body: &Body, added: &mut NameSet)
+    // Adds that of the symbol of an `.equ`.
+    fn mark_equ(&self, body: &Body, added: &mut Groups)
         ensures { AreMarked (added_by self.now) (λ name. is_defined (place_in_body self.now.number body.now name) ≡ true) added.old added.new }
     {
         if let Body::Equ(definition) = body {
@@ -90,53 +92,37 @@ impl LineBehind<'_> {
         }
     }
 
-    // The names that it adds, and maybe others.
-    fn added(&self, alloc: Global) -> Result<NameSet, AllocError>
-        ensures { IfOk result (λ set. (name : List ℕ) → added_by self.now name ≡ true → Has set name) }
+    // The groups of the names that it adds.
+    fn added(&self) -> Groups
+        ensures { (name : List ℕ) → added_by self.now name ≡ true → HasGroupOf name result }
     {
-        let mut added = NameSet::empty(alloc, 0)?;
+        let mut added = Groups::none();
         let stmt = self.line.stmt();
         self.mark_labels(stmt.labels.as_slice(), &mut added);
         self.mark_equ(&stmt.body, &mut added);
-        Ok(added)
+        added
     }
 
-    // Whether a line uses a name that it adds. One of which the groups, or else the buckets, say that it uses none is gone past.
-    #[inline]
-    fn is_used_on(&self, line: &Line, groups: Groups, added: &NameSet) -> bool
-        requires added { (name : List ℕ) → added_by self.now name ≡ true → Has added.now name }
-        requires groups { groups ≡ groups_on line.now }
-        ensures { result ≡ list_any (added_by self.now) (names_used (statement_of line.now).body) }
-    {
-        if !added.meets(groups) {
-            return false;
-        }
-        line.brief().names.meets(added) && any_name(&line.stmt().body, self)
-    }
-
-    // Adds those of the lines behind the first `begin`, up to line `end`, that do, to those before them. `None` if other lines take what one
-    // of them gives, or there is no memory for them.
-    fn add_users(
+    // The lines that use a name that it adds, rising, or `None` if other lines take what one of them gives, or there is no memory for
+    // them. Lines whose groups say that they use none are gone past.
+    fn users(
         &self,
+        alloc: Global,
         lines: &[Line],
         groups: &[Groups],
-        added: &NameSet,
-        begin: usize,
-        end: usize,
-        users: &mut Vec<u32>,
-    ) -> Option<()>
+        added: Groups,
+    ) -> Option<Vec<u32>>
         requires few { length lines.now ≤ MAX_LINES }
         requires groups { groups.now ≡ map groups_on lines.now }
-        requires added { (name : List ℕ) → added_by self.now name ≡ true → Has added.now name }
-        requires first { begin ≤ end }
-        requires last { end ≤ length lines.now }
-        requires users { users.old.items ≡ lines_that (uses_any (added_by self.now) (program_of lines.now)) begin }
-        ensures users { IfSome result (λ _. users.new.items ≡ lines_that (uses_any (added_by self.now) (program_of lines.now)) end) }
-        ensures unsettled { IfSome result (λ _. (i : ℕ) → begin < i → i ≤ end → is_settled (body_at (program_of lines.now) i) ≡ true → uses_any (added_by self.now) (program_of lines.now) i ≡ false) }
+        requires added { (name : List ℕ) → added_by self.now name ≡ true → HasGroupOf name added }
+        ensures users { IfSome result (λ row. row.items ≡ lines_that (uses_any (added_by self.now) (program_of lines.now)) (length lines.now)) }
+        ensures unsettled { IfSome result (λ _. (i : ℕ) → 1 ≤ i → i ≤ length lines.now → is_settled (body_at (program_of lines.now) i) ≡ true → uses_any (added_by self.now) (program_of lines.now) i ≡ false) }
     {
-        for i in begin..end {
+        let mut users = Vec::new(alloc);
+        let mut i = lines_up_to_groups(groups, 0, added);
+        'lines: while i < lines.len() {
             let line = &lines[i];
-            if self.is_used_on(line, groups[i], added) {
+            if any_name(&line.stmt().body, self) {
                 if is_settled(line) {
                     return None;
                 }
@@ -144,33 +130,7 @@ impl LineBehind<'_> {
                     return None;
                 };
             }
-        }
-        Some(())
-    }
-
-    // The lines that do, rising, or `None` if other lines take what one of them gives, or there is no memory for them. Blocks of lines of
-    // which the groups of all together say that none does are gone past.
-    fn users(
-        &self,
-        alloc: Global,
-        lines: &[Line],
-        groups: &[Groups],
-        added: &NameSet,
-    ) -> Option<Vec<u32>>
-        requires few { length lines.now ≤ MAX_LINES }
-        requires groups { groups.now ≡ map groups_on lines.now }
-        requires added { (name : List ℕ) → added_by self.now name ≡ true → Has added.now name }
-        ensures users { IfSome result (λ row. row.items ≡ lines_that (uses_any (added_by self.now) (program_of lines.now)) (length lines.now)) }
-        ensures unsettled { IfSome result (λ _. (i : ℕ) → 1 ≤ i → i ≤ length lines.now → is_settled (body_at (program_of lines.now) i) ≡ true → uses_any (added_by self.now) (program_of lines.now) i ≡ false) }
-    {
-        let mut users = Vec::new(alloc);
-        let mut begin = 0;
-        'lines: while begin < lines.len() {
-            let end = lines.len().min(begin + BLOCK);
-            if added.meets(Groups::together(&groups[begin..end])) {
-                self.add_users(lines, groups, added, begin, end, &mut users)?;
-            }
-            begin = end;
+            i = lines_up_to_groups(groups, i + 1, added);
         }
         Some(users)
     }
@@ -229,12 +189,10 @@ pub fn adds_apart(
         names,
         definitions,
     };
-    let Ok(added) = behind.added(alloc) else {
-        return None;
-    };
-    if added.is_empty() {
+    let added = behind.added();
+    if added.are_none() {
         return Some(Added::nothing(alloc));
     }
-    let users = behind.users(alloc, lines, groups, &added)?;
+    let users = behind.users(alloc, lines, groups, added)?;
     Some(Added { any: true, users })
 }

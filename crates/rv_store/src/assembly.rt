@@ -55,10 +55,11 @@ fn assembled_by_lines<C: Count>(
     ensures memory { IfErr result (λ e. e ≡ EditError.Memory) }
     ensures counted { AreCountedAfter base old.now (edit_of edit.now) (counts_of C.parsed_count C.valued_count C.encoded_count counter.old) (counts_of C.parsed_count C.valued_count C.encoded_count counter.new) }
 {
-    let after = survey.after(alloc, base, old, edit, names, shape, counter)?;
+    let (after, still) = survey.after(alloc, base, old, edit, names, shape, counter)?;
     let lines = survey.lines.as_slice();
+    let groups = survey.lines.groups();
     let (items, changed) = items_edited(
-        alloc, base, names, survey, old, edit, &after, lines, &items, counter,
+        alloc, base, names, survey, old, edit, &after, lines, groups, still, &items, counter,
     )?;
     Ok((after, items, changed))
 }

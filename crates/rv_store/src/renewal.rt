@@ -1,7 +1,8 @@
 //! What is kept of the lines that are due after an edit is made anew.
 
-ghost use Rattle.std.specs.Prelude.{◌≡◌, ◌≤◌, ◌<◌, ◌+◌, ◌-◌, ◌*◌, ◌^◌, None, length, IfOk, IfErr};
+ghost use Rattle.std.specs.Prelude.{◌≡◌, ◌≤◌, ◌<◌, ◌+◌, ◌-◌, ◌*◌, ◌^◌, None, true, length, map, IfOk, IfErr};
 ghost use Rattle.rv_program.specs.declared.limits.TheConstants.{MAX_LINES};
+ghost use Rattle.rv_program.specs.internal.Briefs.{groups_on};
 ghost use Rattle.rv_program.specs.Counted.{counts_of};
 ghost use Rattle.rv_program.specs.Edits.{edit_of, line_before_edit};
 ghost use Rattle.rv_program.specs.Program.{program_of};
@@ -18,8 +19,8 @@ ghost use Rattle.rv_store.specs.internal.Surveys.{IsSurvey};
 use crate::changed::Changed;
 use crate::survey::Survey;
 use rv_program::{
-    EditError, Item, Line, LineEdit, Lines, NameTable, Revision, ValueRows, due_lines, renewed,
-    renewed_in_one_pass,
+    EditError, Groups, Item, Line, LineEdit, Lines, NameTable, Revision, ValueRows, due_lines,
+    renewed, renewed_in_one_pass,
 };
 use rv_text::Count;
 use rv_tree::SumTree;
@@ -92,7 +93,7 @@ pub fn items_passed<C: Count>(
 }
 
 /// It is as for `items_passed`, by the survey of the text before the edit, `old`, whose lines are `old_lines`, and by that of the text after
-/// it, whose lines are `lines`: those that are due are looked for. For each jump to a local label among the invalidated lines, one expression
+/// it, whose lines are `lines`, in these groups: those that are due are looked for. `still` tells that all shapes stayed. For each jump to a local label among the invalidated lines, one expression
 /// more may be computed.
 pub fn items_edited<'a, C: Count>(
     alloc: Global,
@@ -103,6 +104,8 @@ pub fn items_edited<'a, C: Count>(
     edit: &LineEdit<'_>,
     survey: &'a Survey,
     lines: &'a [Line],
+    groups: &[Groups],
+    still: bool,
     items: &SumTree<Item>,
     counter: &mut C,
 ) -> Result<(SumTree<Item>, Changed), EditError>
@@ -111,6 +114,8 @@ pub fn items_edited<'a, C: Count>(
     requires allowed { refusal_of old_lines.now (edit_of edit.now) ≡ None }
     requires survey { IsSurvey base (program_of lines.now) names.now survey.now }
     requires edited { lines.now ≡ lines_after old_lines.now (edit_of edit.now) }
+    requires groups { groups.now ≡ map groups_on lines.now }
+    requires still { still ≡ true → survey.now.shapes.items ≡ old.now.shapes.items }
     requires few { length lines.now ≤ MAX_LINES }
     requires count { length items.now.items ≡ length lines.now }
     requires former { AreFormer base old_lines.now (edit_of edit.now) 0 items.now.items }
@@ -124,7 +129,7 @@ pub fn items_edited<'a, C: Count>(
     let before = old.before(old_lines, base, names, edit);
     let column = Lines::in_column(lines);
     let rows = survey.rows(&column, base, names);
-    let due = due_lines(alloc, &before, &rows.symbols, lines, counter)?;
+    let due = due_lines(alloc, &before, &rows.symbols, lines, groups, still, counter)?;
     items_passed(alloc, &before.revision(), &rows, items, &due, counter)
 }
 

@@ -127,7 +127,8 @@ impl Survey {
 
     /// That of a text after an edit, the first line of which is at `base`, by the rows of the text before it, which has the
     /// lines `old`. `self` holds these rows, and the lines after the edit already. `shape` is that of the line that the edit puts in.
-    /// The answer does not get the lines. Names that the lines define get numbers, also where there is no memory for the rest.
+    /// The answer does not get the lines. With it comes whether all shapes stayed: then each line is where it was. Names that the lines
+    /// define get numbers, also where there is no memory for the rest.
     ///
     /// The counter's number of expressions computed rises by at most four for each line, and by at most what the edit
     /// invalidates: the size operands but for that of the new line, the high halves, and the `.equ`s twice.
@@ -140,7 +141,7 @@ impl Survey {
         names: &mut NameTable,
         shape: Measured,
         counter: &mut C,
-    ) -> Result<Survey, AllocError>
+    ) -> Result<(Survey, bool), AllocError>
         requires base { is_base base ≡ true }
         requires old { IsSurvey base (program_of old.now) names.old self.now }
         requires old_few { length old.now ≤ MAX_LINES }
@@ -150,7 +151,8 @@ impl Survey {
         requires limited { IsLimited shape }
         requires few { length self.now.lines.items ≤ MAX_LINES }
         requires valued { C.valued_count counter.old ≤ 2 ^ 63 + 1 }
-        ensures survey { IfOk result (λ s. IsSurvey base (program_of self.now.lines.items) names.new s) }
+        ensures survey { IfOk result (λ r. IsSurvey base (program_of self.now.lines.items) names.new r.0) }
+        ensures still { IfOk result (λ r. r.1 ≡ true → r.0.shapes.items ≡ self.now.shapes.items) }
         ensures names { Grows names.old names.new }
         ensures least { C.valued_count counter.old ≤ C.valued_count counter.new }
         ensures most { C.valued_count counter.new ≤ C.valued_count counter.old + 4 * length self.now.lines.items }
@@ -165,7 +167,8 @@ impl Survey {
         let sized = shapes(alloc, &before, lines, groups, &definitions, shape, counter)?;
         let placed = placed(alloc, base, &sized, &self.ends, &self.places)?;
         let locals = locals_after(alloc, &before, lines)?;
-        Survey::by_rows(
+        let still = sized.same;
+        let survey = Survey::by_rows(
             alloc,
             &before,
             lines,
@@ -175,7 +178,8 @@ impl Survey {
             placed,
             locals,
             counter,
-        )
+        )?;
+        Ok((survey, still))
     }
 
     /// That of the lines of a text after an edit, which have these groups, by the rows that the others are made from. It does not get the

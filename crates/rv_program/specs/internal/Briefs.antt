@@ -5,7 +5,7 @@ use Rattle.rv_stmt.specs.declared.statement.Stmt.{Stmt}
 use Rattle.rv_stmt.specs.Statement.{statement_of}
 use Rattle.rv_program.specs.declared.brief.Brief.{Brief}
 use Rattle.rv_program.specs.declared.groups.Groups.{Groups}
-use Rattle.rv_program.specs.declared.groups.Kind.TheVariants.{Equ, PcrelHigh, Shaped}
+use Rattle.rv_program.specs.declared.groups.Kind.TheVariants.{Equ, PcrelHigh, Shaped, Addressed, Uncompared}
 use Rattle.rv_program.specs.internal.Groups.{with_kind}
 use Rattle.rv_program.specs.internal.NameSets.{brief_of_names, groups_used}
 use Rattle.rv_program.specs.Jumps.{target_of}
@@ -25,12 +25,18 @@ brief_of s = record {
   address = uses_address s.body;
   jump = is_some (target_of s.body);
   uncompared = uses_local_label s.body || uses_paired_high s.body || is_equ s.body;
-  plain = not (uses_symbols s.body || uses_address s.body || (uses_local_label s.body || uses_paired_high s.body || is_equ s.body));
 }
 
 -- the groups of a line
 abbrev pub groups_of_brief : Brief → Groups
-groups_of_brief b = with_kind (with_kind (with_kind (groups_used b.names) Equ b.equ) PcrelHigh b.pcrel_high) Shaped ((b.sized && b.symbols) || b.equ)
+groups_of_brief b =
+    with_kind
+    (with_kind
+    (with_kind (with_kind (with_kind (groups_used b.names) Equ b.equ) PcrelHigh b.pcrel_high) Shaped ((b.sized && b.symbols) || b.equ))
+    Addressed
+    b.address)
+    Uncompared
+    b.uncompared
 
 abbrev pub groups_on : List ℕ → Groups
 groups_on line = groups_of_brief (brief_of (statement_of line))

@@ -1,5 +1,5 @@
 -- Which symbols an edit changes, by a set that has all of them.
-use Rattle.std.specs.Prelude.{◌≡◌, ℕ, ℤ, pos, ◌+ℤ◌, false, List, Some, Ok}
+use Rattle.std.specs.Prelude.{◌≡◌, ℕ, ℤ, pos, ◌+ℤ◌, Bool, true, false, List, Some, Ok}
 use Rattle.rv_stmt.specs.Readings.{and_then}
 use Rattle.rv_fix.specs.Values.{Entry}
 use Rattle.rv_program.specs.declared.name_set.Mark.{Mark}
@@ -7,7 +7,10 @@ use Rattle.rv_program.specs.declared.name_set.Mark.TheVariants.{Unknown, Same, M
 use Rattle.rv_program.specs.Changes.{program_after, differs_in_name}
 use Rattle.rv_program.specs.Constants.{constant_of}
 use Rattle.rv_program.specs.Edits.{line_before_edit}
-use Rattle.rv_program.specs.internal.NameSets.{bucket_of, Marks, mark_of}
+use Rattle.rv_program.specs.declared.groups.Groups.{Groups}
+use Rattle.rv_program.specs.declared.groups.Kind.TheVariants.{Addressed, Uncompared}
+use Rattle.rv_program.specs.internal.Groups.{has_group, has_kind}
+use Rattle.rv_program.specs.internal.NameSets.{bucket_of, Marks, mark_of, has_bucket}
 use Rattle.rv_program.specs.Program.{program_of, body_at}
 use Rattle.rv_program.specs.References.{reference_of}
 use Rattle.rv_program.specs.Text.{Edit}
@@ -51,3 +54,10 @@ Tells base lines edit shift Changed name = Unit {0}
 -- the set has the true mark of each symbol
 abbrev pub HasDiffering : (base : ℕ) → (lines : List (List ℕ)) → Edit → Marks → Type 0
 HasDiffering base lines edit set = (name : List ℕ) → Tells base lines edit set.shift (mark_of set (bucket_of name)) name
+
+-- a line in none of these groups is not due unless it is new: it uses no name of the set, nor what is not compared, nor its own address,
+-- but that where no line moved
+pub record HasDueGroups (set : Marks) (still : Bool) (wanted : Groups) : Type 0 where
+  pub names : (bucket : ℕ) → has_bucket set bucket ≡ true → has_group wanted bucket ≡ true
+  pub uncompared : has_kind wanted Uncompared ≡ true
+  pub addressed : still ≡ false → has_kind wanted Addressed ≡ true

@@ -8,7 +8,7 @@ use Rattle.std.proofs.lemmas.List.{get_or-take, get_or-drop, length-take-le, len
 use Rattle.std.proofs.lemmas.Nat.Bits.{bit_at-lt, bit_at-zero, bit_at-pow_same, bit_at-pow_other, bit_at_ones, bit_at_and, bit_at_or, bit_at_cat_low}
 use Rattle.rv_program.specs.declared.groups.Groups.{Groups}
 use Rattle.rv_program.specs.declared.groups.Kind.{Kind}
-use Rattle.rv_program.specs.declared.groups.Kind.TheVariants.{Equ, PcrelHigh, Shaped}
+use Rattle.rv_program.specs.declared.groups.Kind.TheVariants.{Equ, PcrelHigh, Shaped, Addressed, Uncompared}
 use Rattle.rv_program.specs.internal.Groups.{bits_of, groups_of, no_groups, every_group, with_bit, has_bit, with_group, has_group, kind_bit, with_kind, has_kind, with_groups, groups_together, share_group}
 
 bits-kept : (bits group : ℕ) → group < 64 → bit_at (bits_of (groups_of bits)) group ≡ bit_at bits group
@@ -83,7 +83,7 @@ module _ (bit : ℕ) (below : bit < 64) where
   bit-in-all groups (g ∷ gs) (suc i) other within has = bit-in-all (with_groups groups g) gs i other (omega (arith, within)) has
 
   -- what all together lack, each lacks
-  pub no-bit-together : (all : List Groups) (i : ℕ) (other : Groups) → i < length all → has_bit (groups_together all) bit ≡ false → has_bit (get_or all i other) bit ≡ false
+  no-bit-together : (all : List Groups) (i : ℕ) (other : Groups) → i < length all → has_bit (groups_together all) bit ≡ false → has_bit (get_or all i other) bit ≡ false
   no-bit-together all i other within none = at (has_bit (get_or all i other) bit) refl
     where
       at : (b : Bool) → has_bit (get_or all i other) bit ≡ b → has_bit (get_or all i other) bit ≡ false
@@ -118,14 +118,11 @@ no-common_bit groups others bit apart has = at (has_bit others bit) refl
 
 -- Buckets
 
-pub group-below : (bucket : ℕ) → bucket % 61 < 61
-group-below bucket = omega arith
-
 pub group-added : (groups : Groups) (bucket : ℕ) → has_group (with_group groups bucket) bucket ≡ true
-group-added groups bucket = bit-added groups (bucket % 61) (omega arith)
+group-added groups bucket = bit-added groups (bucket % 59) (omega arith)
 
 pub group-kept : (groups : Groups) (bucket other : ℕ) → has_group groups other ≡ true → has_group (with_group groups bucket) other ≡ true
-group-kept groups bucket other has = bit-kept groups (bucket % 61) (other % 61) (omega arith) has
+group-kept groups bucket other has = bit-kept groups (bucket % 59) (other % 59) (omega arith) has
 
 -- Kinds
 
@@ -133,6 +130,16 @@ pub kind-below : (kind : Kind) → kind_bit kind < 64
 kind-below Equ = omega arith
 kind-below PcrelHigh = omega arith
 kind-below Shaped = omega arith
+kind-below Addressed = omega arith
+kind-below Uncompared = omega arith
+
+-- they stand above those of the names
+pub kind-above : (kind : Kind) → 59 ≤ kind_bit kind
+kind-above Equ = omega arith
+kind-above PcrelHigh = omega arith
+kind-above Shaped = omega arith
+kind-above Addressed = omega arith
+kind-above Uncompared = omega arith
 
 module _ (groups : Groups) (kind : Kind) where
   pub kind-kept : (is : Bool) (bit : ℕ) → bit < 64 → has_bit groups bit ≡ true → has_bit (with_kind groups kind is) bit ≡ true

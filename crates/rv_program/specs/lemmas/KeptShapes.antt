@@ -2,7 +2,7 @@
 -- one is not, the line is invalidated.
 use Rattle.std.proofs.Common.{◌≡◌, ℕ, suc, ℤ, ◌+◌, ◌-◌, ◌<◌, ◌≤◌, Bool, true, false, not, ◌&&◌, ◌||◌, List, [], ◌∷◌, length, get_or, Option, Some, None, arith, ap, sym, ◌∙◌, refl}
 use Rattle.std.specs.List.{list_any}
-use Rattle.std.proofs.lemmas.Bool.{and_parts, not-false}
+use Rattle.std.proofs.lemmas.Bool.{and_parts, not-false, or_left, or_right}
 use Rattle.rv_stmt.specs.declared.statement.Body.{Body}
 use Rattle.rv_stmt.specs.Statement.{statement_of}
 use Rattle.rv_layout.specs.declared.measured.Measured.{Measured}
@@ -27,23 +27,13 @@ use Rattle.rv_program.specs.lemmas.SamenessLaws.{same_constant-Decides}
 use Rattle.rv_program.specs.lemmas.UsedConstants.{shape-same}
 use Rattle.rv_program.specs.lemmas.WorkLaws.{work-invalidated}
 
--- Disjunctions
-
-or-first : (a b : Bool) → a ≡ true → (a || b) ≡ true
-or-first true b h = refl
-or-first false b h = absurd (let no : false ≡ true = h in cc)
-
-or-second : (a b : Bool) → b ≡ true → (a || b) ≡ true
-or-second true b h = refl
-or-second false b h = h
-
 any-weaker : (p q : List ℕ → Bool) → ((name : List ℕ) → p name ≡ true → q name ≡ true) → (names : List (List ℕ)) → list_any p names ≡ true → list_any q names ≡ true
 any-weaker p q weaker [] h = h
 any-weaker p q weaker (n ∷ ns) h = at (p n) refl (any-weaker p q weaker ns) h
   where
     at : (t : Bool) → p n ≡ t → (list_any p ns ≡ true → list_any q ns ≡ true) → (t || list_any p ns) ≡ true → (q n || list_any q ns) ≡ true
-    at true e later g = or-first (q n) (list_any q ns) (weaker n e)
-    at false e later g = or-second (q n) (list_any q ns) (later g)
+    at true e later g = or_left (q n) (list_any q ns) (weaker n e)
+    at false e later g = or_right (q n) (list_any q ns) (later g)
 
 -- Line i + 1
 
@@ -113,10 +103,10 @@ module _ (before : Before) (is : IsBefore before) (lines : List (List ℕ)) (aft
         ap (λ c. list_any (differs_from old j c) used) (sym constants') ∙ ap (λ x. list_any (differs_from old j f) (names_used x)) (sym here') ∙ another in
         let name : list_any (differs_in_name base old now (i + 1) j) used ≡ true =
         any-weaker (differs_from old j (constant_of now (i + 1))) (differs_in_name base old now (i + 1) j)
-        (λ n h. or-second (not (same_entry (reference_of base now (i + 1) n) (reference_of base old j n))) (differs_from old j (constant_of now (i + 1)) n) h)
+        (λ n h. or_right (not (same_entry (reference_of base now (i + 1) n) (reference_of base old j n))) (differs_from old j (constant_of now (i + 1)) n) h)
         used differ in
         ap (is_new_or (λ m. differs_in_uses base old now (i + 1) m (body_at now (i + 1)))) there
-        ∙ or-first _ _ (or-first _ _ (or-first _ _ (or-first _ _ name)))
+        ∙ or_left _ _ (or_left _ _ (or_left _ _ (or_left _ _ name)))
 
 pub new-invalidated : (base : ℕ) (lines : List (List ℕ)) (edit : Edit) (k : ℕ) → line_before_edit edit k ≡ None → is_invalidated base lines edit k ≡ true
 new-invalidated base lines edit k is =

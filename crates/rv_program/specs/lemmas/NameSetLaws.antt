@@ -98,9 +98,9 @@ Kindless : UsedNames → (bit : ℕ) → Type 0
 Kindless (Few first second) bit = Unit {0}
 Kindless (Many groups) bit = has_bit groups bit ≡ false
 
-module _ (bit : ℕ) (above : 61 ≤ bit) (below : bit < 64) where
+module _ (bit : ℕ) (above : 59 ≤ bit) (below : bit < 64) where
   kindless-group : (groups : Groups) (bucket : ℕ) → has_bit groups bit ≡ false → has_bit (with_group groups bucket) bit ≡ false
-  kindless-group groups bucket none = bit-left groups (bucket % 61) bit below (λ e. omega (arith, e, above)) ∙ none
+  kindless-group groups bucket none = bit-left groups (bucket % 59) bit below (λ e. omega (arith, e, above)) ∙ none
 
   kindless-with : (used : UsedNames) (bucket : ℕ) → Kindless used bit → Kindless (with_bucket used bucket) bit
   unfolding Kindless

@@ -1,15 +1,21 @@
--- The names that a line behind a text adds, in a set.
+-- The groups of the names that a line behind a text adds.
 use Rattle.std.specs.Prelude.{◌≡◌, ℕ, Bool, true, List}
 use Rattle.rv_stmt.specs.Statement.{statement_of}
 use Rattle.rv_store.specs.declared.apart.LineBehind.{LineBehind}
 use Rattle.rv_store.specs.internal.Appended.{adds_by_rows}
-use Rattle.rv_program.specs.internal.NameSets.{Marks, Has}
+use Rattle.rv_program.specs.declared.groups.Groups.{Groups}
+use Rattle.rv_program.specs.internal.Groups.{has_group}
+use Rattle.rv_program.specs.internal.NameSets.{bucket_of}
 
 -- it adds the name
 abbrev pub added_by : LineBehind → (name : List ℕ) → Bool
 added_by behind name = adds_by_rows behind.names.now behind.definitions.now behind.number (statement_of behind.line.now) name
 
--- a set keeps what it has, and gets those of some names that pass
-pub record AreMarked (passes : List ℕ → Bool) (IsOneOf : List ℕ → Type 0) (old new : Marks) : Type 0 where
-  pub kept : (name : List ℕ) → Has old name → Has new name
-  pub marked : (name : List ℕ) → IsOneOf name → passes name ≡ true → Has new name
+-- a name is in one of some groups
+abbrev pub HasGroupOf : (name : List ℕ) → Groups → Type 0
+HasGroupOf name groups = has_group groups (bucket_of name) ≡ true
+
+-- those of some names that pass are added
+pub record AreMarked (passes : List ℕ → Bool) (IsOneOf : List ℕ → Type 0) (old new : Groups) : Type 0 where
+  pub kept : (name : List ℕ) → HasGroupOf name old → HasGroupOf name new
+  pub marked : (name : List ℕ) → IsOneOf name → passes name ≡ true → HasGroupOf name new

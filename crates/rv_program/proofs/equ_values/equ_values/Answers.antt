@@ -5,7 +5,7 @@ use Rattle.rv_program.specs.internal.TextRows.{program_in, AreEquValuesIn}
 use Rattle.rv_program.specs.internal.Work.{equ_operands}
 use Rattle.rv_program.specs.lemmas.EquLaws.{equ_values-none, equ_values-past}
 use Rattle.rv_program.specs.lemmas.ShapeWork.{operands-next, operands-more}
-use Rattle.rv_program.proofs.LinesWithout.{count-groups}
+use Rattle.rv_program.specs.lemmas.LineGroups.{count-groups}
 use Rattle.rv_program.proofs.equ_values.equ_values.Goals as goal
 
 pub loop-i-init : goal.loop-i-init

@@ -6,7 +6,7 @@ use Rattle.rv_program.specs.Pairs.{high_at}
 use Rattle.rv_program.specs.internal.Rows.{AreHighs}
 use Rattle.rv_program.specs.internal.TextRows.{program_in}
 use Rattle.rv_program.specs.internal.Work.{high_operands, work}
-use Rattle.rv_program.proofs.LinesWithout.{count-groups}
+use Rattle.rv_program.specs.lemmas.LineGroups.{count-groups}
 use Rattle.rv_program.proofs.HighRows.{AreHighsThrough, highs-none, highs-past, highs-set, highs-all}
 use Rattle.rv_program.specs.lemmas.Programs.{length-program}
 use Rattle.rv_program.specs.lemmas.WorkLaws.{work-up}

@@ -1,36 +1,11 @@
-use Rattle.std.proofs.Common.{◌≡◌, ◌≤◌, length, arith, subst}
+use Rattle.std.proofs.Common.{subst}
 use Rattle.rv_program.specs.internal.LinesWithout.{AreOthers}
-use Rattle.rv_program.proofs.LinesWithout.{others-none, others-joined, others-without}
+use Rattle.rv_program.proofs.LinesWithout.{others-without}
 use Rattle.rv_program.proofs.lines_of_kind.lines_up_to.Goals as goal
-
-pub loop-begin-init : goal.loop-begin-init
-loop-begin-init c = record {
-  up = omega arith;
-  within = c.requires.within;
-  passed = others-none c.args.groups.now c.args.kind c.args.i;
-}
-
-pub loop-begin-preserved : goal.loop-begin-preserved
-loop-begin-preserved c =
-    let groups = c.args.groups.now in
-    let so_far = c.loop-begin.invariant in
-    let block = c.lines_up_to_end-next.ensures in
-    let end = c.min-end.result in
-    let none : c.lines_up_to_end-next.result ≡ end = omega (arith, block.within, c.if-next-end.false) in
-    record {
-      up = omega (arith, so_far.up, c.min-end.ensures, c.loop-begin-test.true);
-      within = omega (arith, c.min-end.ensures);
-      passed = others-joined groups c.args.kind c.args.i c.loop-begin.begin end so_far.passed (subst (AreOthers groups c.args.kind c.loop-begin.begin) none block.passed);
-    }
-
-pub returns-then-next-end-clause-passed : goal.returns-then-next-end-clause-passed
-returns-then-next-end-clause-passed c =
-    let groups = c.args.groups.now in
-    let block = c.lines_up_to_end-next.ensures in
-    let next = c.lines_up_to_end-next.result in
-    let last : next ≤ length groups = omega (arith, block.within, c.min-end.ensures) in
-    others-without groups c.args.kind c.args.i next last (others-joined groups c.args.kind c.args.i c.loop-begin.begin next c.loop-begin.invariant.passed block.passed)
 
 pub returns-clause-passed : goal.returns-clause-passed
 returns-clause-passed c =
-    others-without c.args.groups.now c.args.kind c.args.i c.loop-begin.begin c.loop-begin.invariant.within c.loop-begin.invariant.passed
+    let groups = c.args.groups.now in
+    let next = c.lines_up_to_groups.result in
+    others-without groups c.args.kind c.args.i next c.lines_up_to_groups.ensures.within
+    (subst (λ wanted. AreOthers groups wanted c.args.i next) c.groups.ensures c.lines_up_to_groups.ensures.passed)

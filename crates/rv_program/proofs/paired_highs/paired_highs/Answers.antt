@@ -6,7 +6,7 @@ use Rattle.rv_fix.specs.Values.{Entry}
 use Rattle.rv_program.specs.internal.PairedHighs.{ArePairedThrough}
 use Rattle.rv_program.specs.internal.Rows.{AreHighs, ArePairedHighs}
 use Rattle.rv_program.specs.internal.TextRows.{program_in}
-use Rattle.rv_program.proofs.LinesWithout.{count-groups}
+use Rattle.rv_program.specs.lemmas.LineGroups.{count-groups}
 use Rattle.rv_program.proofs.HighLaws.{high_of_line}
 use Rattle.rv_program.proofs.PairedHighs.{paired-none, paired-past, paired-all, paired-nowhere}
 use Rattle.rv_program.specs.lemmas.Programs.{length-program}

@@ -1,10 +1,9 @@
-use Rattle.std.proofs.Common.{◌≡◌, length, arith, ap, sym, subst, ◌∙◌, refl}
-use Rattle.rv_program.specs.Counted.{counts_of}
-use Rattle.rv_program.specs.Text.{lines_after}
-use Rattle.rv_program.specs.internal.Compared.{compared_through}
-use Rattle.rv_program.specs.internal.Renewals.{AreCounted, AreCountedRenewed}
-use Rattle.rv_program.specs.internal.Revisions.{edited_before, IsRevised}
-use Rattle.rv_store.specs.internal.Renewed.{edited_by, AreItemsLeft}
+use Rattle.std.proofs.Common.{◌≡◌, length, arith, ap, sym, subst, ◌∙◌}
+use Rattle.rv_program.specs.Changes.{differs_in_place}
+use Rattle.rv_program.specs.Edits.{edit_of, line_before_edit}
+use Rattle.rv_program.specs.Program.{program_of}
+use Rattle.rv_store.specs.internal.Renewed.{AreItemsLeft}
+use Rattle.rv_store.proofs.StillShapes.{still-by_shapes}
 use Rattle.rv_store.proofs.renewal.items_edited.Goals as goal
 
 pub items_passed-requires-clause-left : goal.items_passed-requires-clause-left
@@ -24,3 +23,12 @@ items_passed-requires-clause-left g c =
         those = c.deref.ensures.value ∙ rw (sym count) at due.those;
       };
     })
+
+pub due_lines-requires-clause-still : goal.due_lines-requires-clause-still
+due_lines-requires-clause-still g c = λ same line stood first last stands.
+    let before = c.before-before.ensures in
+    let rows = c.rows-rows.ensures in
+    let lines = rows.lines ∙ c.in_column-column.ensures in
+    (λ i. differs_in_place (before.base i) (program_of (before.lines i)) (program_of (lines i)) line stood)
+    ∙ still-by_shapes c.args.base c.args.old_lines.now c.args.lines.now (edit_of c.args.edit.now) c.args.old.now.shapes.items line stood c.requires.allowed c.requires.edited
+    c.requires.old.shapes (sym (c.requires.still same) ∙ c.requires.survey.shapes) (ap (λ e. line_before_edit e line) (sym before.edit) ∙ stands)

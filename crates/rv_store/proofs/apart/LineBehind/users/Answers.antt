@@ -1,28 +1,55 @@
-use Rattle.std.proofs.Common.{◌≡◌, ◌≤◌, ◌<◌, ◌-◌, ℕ, Bool, false, length, take, drop, arith, ap, sym, ◌∙◌}
+use Rattle.std.proofs.Common.{◌≡◌, ◌+◌, ℕ, Bool, true≢false, arith, ap, sym, ◌∙◌}
+use Rattle.std.specs.List.{list_any}
 use Rattle.rv_program.specs.Program.{program_of, body_at}
-use Rattle.rv_program.specs.internal.Groups.{groups_together, has_group}
+use Rattle.rv_program.specs.Uses.{names_used}
+use Rattle.rv_program.specs.lemmas.LineGroups.{count-groups}
+use Rattle.rv_program.specs.lemmas.LineRows.{row-added, row-kept, row-through}
+use Rattle.rv_program.specs.lemmas.LocalLines.{statement-of-line}
 use Rattle.rv_store.specs.internal.Apart.{added_by}
 use Rattle.rv_store.specs.internal.Still.{is_settled, uses_any}
-use Rattle.rv_store.proofs.ApartLines.{block-unused, none-through, with-block}
+use Rattle.rv_store.proofs.ApartLines.{others-unused, with-next, with-block}
 use Rattle.rv_store.proofs.apart.LineBehind.users.Goals as goal
+use Rattle.rv_store.proofs.apart.LineBehind.users.Goals.{then-any_name+else-is_settled+in-Ok, else-any_name}
+
+pub lines-init : goal.lines-init
+lines-init c =
+    let lines = c.args.lines.now in
+    let behind = c.args.self.now in
+    let test : ℕ → Bool = uses_any (added_by behind) (program_of lines) in
+    let settled : ℕ → Bool = λ i. is_settled (body_at (program_of lines) i) in
+    let next = c.lines_up_to_groups-i.ensures in
+    let unused = others-unused lines behind c.args.added c.args.groups.now c.requires.groups c.requires.added 0 c.lines_up_to_groups-i.result next.within next.passed in
+    record {
+      within = omega (arith, next.within, count-groups lines c.args.groups.now c.requires.groups);
+      users = c.new-users.ensures.items ∙ row-through test 0 c.lines_up_to_groups-i.result next.up unused;
+      unsettled = λ i first last h. unused i first last;
+    }
 
 pub lines-preserved : goal.lines-preserved
 lines-preserved c =
     let lines = c.args.lines.now in
     let p = program_of lines in
     let behind = c.args.self.now in
-    let begin = c.lines.begin in
-    let end = c.min-end.result in
+    let n = c.lines.i in
+    let row = c.lines.users.items in
     let test : ℕ → Bool = uses_any (added_by behind) p in
     let settled : ℕ → Bool = λ i. is_settled (body_at p i) in
-    let last : end ≤ length lines = omega (arith, c.min-end.ensures) in
-    let up : begin ≤ end = omega (arith, c.min-end.ensures, c.lines-test.true) in
-    let unused : (i : ℕ) → begin < i → i ≤ end → test i ≡ false = block-unused lines behind c.args.added.now begin end last c.requires.added (λ bucket has.
-    ap (λ gs. has_group (groups_together (take (end - begin) (drop begin gs))) bucket) (sym c.requires.groups)
-    ∙ ap (λ g. has_group g bucket) (sym c.together.ensures)
-    ∙ c.meets.ensures c.if-meets.false bucket has) in
+    let statement = statement-of-line lines n c.index-lines-i.result (omega (arith, c.lines-test.true)) c.index-lines-i.is in
+    let used : c.any_name.result ≡ test (n + 1) = c.any_name.ensures ∙ ap (λ s. list_any (added_by behind) (names_used s.body)) (c.stmt.ensures ∙ sym statement) in
+    let next = c.lines_up_to_groups-i-in-lines.ensures in
+    let end = c.lines_up_to_groups-i-in-lines.result in
+    let unused = others-unused lines behind c.args.added c.args.groups.now c.requires.groups c.requires.added (n + 1) end next.within next.passed in
+    let through = row-through test (n + 1) end next.up unused in
     record {
-      within = last;
-      users = c.lines.invariant.users ∙ sym (none-through test begin end up unused);
-      unsettled = with-block test settled begin end c.lines.invariant.unsettled (λ i past within h. unused i past within);
+      within = omega (arith, next.within, count-groups lines c.args.groups.now c.requires.groups);
+      users = elim c.if-any_name.branch [
+        | then-any_name+else-is_settled+in-Ok w ↦ ap (λ v. v.items) w.users-is ∙ w.in-Ok.ensures.items ∙ row-added test n row c.lines.invariant.users (sym used ∙ w.if-any_name.true) ∙ through
+        | else-any_name w ↦ ap (λ v. v.items) w.users-is ∙ row-kept test n row c.lines.invariant.users (sym used ∙ w.if-any_name.false) ∙ through
+      ];
+      unsettled = with-block test settled (n + 1) end
+          (with-next test settled 0 n c.lines.invariant.unsettled (elim c.if-any_name.branch [
+            | then-any_name+else-is_settled+in-Ok w ↦ λ h. absurd (true≢false (sym h ∙ ap (λ s. is_settled s.body) statement ∙ sym w.is_settled.ensures ∙ w.if-is_settled.false))
+            | else-any_name w ↦ λ h. sym used ∙ w.if-any_name.false
+          ]))
+          (λ i past within h. unused i past within);
     }

@@ -87,6 +87,16 @@ returns-clause-work g c =
     survey_counted before c.args.base c.args.old.now lines (edit_of c.args.edit.now) c.before-before.ensures.base c.before-before.ensures.lines c.before-before.ensures.edit c.requires.edited
     (count c.args.counter.now) (count c.shapes.new.counter) (count c.shapes.new.counter + operands_through equ_operands (program_of lines) (length lines)) (count c.by_rows.new.counter) shaped (omega arith) rest
 
+pub returns-in_err-survey-clause-work : goal.returns-in_err-survey-clause-work
+returns-in_err-survey-clause-work g c =
+    let count = g.C.Count.valued_count in
+    let before = c.before-before.result in
+    let lines = c.args.self.now.lines.items in
+    let shaped = subst (λ ls. count c.shapes.new.counter + shape_operands (edit_on before) ≤ count c.args.counter.now + work constant_operands (base_before before) (lines_before before) (edit_on before) (length ls)) c.as_slice-lines.ensures c.shapes.ensures.work in
+    let rest = subst (λ ls. count c.by_rows.new.counter ≤ count c.shapes.new.counter + operands_through equ_operands (program_of ls) (length ls) + work high_operands (base_before before) (lines_before before) (edit_on before) (length ls)) c.as_slice-lines.ensures c.by_rows.ensures.work in
+    survey_counted before c.args.base c.args.old.now lines (edit_of c.args.edit.now) c.before-before.ensures.base c.before-before.ensures.lines c.before-before.ensures.edit c.requires.edited
+    (count c.args.counter.now) (count c.shapes.new.counter) (count c.shapes.new.counter + operands_through equ_operands (program_of lines) (length lines)) (count c.by_rows.new.counter) shaped (omega arith) rest
+
 pub returns-in_err-sized-clause-parsed : goal.returns-in_err-sized-clause-parsed
 returns-in_err-sized-clause-parsed g c = c.shapes.ensures.parsed
 
@@ -116,3 +126,16 @@ shapes-requires-clause-shape g c =
     let before = c.before-before.ensures in
     subst (λ ls. IsNewShape ls (edit_on c.before-before.result) c.args.shape) (sym before.lines)
     (subst (λ e. IsNewShape c.args.old.now e c.args.shape) (sym before.edit) c.requires.shape)
+
+pub returns-clause-still : goal.returns-clause-still
+returns-clause-still g c = λ same.
+    c.in_ok-survey.ensures.survey.shapes
+    ∙ sym c.in_ok-sized.ensures.shapes
+    ∙ c.in_ok-sized.ensures.same same
+    ∙ c.before-before.ensures.shapes
+
+pub returns-in_err-survey-clause-parsed : goal.returns-in_err-survey-clause-parsed
+returns-in_err-survey-clause-parsed g c = c.by_rows.ensures.parsed ∙ c.shapes.ensures.parsed
+
+pub returns-in_err-survey-clause-encoded : goal.returns-in_err-survey-clause-encoded
+returns-in_err-survey-clause-encoded g c = c.by_rows.ensures.encoded ∙ c.shapes.ensures.encoded
