@@ -1,12 +1,14 @@
 -- Lines with which no line of a text has to do: what they add, and who uses it.
-use Rattle.std.proofs.Common.{◌≡◌, ℕ, suc, ◌+◌, ◌-◌, ◌%◌, ◌<◌, ◌≤◌, ◌⊎◌, inl, inr, Bool, true, false, not, ◌&&◌, ◌||◌, List, [], ◌∷◌, ◌++◌, length, map, get_or, bytes_eq, None, if◌then◌else◌, true≢false, arith, ap, sym, subst, ◌∙◌, refl}
+use Rattle.std.proofs.Common.{◌≡◌, ℕ, suc, ◌+◌, ◌-◌, ◌%◌, ◌<◌, ◌≤◌, ◌==◌, ◌⊎◌, inl, inr, Bool, true, false, not, ◌&&◌, ◌||◌, List, [], ◌∷◌, ◌++◌, length, map, get_or, bytes_eq, None, if◌then◌else◌, true≢false, arith, ap, sym, subst, ◌∙◌, refl}
 use Rattle.std.specs.List.{list_any}
 use Rattle.std.proofs.Math.Path.{fun_ext}
-use Rattle.std.proofs.lemmas.Bool.{cases_lt, lt-ltb, le-ltb}
+use Rattle.std.proofs.lemmas.Bool.{cases_lt, lt-ltb, le-ltb, eqb-true, eq-eqb, and_parts, or_cases}
 use Rattle.std.proofs.lemmas.List.{get_or-map}
 use Rattle.std.proofs.lemmas.Slice.Eq.{bytes_eq-Decides}
 use Rattle.rv_stmt.specs.declared.statement.Stmt.{Stmt}
-use Rattle.rv_stmt.specs.LabelNames.{Label}
+use Rattle.rv_stmt.specs.declared.statement.Body.{Body}
+use Rattle.rv_stmt.specs.declared.statement.Body.TheVariants.{Equ as EquBody}
+use Rattle.rv_stmt.specs.LabelNames.{Label, Symbol as LabelSymbol}
 use Rattle.rv_stmt.specs.Statement.{statement_of}
 use Rattle.rv_list.specs.declared.view.DefinitionPlace.{DefinitionPlace}
 use Rattle.rv_list.specs.declared.view.DefinitionPlace.TheVariants.{Nowhere, Label as ByLabel, Equ}
@@ -20,10 +22,11 @@ use Rattle.rv_program.specs.Definitions.{defines_symbol, place_among_labels, pla
 use Rattle.rv_program.specs.internal.Locals.{has_local_labels}
 use Rattle.rv_program.specs.internal.Groups.{no_groups, has_group, SharesNone}
 use Rattle.rv_program.specs.internal.LinesWithout.{AreOthers}
+use Rattle.rv_program.specs.internal.NameSets.{bucket_of, brief_of_names, may_have}
 use Rattle.rv_program.specs.Pairs.{pcrel_high_of}
 use Rattle.rv_program.specs.Program.{Program, program_of, no_statement, body_at, lines_that}
 use Rattle.rv_program.specs.internal.Rows.{in_row, AreDefinitions}
-use Rattle.rv_program.specs.Uses.{names_used}
+use Rattle.rv_program.specs.Uses.{names_used, is_equ}
 use Rattle.rv_store.specs.internal.Still.{is_settled, uses_any}
 use Rattle.rv_store.proofs.LongerTexts.{definitions-longer}
 use Rattle.rv_store.proofs.StillLaws.{lines_that-still}
@@ -83,6 +86,42 @@ statement-defines line s name h = at (either-defined (place_among_labels line 0 
 pub equ-defines : (line : ℕ) (symbol name : List ℕ) (b : Bool) → b ≡ bytes_eq symbol name → is_defined (if b then Equ line else Nowhere) ≡ true → name ≡ symbol
 equ-defines line symbol name true is h = sym ((bytes_eq-Decides symbol name).0 (sym is))
 equ-defines line symbol name false is h = absurd (true≢false (sym h))
+
+-- a line with one label that is no `.equ` adds no other name
+defined-by_one : (l : Label) (others : List Label) (symbol name : List ℕ) → (length others == 0) ≡ true → l.name ≡ LabelSymbol symbol → list_any (λ m. defines_symbol m.name name) (l ∷ others) ≡ true → name ≡ symbol
+defined-by_one l [] symbol name none is h = at (or_cases (defines_symbol l.name name) false h)
+  where
+    at : (defines_symbol l.name name ≡ true) ⊎ (false ≡ true) → name ≡ symbol
+    at (inl defines) = sym ((bytes_eq-Decides symbol name).0 (ap (λ n. defines_symbol n name) (sym is) ∙ defines))
+    at (inr wrong) = absurd (true≢false (sym wrong))
+defined-by_one l (m ∷ others) symbol name none is h = absurd (let e : suc (length others) ≡ 0 = eqb-true (suc (length others)) 0 none in omega (arith, e))
+
+undefined-by_body : (line : ℕ) (b : Body) (name : List ℕ) → is_equ b ≡ false → is_defined (place_in_body line b name) ≡ false
+undefined-by_body line (EquBody d) name h = absurd (true≢false h)
+undefined-by_body line b name h = refl
+
+pub one-added : (behind : LineBehind) (l : Label) (others : List Label) (symbol name : List ℕ) → (statement_of behind.line.now).labels ≡ l ∷ others → (length others == 0) ≡ true → l.name ≡ LabelSymbol symbol → is_equ (statement_of behind.line.now).body ≡ false → added_by behind name ≡ true → name ≡ symbol
+one-added behind l others symbol name are none is no_equ adds =
+    let s = statement_of behind.line.now in
+    let parts = and_parts (not (is_earlier behind.number (in_row behind.names.now behind.definitions.now Nowhere name))) (is_defined (place_in_statement behind.number s name)) adds in
+    at (statement-defines behind.number s name parts.1)
+  where
+    at : (list_any (λ l. defines_symbol l.name name) (statement_of behind.line.now).labels ≡ true) ⊎ (is_defined (place_in_body behind.number (statement_of behind.line.now).body name) ≡ true) → name ≡ symbol
+    at (inl labels) = defined-by_one l others symbol name none is (ap (list_any (λ l. defines_symbol l.name name)) (sym are) ∙ labels)
+    at (inr body) = absurd (true≢false (sym body ∙ undefined-by_body behind.number (statement_of behind.line.now).body name no_equ))
+
+-- so a line that uses no name of its bucket uses none that it adds
+of_bucket : (behind : LineBehind) (bucket : ℕ) → ((name : List ℕ) → added_by behind name ≡ true → bucket_of name ≡ bucket) → (name : List ℕ) → ((bucket_of name == bucket) ≡ true) ⊎ (added_by behind name ≡ false)
+of_bucket behind bucket only name = at (added_by behind name) refl
+  where
+    at : (b : Bool) → added_by behind name ≡ b → ((bucket_of name == bucket) ≡ true) ⊎ (added_by behind name ≡ false)
+    at true e = inl (eq-eqb (bucket_of name) bucket (only name e))
+    at false e = inr e
+
+pub unused-by_bucket : (behind : LineBehind) (bucket : ℕ) (names : List (List ℕ)) → ((name : List ℕ) → added_by behind name ≡ true → bucket_of name ≡ bucket) → may_have (brief_of_names names) bucket ≡ false → list_any (added_by behind) names ≡ false
+unused-by_bucket behind bucket names only apart =
+    none-passes (λ b. b == bucket) (added_by behind) (of_bucket behind bucket only) names
+    (λ b is. ap (may_have (brief_of_names names)) (eqb-true b bucket is) ∙ apart)
 
 -- Texts that use nothing that a line adds
 

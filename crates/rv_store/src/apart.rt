@@ -7,9 +7,11 @@ ghost use Rattle.rv_program.specs.declared.limits.TheConstants.{MAX_LINES};
 ghost use Rattle.rv_store.specs.internal.Appended.{adds, is_earlier, TellEarlier, IsApart};
 ghost use Rattle.rv_store.specs.internal.Apart.{added_by, HasGroupOf, AreMarked};
 ghost use Rattle.rv_program.specs.internal.Briefs.{groups_on};
+ghost use Rattle.rv_program.specs.internal.NameSets.{bucket_of};
 ghost use Rattle.rv_program.specs.Definitions.{defines_symbol, place_in_body, is_defined};
 ghost use Rattle.rv_program.specs.Program.{program_of, body_at, lines_that};
 ghost use Rattle.rv_store.specs.internal.Still.{is_settled, uses_any};
+ghost use Rattle.rv_program.specs.Uses.{names_used};
 
 use rv_list::DefinitionPlace;
 use rv_program::lines_of_kind::lines_up_to_groups;
@@ -103,6 +105,33 @@ impl LineBehind<'_> {
         added
     }
 
+    // The bucket of the only name that it may add: that of its label, where it has one and is no `.equ`.
+    fn only_bucket(&self) -> Option<u16>
+        ensures { IfSome result (λ bucket. (name : List ℕ) → added_by self.now name ≡ true → bucket_of name ≡ bucket) }
+    {
+        let (label, others) = self.line.stmt().labels.as_slice().split_first()?;
+        if !others.is_empty() || self.line.brief().equ {
+            return None;
+        }
+        match label.name {
+            LabelName::Symbol(symbol) => Some(bucket_of(symbol)),
+            LabelName::Local(_) => None,
+        }
+    }
+
+    // Whether a line uses a name that it adds, all of which are of one bucket, where there is one. A line that uses no name of that is
+    // gone past without a look at its statement.
+    #[inline]
+    fn is_used_on(&self, line: &Line, only: Option<u16>) -> bool
+        requires { IfSome only (λ bucket. (name : List ℕ) → added_by self.now name ≡ true → bucket_of name ≡ bucket) }
+        ensures { result ≡ list_any (added_by self.now) (names_used (statement_of line.now).body) }
+    {
+        match only {
+            Some(bucket) if !line.brief().names.may_have(bucket) => false,
+            _ => any_name(&line.stmt().body, self),
+        }
+    }
+
     // The lines that use a name that it adds, rising, or `None` if other lines take what one of them gives, or there is no memory for
     // them. Lines whose groups say that they use none are gone past.
     fn users(
@@ -118,11 +147,12 @@ impl LineBehind<'_> {
         ensures users { IfSome result (λ row. row.items ≡ lines_that (uses_any (added_by self.now) (program_of lines.now)) (length lines.now)) }
         ensures unsettled { IfSome result (λ _. (i : ℕ) → 1 ≤ i → i ≤ length lines.now → is_settled (body_at (program_of lines.now) i) ≡ true → uses_any (added_by self.now) (program_of lines.now) i ≡ false) }
     {
+        let only = self.only_bucket();
         let mut users = Vec::new(alloc);
         let mut i = lines_up_to_groups(groups, 0, added);
         'lines: while i < lines.len() {
             let line = &lines[i];
-            if any_name(&line.stmt().body, self) {
+            if self.is_used_on(line, only) {
                 if is_settled(line) {
                     return None;
                 }

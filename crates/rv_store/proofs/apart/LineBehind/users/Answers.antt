@@ -9,7 +9,7 @@ use Rattle.rv_store.specs.internal.Apart.{added_by}
 use Rattle.rv_store.specs.internal.Still.{is_settled, uses_any}
 use Rattle.rv_store.proofs.ApartLines.{others-unused, with-next, with-block}
 use Rattle.rv_store.proofs.apart.LineBehind.users.Goals as goal
-use Rattle.rv_store.proofs.apart.LineBehind.users.Goals.{then-any_name+else-is_settled+in-Ok, else-any_name}
+use Rattle.rv_store.proofs.apart.LineBehind.users.Goals.{then-is_used_on+else-is_settled+in-Ok, else-is_used_on}
 
 pub lines-init : goal.lines-init
 lines-init c =
@@ -35,21 +35,21 @@ lines-preserved c =
     let test : ℕ → Bool = uses_any (added_by behind) p in
     let settled : ℕ → Bool = λ i. is_settled (body_at p i) in
     let statement = statement-of-line lines n c.index-lines-i.result (omega (arith, c.lines-test.true)) c.index-lines-i.is in
-    let used : c.any_name.result ≡ test (n + 1) = c.any_name.ensures ∙ ap (λ s. list_any (added_by behind) (names_used s.body)) (c.stmt.ensures ∙ sym statement) in
+    let used : c.is_used_on.result ≡ test (n + 1) = c.is_used_on.ensures ∙ ap (λ s. list_any (added_by behind) (names_used s.body)) (sym statement) in
     let next = c.lines_up_to_groups-i-in-lines.ensures in
     let end = c.lines_up_to_groups-i-in-lines.result in
     let unused = others-unused lines behind c.args.added c.args.groups.now c.requires.groups c.requires.added (n + 1) end next.within next.passed in
     let through = row-through test (n + 1) end next.up unused in
     record {
       within = omega (arith, next.within, count-groups lines c.args.groups.now c.requires.groups);
-      users = elim c.if-any_name.branch [
-        | then-any_name+else-is_settled+in-Ok w ↦ ap (λ v. v.items) w.users-is ∙ w.in-Ok.ensures.items ∙ row-added test n row c.lines.invariant.users (sym used ∙ w.if-any_name.true) ∙ through
-        | else-any_name w ↦ ap (λ v. v.items) w.users-is ∙ row-kept test n row c.lines.invariant.users (sym used ∙ w.if-any_name.false) ∙ through
+      users = elim c.if-is_used_on.branch [
+        | then-is_used_on+else-is_settled+in-Ok w ↦ ap (λ v. v.items) w.users-is ∙ w.in-Ok.ensures.items ∙ row-added test n row c.lines.invariant.users (sym used ∙ w.if-is_used_on.true) ∙ through
+        | else-is_used_on w ↦ ap (λ v. v.items) w.users-is ∙ row-kept test n row c.lines.invariant.users (sym used ∙ w.if-is_used_on.false) ∙ through
       ];
       unsettled = with-block test settled (n + 1) end
-          (with-next test settled 0 n c.lines.invariant.unsettled (elim c.if-any_name.branch [
-            | then-any_name+else-is_settled+in-Ok w ↦ λ h. absurd (true≢false (sym h ∙ ap (λ s. is_settled s.body) statement ∙ sym w.is_settled.ensures ∙ w.if-is_settled.false))
-            | else-any_name w ↦ λ h. sym used ∙ w.if-any_name.false
+          (with-next test settled 0 n c.lines.invariant.unsettled (elim c.if-is_used_on.branch [
+            | then-is_used_on+else-is_settled+in-Ok w ↦ λ h. absurd (true≢false (sym h ∙ ap (λ s. is_settled s.body) statement ∙ sym w.is_settled.ensures ∙ w.if-is_settled.false))
+            | else-is_used_on w ↦ λ h. sym used ∙ w.if-is_used_on.false
           ]))
           (λ i past within h. unused i past within);
     }
