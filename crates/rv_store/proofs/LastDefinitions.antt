@@ -70,7 +70,7 @@ row-forgotten names row other symbol n f number here others = at (cases_lt n (le
 
 -- Definitions behind a text
 
-and-false : (b : Bool) → (b && false) ≡ false
+pub and-false : (b : Bool) → (b && false) ≡ false
 and-false true = refl
 and-false false = refl
 

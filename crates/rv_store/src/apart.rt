@@ -119,8 +119,8 @@ impl LineBehind<'_> {
         }
     }
 
-    // Whether a line uses a name that it adds, all of which are of one bucket, where there is one. A line that uses no name of that is
-    // gone past without a look at its statement.
+    // Whether a line uses a name that it adds. Where `only` is the bucket of all these, a line without a name of this bucket is gone past
+    // without a look at its statement.
     #[inline]
     fn is_used_on(&self, line: &Line, only: Option<u16>) -> bool
         requires { IfSome only (λ bucket. (name : List ℕ) → added_by self.now name ≡ true → bucket_of name ≡ bucket) }

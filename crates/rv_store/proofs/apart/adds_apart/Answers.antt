@@ -7,14 +7,11 @@ use Rattle.rv_program.specs.internal.NameSets.{bucket_of}
 use Rattle.rv_program.specs.Program.{program_of, lines_that}
 use Rattle.rv_store.proofs.AlikeLines.{no_high}
 use Rattle.rv_store.specs.internal.Still.{uses_any}
+use Rattle.rv_store.proofs.LastDefinitions.{and-false}
 use Rattle.rv_store.proofs.ApartLines.{apart-unadded, apart-unsettled, no_users, adds-same}
 use Rattle.rv_program.specs.lemmas.DefinitionRows.{nothing-defined}
 use Rattle.rv_program.specs.lemmas.GroupLaws.{no-bit}
 use Rattle.rv_store.proofs.apart.adds_apart.Goals as goal
-
-and-false : (b : Bool) → (b && false) ≡ false
-and-false true = refl
-and-false false = refl
 
 pub returns-then-not-may_define-clause-nothing : goal.returns-then-not-may_define-clause-nothing
 returns-then-not-may_define-clause-nothing c h name =

@@ -1,18 +1,27 @@
-use Rattle.std.proofs.Common.{◌≤◌, ◌+◌, ◌^◌, length, ap, sym, subst, ◌∙◌, arith}
+use Rattle.std.proofs.Common.{◌≡◌, ℕ, ◌≤◌, ◌+◌, ◌^◌, List, length, ap, sym, subst, ◌∙◌, arith}
 use Rattle.rv_layout.specs.Places.{sum_below}
 use Rattle.rv_layout.specs.Sections.{sections}
+use Rattle.rv_program.specs.declared.before.Before.{Before}
+use Rattle.rv_program.specs.Text.{Edit, lines_after}
 use Rattle.rv_program.specs.internal.Before.{base_before, lines_before, edit_on}
 use Rattle.rv_program.specs.Edits.{edit_of}
 use Rattle.rv_store.specs.internal.Ends.{ends_of, end_in, place_by_shapes}
 use Rattle.rv_program.specs.internal.NewShapes.{IsNewShape, shape_operands}
 use Rattle.rv_program.specs.Program.{program_of, for_lines}
-use Rattle.rv_program.specs.internal.Work.{equ_operands, constant_operands, high_operands, operands_through, work}
+use Rattle.rv_program.specs.internal.Work.{equ_operands, constant_operands, high_operands, survey_operands, operands_through, work}
 use Rattle.rv_store.proofs.EndBases.{ends-together}
 use Rattle.rv_store.proofs.Stores.{survey_grown}
 use Rattle.rv_program.specs.lemmas.SurveyWork.{survey_counted}
 use Rattle.rv_program.specs.lemmas.ShapeWork.{nothing-surveyed}
 use Rattle.rv_store.proofs.Surveys.{length_of_shapes, unplaced}
 use Rattle.rv_store.proofs.survey.Survey.after.Goals as goal
+
+-- what is computed where the shapes are made, and so much after them
+surveyed : (before : Before) (base : ℕ) (old lines after : List (List ℕ)) (edit : Edit) → base_before before ≡ base → lines_before before ≡ old → edit_on before ≡ edit → lines ≡ after → after ≡ lines_after old edit → (first shaped last : ℕ) → shaped + shape_operands (edit_on before) ≤ first + work constant_operands (base_before before) (lines_before before) (edit_on before) (length lines) → last ≤ shaped + operands_through equ_operands (program_of lines) (length lines) + work high_operands (base_before before) (lines_before before) (edit_on before) (length lines) → last + shape_operands edit ≤ first + work survey_operands base old edit (length after)
+surveyed before base old lines after edit same_base same_lines same_edit same edited first shaped last shapes rest =
+    rw same at
+    (survey_counted before base old lines edit same_base same_lines same_edit (same ∙ edited)
+    first shaped (shaped + operands_through equ_operands (program_of lines) (length lines)) last shapes (omega arith) rest)
 
 pub returns-in_err-definitions-clause-work : goal.returns-in_err-definitions-clause-work
 returns-in_err-definitions-clause-work g c =
@@ -25,19 +34,15 @@ pub returns-in_err-sized-clause-work : goal.returns-in_err-sized-clause-work
 returns-in_err-sized-clause-work g c =
     let count = g.C.Count.valued_count in
     let before = c.before-before.ensures in
-    let same = c.as_slice-lines.ensures in
-    rw same at
-    (survey_counted c.before-before.result c.args.base c.args.old.now c.as_slice-lines.result.now (edit_of c.args.edit.now) before.base before.lines before.edit (same ∙ c.requires.edited)
-    (count c.args.counter.now) (count c.shapes.new.counter) (count c.shapes.new.counter) (count c.shapes.new.counter) c.shapes.ensures.work (omega arith) (omega arith))
+    surveyed c.before-before.result c.args.base c.args.old.now c.as_slice-lines.result.now c.args.self.now.lines.items (edit_of c.args.edit.now) before.base before.lines before.edit c.as_slice-lines.ensures c.requires.edited
+    (count c.args.counter.now) (count c.shapes.new.counter) (count c.shapes.new.counter) c.shapes.ensures.work (omega arith)
 
 pub returns-in_err-placed-clause-work : goal.returns-in_err-placed-clause-work
 returns-in_err-placed-clause-work g c =
     let count = g.C.Count.valued_count in
     let before = c.before-before.ensures in
-    let same = c.as_slice-lines.ensures in
-    rw same at
-    (survey_counted c.before-before.result c.args.base c.args.old.now c.as_slice-lines.result.now (edit_of c.args.edit.now) before.base before.lines before.edit (same ∙ c.requires.edited)
-    (count c.args.counter.now) (count c.shapes.new.counter) (count c.shapes.new.counter) (count c.shapes.new.counter) c.shapes.ensures.work (omega arith) (omega arith))
+    surveyed c.before-before.result c.args.base c.args.old.now c.as_slice-lines.result.now c.args.self.now.lines.items (edit_of c.args.edit.now) before.base before.lines before.edit c.as_slice-lines.ensures c.requires.edited
+    (count c.args.counter.now) (count c.shapes.new.counter) (count c.shapes.new.counter) c.shapes.ensures.work (omega arith)
 
 pub placed-requires-clause-few : goal.placed-requires-clause-few
 placed-requires-clause-few g c =
@@ -72,30 +77,22 @@ pub returns-in_err-locals-clause-work : goal.returns-in_err-locals-clause-work
 returns-in_err-locals-clause-work g c =
     let count = g.C.Count.valued_count in
     let before = c.before-before.ensures in
-    let same = c.as_slice-lines.ensures in
-    rw same at
-    (survey_counted c.before-before.result c.args.base c.args.old.now c.as_slice-lines.result.now (edit_of c.args.edit.now) before.base before.lines before.edit (same ∙ c.requires.edited)
-    (count c.args.counter.now) (count c.shapes.new.counter) (count c.shapes.new.counter) (count c.shapes.new.counter) c.shapes.ensures.work (omega arith) (omega arith))
+    surveyed c.before-before.result c.args.base c.args.old.now c.as_slice-lines.result.now c.args.self.now.lines.items (edit_of c.args.edit.now) before.base before.lines before.edit c.as_slice-lines.ensures c.requires.edited
+    (count c.args.counter.now) (count c.shapes.new.counter) (count c.shapes.new.counter) c.shapes.ensures.work (omega arith)
 
 pub returns-clause-work : goal.returns-clause-work
 returns-clause-work g c =
     let count = g.C.Count.valued_count in
-    let before = c.before-before.result in
-    let lines = c.args.self.now.lines.items in
-    let shaped = subst (λ ls. count c.shapes.new.counter + shape_operands (edit_on before) ≤ count c.args.counter.now + work constant_operands (base_before before) (lines_before before) (edit_on before) (length ls)) c.as_slice-lines.ensures c.shapes.ensures.work in
-    let rest = subst (λ ls. count c.by_rows.new.counter ≤ count c.shapes.new.counter + operands_through equ_operands (program_of ls) (length ls) + work high_operands (base_before before) (lines_before before) (edit_on before) (length ls)) c.as_slice-lines.ensures c.by_rows.ensures.work in
-    survey_counted before c.args.base c.args.old.now lines (edit_of c.args.edit.now) c.before-before.ensures.base c.before-before.ensures.lines c.before-before.ensures.edit c.requires.edited
-    (count c.args.counter.now) (count c.shapes.new.counter) (count c.shapes.new.counter + operands_through equ_operands (program_of lines) (length lines)) (count c.by_rows.new.counter) shaped (omega arith) rest
+    let before = c.before-before.ensures in
+    surveyed c.before-before.result c.args.base c.args.old.now c.as_slice-lines.result.now c.args.self.now.lines.items (edit_of c.args.edit.now) before.base before.lines before.edit c.as_slice-lines.ensures c.requires.edited
+    (count c.args.counter.now) (count c.shapes.new.counter) (count c.by_rows.new.counter) c.shapes.ensures.work c.by_rows.ensures.work
 
 pub returns-in_err-survey-clause-work : goal.returns-in_err-survey-clause-work
 returns-in_err-survey-clause-work g c =
     let count = g.C.Count.valued_count in
-    let before = c.before-before.result in
-    let lines = c.args.self.now.lines.items in
-    let shaped = subst (λ ls. count c.shapes.new.counter + shape_operands (edit_on before) ≤ count c.args.counter.now + work constant_operands (base_before before) (lines_before before) (edit_on before) (length ls)) c.as_slice-lines.ensures c.shapes.ensures.work in
-    let rest = subst (λ ls. count c.by_rows.new.counter ≤ count c.shapes.new.counter + operands_through equ_operands (program_of ls) (length ls) + work high_operands (base_before before) (lines_before before) (edit_on before) (length ls)) c.as_slice-lines.ensures c.by_rows.ensures.work in
-    survey_counted before c.args.base c.args.old.now lines (edit_of c.args.edit.now) c.before-before.ensures.base c.before-before.ensures.lines c.before-before.ensures.edit c.requires.edited
-    (count c.args.counter.now) (count c.shapes.new.counter) (count c.shapes.new.counter + operands_through equ_operands (program_of lines) (length lines)) (count c.by_rows.new.counter) shaped (omega arith) rest
+    let before = c.before-before.ensures in
+    surveyed c.before-before.result c.args.base c.args.old.now c.as_slice-lines.result.now c.args.self.now.lines.items (edit_of c.args.edit.now) before.base before.lines before.edit c.as_slice-lines.ensures c.requires.edited
+    (count c.args.counter.now) (count c.shapes.new.counter) (count c.by_rows.new.counter) c.shapes.ensures.work c.by_rows.ensures.work
 
 pub returns-in_err-sized-clause-parsed : goal.returns-in_err-sized-clause-parsed
 returns-in_err-sized-clause-parsed g c = c.shapes.ensures.parsed
