@@ -1,5 +1,5 @@
 -- The code of a line has at most 65,536 bytes.
-use Rattle.std.proofs.Common.{◌≡◌, ℕ, ℤ, ◌+◌, ◌≤◌, Bool, true, false, List, [], ◌∷◌, ◌++◌, length, Option, Some, None, Result, Ok, Err, leb, if◌then◌else◌, arith, refl}
+use Rattle.std.proofs.Common.{◌≡◌, ℕ, ℤ, ◌+◌, ◌≤◌, Bool, true, false, List, [], ◌∷◌, ◌++◌, length, Some, None, Result, Ok, Err, leb, if◌then◌else◌, arith, refl}
 use Rattle.std.specs.Prelude.{pos, negsuc, ◌&&◌, ok_or}
 use Rattle.std.proofs.lemmas.Bool.{leb-true, and_parts, true≢false}
 use Rattle.std.proofs.lemmas.List.{length-append, length-replicate}

@@ -3,6 +3,7 @@ pub mod Code
 pub mod Data
 pub mod Displacements
 pub mod Filling
+pub mod KeptValues
 pub mod Limits
 pub mod Padding
 pub mod Payloads

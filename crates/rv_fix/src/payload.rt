@@ -173,8 +173,8 @@ impl Payload {
         }
     }
 
-    /// Whether these are the same bytes, however they are kept.
-    pub fn is_same(&self, other: &Payload) -> bool
+    // Whether these are the same bytes, one after another.
+    fn is_same_by_bytes(&self, other: &Payload) -> bool
         ensures { IsTrue result ↔ (self.now ≡ other.now) }
     {
         let count = self.len();
@@ -187,5 +187,18 @@ impl Payload {
             }
         }
         true
+    }
+
+    /// Whether these are the same bytes, however they are kept.
+    pub fn is_same(&self, other: &Payload) -> bool
+        ensures { IsTrue result ↔ (self.now ≡ other.now) }
+    {
+        match &self.form {
+            Form::Bytes(bytes) => match &other.form {
+                Form::Bytes(others) => bytes.as_slice() == others.as_slice(),
+                _ => self.is_same_by_bytes(other),
+            },
+            _ => self.is_same_by_bytes(other),
+        }
     }
 }

@@ -171,6 +171,11 @@ pub fn operand_values<N: Names, C: Count>(
     ensures parsed { C.parsed_count counter.new ≡ C.parsed_count counter.old }
     ensures encoded { C.encoded_count counter.new ≡ C.encoded_count counter.old }
 {
-    let entries = entries(alloc, stmt.body.operands(), names, address, counter)?;
-    Ok(Values::new(entries))
+    match stmt.body.operands() {
+        [operand] => Ok(Values::one(entry(operand, names, address, counter))),
+        operands => {
+            let entries = entries(alloc, operands, names, address, counter)?;
+            Ok(Values::several(entries))
+        }
+    }
 }

@@ -1,6 +1,6 @@
 //! The values of a line's operands, together.
 
-ghost use Rattle.std.specs.Prelude.{◌≡◌, IsTrue, ◌↔◌};
+ghost use Rattle.std.specs.Prelude.{◌≡◌, [], ◌∷◌, IsTrue, ◌↔◌};
 
 use rv_expr::ValueFault;
 use rv_text::Sequence;
@@ -9,34 +9,58 @@ use std::marker::Model;
 /// The value of an operand, or why it has none.
 pub type Entry = Result<i64, ValueFault>;
 
-/// The values of a line's operands. Contracts see the list of them.
+// How the values are kept.
+#[derive(Drop)]
+enum Kept {
+    // One, as most lines have.
+    One([Entry; 1]),
+    // Any number.
+    Several(Sequence<Entry>),
+}
+
+/// The values of a line's operands. One value takes no memory, and neither does none. Contracts see the list of them.
 #[derive(Drop)]
 pub struct Values {
-    entries: Sequence<Entry>,
+    kept: Kept,
 }
 
 impl Model for Values {
     ghost use Rattle.std.specs.Prelude.{List};
+    ghost use Rattle.rv_fix.specs.KeptValues.{entries_of};
     ghost use Rattle.rv_fix.specs.Values.{Entry};
 
     ghost Value = { List Entry };
 
-    ghost view = { λ v. v.entries };
+    ghost view = { λ v. entries_of v.kept };
 }
 
 impl Values {
+    // One value.
+    pub(crate) fn one(entry: Entry) -> Self
+        ensures { result ≡ entry ∷ [] }
+    {
+        Values {
+            kept: Kept::One([entry]),
+        }
+    }
+
     // These values.
-    pub(crate) fn new(entries: Sequence<Entry>) -> Self
+    pub(crate) fn several(entries: Sequence<Entry>) -> Self
         ensures { result ≡ entries }
     {
-        Values { entries }
+        Values {
+            kept: Kept::Several(entries),
+        }
     }
 
     /// One for each operand, from left to right.
     pub fn entries(&self) -> &[Entry]
         ensures { result.now ≡ self.now }
     {
-        self.entries.as_slice()
+        match &self.kept {
+            Kept::One(entry) => entry.as_slice(),
+            Kept::Several(entries) => entries.as_slice(),
+        }
     }
 
     /// Whether these are the same values and faults.

@@ -32,8 +32,8 @@ fn lines_up_to_end(groups: &[Groups], begin: usize, end: usize, wanted: Groups) 
     end
 }
 
-/// How many lines there are before the next one in one of the wanted groups behind the first `i`. `groups` are those of the lines.
-pub fn lines_up_to_groups(groups: &[Groups], i: usize, wanted: Groups) -> usize
+// It is as for `lines_up_to_groups`, block by block.
+fn lines_up_by_blocks(groups: &[Groups], i: usize, wanted: Groups) -> usize
     requires within { i ≤ length groups.now }
     ensures up { i ≤ result }
     ensures within { result ≤ length groups.now }
@@ -50,6 +50,21 @@ pub fn lines_up_to_groups(groups: &[Groups], i: usize, wanted: Groups) -> usize
         begin = end;
     }
     begin
+}
+
+/// How many lines there are before the next one in one of the wanted groups behind the first `i`. `groups` are those of the lines.
+#[inline]
+pub fn lines_up_to_groups(groups: &[Groups], i: usize, wanted: Groups) -> usize
+    requires within { i ≤ length groups.now }
+    ensures up { i ≤ result }
+    ensures within { result ≤ length groups.now }
+    ensures passed { AreOthers groups.now wanted i result }
+    ensures found { result < length groups.now → IsTrue (share_group wanted (get_or groups.now result no_groups)) }
+{
+    if i < groups.len() && wanted.meets(groups[i]) {
+        return i;
+    }
+    lines_up_by_blocks(groups, i, wanted)
 }
 
 /// How many lines there are before the next one of a kind behind the first `i`, by the groups of the lines.

@@ -109,10 +109,11 @@ impl LineBehind<'_> {
     fn only_bucket(&self) -> Option<u16>
         ensures { IfSome result (λ bucket. (name : List ℕ) → added_by self.now name ≡ true → bucket_of name ≡ bucket) }
     {
-        let (label, others) = self.line.stmt().labels.as_slice().split_first()?;
-        if !others.is_empty() || self.line.brief().equ {
+        let labels = &self.line.stmt().labels;
+        if labels.len() > 1 || self.line.brief().equ {
             return None;
         }
+        let (label, _others) = labels.as_slice().split_first()?;
         match label.name {
             LabelName::Symbol(symbol) => Some(bucket_of(symbol)),
             LabelName::Local(_) => None,

@@ -140,13 +140,21 @@ fn former_shapes(
     ensures { IfOk result (λ row. row.items ≡ former_shapes before.now.shapes.now (edit_on before.now) shape) }
 {
     let mut row = Vec::with_capacity(alloc, room_for(count))?;
-    row.extend_from_slice(before.shapes)?;
     match before.edit {
-        LineEdit::Insert(k, _) => row.insert(k as usize - 1, shape)?,
+        LineEdit::Insert(k, _) => {
+            let (above, below) = before.shapes.split_at(k as usize - 1);
+            row.extend_from_slice(above)?;
+            row.push(shape)?;
+            row.extend_from_slice(below)?;
+        }
         LineEdit::Delete(k) => {
+            row.extend_from_slice(before.shapes)?;
             let _ = row.remove(k as usize - 1);
         }
-        LineEdit::Replace(k, _) => row[k as usize - 1] = shape,
+        LineEdit::Replace(k, _) => {
+            row.extend_from_slice(before.shapes)?;
+            row[k as usize - 1] = shape;
+        }
     }
     Ok(row)
 }

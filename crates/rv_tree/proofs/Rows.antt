@@ -1,11 +1,11 @@
 -- The items of a row.
-use Rattle.std.proofs.Common.{◌≡◌, ℕ, zero, suc, ◌+◌, ◌<◌, List, [], ◌∷◌, ◌++◌, length, take, drop, Some, arith, ap, ap₂, sym, ◌∙◌, refl, add-one}
+use Rattle.std.proofs.Common.{◌≡◌, ℕ, zero, suc, ◌+◌, ◌-◌, ◌≤◌, ◌<◌, List, [], ◌∷◌, ◌++◌, length, take, drop, Some, arith, ap, ap₂, sym, ◌∙◌, refl, add-one}
 use Rattle.std.specs.Prelude.{slice_get, slice_index_or}
 use Rattle.std.specs.List.{insert, remove, AllZip}
 use Rattle.std.proofs.lemmas.List.{map-append, take-map, drop-map, drop-drop, drop_more, take-append-drop}
 use Rattle.std.specs.declared.rc.Rc.{Rc}
 use Rattle.std.specs.declared.alloc.Global.{Global}
-use Rattle.rv_tree.specs.Rows.{values, one_behind}
+use Rattle.rv_tree.specs.Rows.{values, some_behind}
 
 -- items that are shared once more
 pub values-cloned : {T : Type 0} (xs ys : List (Rc T Global)) → AllZip (λ x y. y.value ≡ x.value) xs ys → values ys ≡ values xs
@@ -41,6 +41,18 @@ drop_get (y ∷ ys) zero (suc n) x lt e = let same : y ≡ x = cc e in ap (λ z.
 drop_get (y ∷ ys) (suc i) zero x lt e = absurd (omega arith)
 drop_get (y ∷ ys) (suc i) (suc n) x lt e = drop_get ys i n x (omega arith) e
 
+nothing_taken : {X : Type 0} (n : ℕ) → [] ≡ take {A = X} n []
+nothing_taken zero = refl
+nothing_taken (suc n) = refl
+
+-- those of the first e items that stand behind the first i
+pub drop-take : {X : Type 0} (xs : List X) (i e : ℕ) → i ≤ e → drop i (take e xs) ≡ some_behind i (e - i) xs
+drop-take xs zero e le = let all : e ≡ e - 0 = omega arith in ap (λ n. take n xs) all
+drop-take [] (suc i) zero le = absurd (omega arith)
+drop-take [] (suc i) (suc e) le = nothing_taken (suc e - suc i)
+drop-take (x ∷ xs) (suc i) zero le = absurd (omega arith)
+drop-take (x ∷ xs) (suc i) (suc e) le = let same : e - i ≡ suc e - suc i = omega arith in drop-take xs i e (omega arith) ∙ ap (λ n. take n (drop i xs)) same
+
 drop_from : {X : Type 0} (xs : List X) (i : ℕ) (x : X) → slice_get xs i ≡ Some x → drop i xs ≡ x ∷ drop (suc i) xs
 drop_from [] i x e = absurd (cc e)
 drop_from (y ∷ ys) zero x e = let same : y ≡ x = cc e in ap (λ z. z ∷ ys) same
@@ -50,20 +62,10 @@ drop_from (y ∷ ys) (suc i) x e = drop_from ys i x e
 pub drop_at : {X : Type 0} (xs : List X) (i : ℕ) (x : X) → slice_get xs i ≡ Some x → drop i xs ≡ x ∷ drop (i + 1) xs
 drop_at xs i x e = rw add-one (drop_from xs i x e)
 
-taken : {X : Type 0} (xs : List X) (i : ℕ) → take (suc i) xs ≡ take i xs ++ one_behind i xs
-taken [] zero = refl
-taken [] (suc i) = refl
-taken (x ∷ xs) zero = refl
-taken (x ∷ xs) (suc i) = ap (λ ys. x ∷ ys) (taken xs i)
-
--- one item more
-pub one_more_taken : {X : Type 0} (xs : List X) (i : ℕ) → take (i + 1) xs ≡ take i xs ++ one_behind i xs
-one_more_taken xs i = rw add-one (taken xs i)
-
--- one item, and those behind it
-pub one_and_rest : {X : Type 0} (xs : List X) (i : ℕ) → one_behind i xs ++ drop (i + 1) xs ≡ drop i xs
-one_and_rest xs i = ap (λ ys. one_behind i xs ++ ys) (sym (drop-drop 1 i xs)) ∙ take-append-drop 1 (drop i xs)
+-- some items, and those behind them
+pub some_and_rest : {X : Type 0} (xs : List X) (i n : ℕ) → some_behind i n xs ++ drop (i + n) xs ≡ drop i xs
+some_and_rest xs i n = ap (λ ys. some_behind i n xs ++ ys) (sym (drop-drop n i xs)) ∙ take-append-drop n (drop i xs)
 
 -- what is alike from a place on is alike behind it
-pub alike_behind : {X : Type 0} (xs ys : List X) (i : ℕ) → drop i xs ≡ drop i ys → drop (i + 1) xs ≡ drop (i + 1) ys
-alike_behind xs ys i e = sym (drop-drop 1 i xs) ∙ ap (drop 1) e ∙ drop-drop 1 i ys
+pub alike_behind : {X : Type 0} (xs ys : List X) (i n : ℕ) → drop i xs ≡ drop i ys → drop (i + n) xs ≡ drop (i + n) ys
+alike_behind xs ys i n e = sym (drop-drop n i xs) ∙ ap (drop n) e ∙ drop-drop n i ys

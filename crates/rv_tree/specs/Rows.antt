@@ -7,6 +7,6 @@ use Rattle.std.specs.declared.alloc.Global.{Global}
 abbrev pub values : {T : Type 0} → List (Rc T Global) → List T
 values shared = map (λ x. x.value) shared
 
--- the item behind the first i, as a list of it alone
-abbrev pub one_behind : {T : Type 0} → ℕ → List T → List T
-one_behind i xs = take 1 (drop i xs)
+-- n items behind the first i
+abbrev pub some_behind : {T : Type 0} → ℕ → ℕ → List T → List T
+some_behind i n xs = take n (drop i xs)

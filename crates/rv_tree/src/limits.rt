@@ -11,3 +11,6 @@ pub(crate) const WIDTH: u32 = 32;
 
 /// How many items of a full leaf go to the first of the two that it is cut into.
 pub(crate) const HALF: u32 = 16;
+
+/// How many items of a leaf a pass is asked about together.
+pub(crate) const TOGETHER: u32 = 8;

@@ -31,7 +31,7 @@ impl<T: Summed> Subtree<T> {
         ensures { result ≡ total T.Sum.empty T.Sum.op T.sum_of (take count self.now.items) }
     {
         match &self.node {
-            Node::Leaf { row, .. } => row.sum(count),
+            Node::Leaf { row, .. } => row.sum(0, count),
             Node::Fork { left, right, .. } => {
                 let left_len = left.len();
                 if count <= left_len {

@@ -62,7 +62,7 @@ impl<T: Summed> Subtree<T> {
         ensures items { result.items ≡ row }
         ensures height { result.height ≡ 1 }
     {
-        let sum = row.sum(row.len());
+        let sum = row.sum(0, row.len());
         Subtree {
             node: Node::Leaf { row, sum },
         }

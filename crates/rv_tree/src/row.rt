@@ -1,7 +1,7 @@
 //! The items of a leaf, side by side.
 
-ghost use Rattle.std.specs.Prelude.{◌≡◌, ◌+◌, ◌≤◌, ◌<◌, length, [], ◌∷◌, ◌++◌, IfOk, OnOk, slice_get, slice_set, Some, take, insert, remove};
-ghost use Rattle.rv_tree.specs.Rows.{values};
+ghost use Rattle.std.specs.Prelude.{◌≡◌, ◌+◌, ◌-◌, ◌≤◌, ◌<◌, length, [], ◌∷◌, ◌++◌, IfOk, OnOk, slice_get, slice_set, Some, insert, remove};
+ghost use Rattle.rv_tree.specs.Rows.{values, some_behind};
 ghost use Rattle.rv_tree.specs.Sums.{total, AllSums};
 
 use crate::limits::{HALF, WIDTH};
@@ -153,15 +153,16 @@ impl<T: Summed> Row<T> {
         self.items.as_slice().split_at(HALF as usize)
     }
 
-    // The sum of the first `count` items.
-    pub(crate) fn sum(&self, count: u32) -> T::Sum
-        requires { count ≤ length self.now }
-        ensures value { result ≡ total T.Sum.empty T.Sum.op T.sum_of (take count self.now) }
-        ensures sums { AllSums T.Sum.IsValue T.sum_of (take count self.now) }
+    // The sum of the items behind the first `from`, up to the first `end`.
+    pub(crate) fn sum(&self, from: u32, end: u32) -> T::Sum
+        requires order { from ≤ end }
+        requires within { end ≤ length self.now }
+        ensures value { result ≡ total T.Sum.empty T.Sum.op T.sum_of (some_behind from (end - from) self.now) }
+        ensures sums { AllSums T.Sum.IsValue T.sum_of (some_behind from (end - from) self.now) }
     {
         let mut sum = T::Sum::unit();
-        let mut left = count;
-        while left > 0 {
+        let mut left = end;
+        while left > from {
             left -= 1;
             let item = self.get(left).sum();
             item.known();

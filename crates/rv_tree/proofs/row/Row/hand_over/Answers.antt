@@ -2,7 +2,7 @@ use Rattle.std.proofs.Common.{◌≡◌, ◌+◌, ◌∷◌, [], ◌++◌, ◌�
 use Rattle.std.specs.Prelude.{unwrap_or}
 use Rattle.std.proofs.lemmas.List.{drop-set, drop-set-lt, length-set, take-set}
 use Rattle.rv_tree.specs.Passes.{none, one_more, Stops, here, refused, later}
-use Rattle.rv_tree.specs.Rows.{one_behind}
+use Rattle.rv_tree.specs.Rows.{some_behind}
 use Rattle.rv_tree.specs.Sums.{total}
 use Rattle.rv_tree.proofs.Exits.{on_err}
 use Rattle.rv_tree.proofs.Rows.{alike_behind, drop_at}
@@ -29,8 +29,8 @@ pub returns-in-None-clause-runs : goal.returns-in-None-clause-runs
 returns-in-None-clause-runs g c =
     let x = c.get-item.result.now in
     let old = drop_at c.args.self.now c.args.at x c.get-item.ensures in
-    let one : one_behind c.args.at c.args.self.now ≡ x ∷ [] = ap (take 1) old in
-    let made : one_behind c.args.at (unwrap_or c.args.made.now c.args.self.now) ≡ x ∷ [] = ap (take 1) (c.requires.behind ∙ old) in
+    let one : some_behind c.args.at 1 c.args.self.now ≡ x ∷ [] = ap (take 1) old in
+    let made : some_behind c.args.at 1 (unwrap_or c.args.made.now c.args.self.now) ≡ x ∷ [] = ap (take 1) (c.requires.behind ∙ old) in
     rw (one, made) (one_more (rw c.in-None.is at c.in_ok-visit.ensures.given) none)
 
 pub returns-in-None-clause-sum : goal.returns-in-None-clause-sum
@@ -39,7 +39,7 @@ returns-in-None-clause-sum g c =
     let of = g.T.Summed.sum_of in
     let x = c.get-item.result.now in
     let old = drop_at c.args.self.now c.args.at x c.get-item.ensures in
-    let made : one_behind c.args.at (unwrap_or c.args.made.now c.args.self.now) ≡ x ∷ [] = ap (take 1) (c.requires.behind ∙ old) in
+    let made : some_behind c.args.at 1 (unwrap_or c.args.made.now c.args.self.now) ≡ x ∷ [] = ap (take 1) (c.requires.behind ∙ old) in
     let value : j.IsValue (of x) = rw c.sum-sum.ensures at c.known.ensures in
     let sum = c.sum-sum.ensures ∙ sym (g.met.T.Sum.Joined.laws.right_unit (of x) value) ∙ ap (total j.empty j.op of) (sym made) in
     c.join.ensures ∙ ap (j.op c.args.before.now) sum
@@ -48,7 +48,7 @@ pub returns-in-None-clause-sums : goal.returns-in-None-clause-sums
 returns-in-None-clause-sums g c =
     let x = c.get-item.result.now in
     let old = drop_at c.args.self.now c.args.at x c.get-item.ensures in
-    let made : one_behind c.args.at (unwrap_or c.args.made.now c.args.self.now) ≡ x ∷ [] = ap (take 1) (c.requires.behind ∙ old) in
+    let made : some_behind c.args.at 1 (unwrap_or c.args.made.now c.args.self.now) ≡ x ∷ [] = ap (take 1) (c.requires.behind ∙ old) in
     let value : g.T.Sum.Joined.IsValue (g.T.Summed.sum_of x) = rw c.sum-sum.ensures at c.known.ensures in
     rw made (value, tt)
 
@@ -59,8 +59,8 @@ returns-in_ok-change-in-Some-clause-runs g c =
     let y = c.in-Some.item in
     let was = unwrap_or c.args.made.now self in
     let new = ap (drop c.args.at) c.in_ok-change-in-Some.ensures ∙ drop-set was c.args.at y (rw c.requires.same c.requires.within) in
-    let one : one_behind c.args.at self ≡ x ∷ [] = ap (take 1) (drop_at self c.args.at x c.get-item.ensures) in
-    let made : one_behind c.args.at (unwrap_or c.change.new.made self) ≡ y ∷ [] = ap (take 1) new in
+    let one : some_behind c.args.at 1 self ≡ x ∷ [] = ap (take 1) (drop_at self c.args.at x c.get-item.ensures) in
+    let made : some_behind c.args.at 1 (unwrap_or c.change.new.made self) ≡ y ∷ [] = ap (take 1) new in
     rw (one, made) (one_more (rw c.in-Some.is at c.in_ok-visit.ensures.given) none)
 
 pub returns-in_ok-change-in-Some-clause-sum : goal.returns-in_ok-change-in-Some-clause-sum
@@ -70,7 +70,7 @@ returns-in_ok-change-in-Some-clause-sum g c =
     let self = c.args.self.now in
     let y = c.in-Some.item in
     let was = unwrap_or c.args.made.now self in
-    let made : one_behind c.args.at (unwrap_or c.change.new.made self) ≡ y ∷ [] = ap (take 1) (ap (drop c.args.at) c.in_ok-change-in-Some.ensures ∙ drop-set was c.args.at y (rw c.requires.same c.requires.within)) in
+    let made : some_behind c.args.at 1 (unwrap_or c.change.new.made self) ≡ y ∷ [] = ap (take 1) (ap (drop c.args.at) c.in_ok-change-in-Some.ensures ∙ drop-set was c.args.at y (rw c.requires.same c.requires.within)) in
     let value : j.IsValue (of y) = rw c.sum-sum-in-Some.ensures at c.known-in-Some.ensures in
     let sum = c.sum-sum-in-Some.ensures ∙ sym (g.met.T.Sum.Joined.laws.right_unit (of y) value) ∙ ap (total j.empty j.op of) (sym made) in
     c.join-in-Some.ensures ∙ ap (j.op c.args.before.now) sum
@@ -80,7 +80,7 @@ returns-in_ok-change-in-Some-clause-sums g c =
     let self = c.args.self.now in
     let y = c.in-Some.item in
     let was = unwrap_or c.args.made.now self in
-    let made : one_behind c.args.at (unwrap_or c.change.new.made self) ≡ y ∷ [] = ap (take 1) (ap (drop c.args.at) c.in_ok-change-in-Some.ensures ∙ drop-set was c.args.at y (rw c.requires.same c.requires.within)) in
+    let made : some_behind c.args.at 1 (unwrap_or c.change.new.made self) ≡ y ∷ [] = ap (take 1) (ap (drop c.args.at) c.in_ok-change-in-Some.ensures ∙ drop-set was c.args.at y (rw c.requires.same c.requires.within)) in
     let value : g.T.Sum.Joined.IsValue (g.T.Summed.sum_of y) = rw c.sum-sum-in-Some.ensures at c.known-in-Some.ensures in
     rw made (value, tt)
 
@@ -88,7 +88,7 @@ pub returns-in-None-clause-front : goal.returns-in-None-clause-front
 returns-in-None-clause-front g c = refl
 
 pub returns-in-None-clause-behind : goal.returns-in-None-clause-behind
-returns-in-None-clause-behind g c = alike_behind _ _ c.args.at c.requires.behind
+returns-in-None-clause-behind g c = alike_behind _ _ c.args.at 1 c.requires.behind
 
 pub returns-in_ok-change-in-Some-clause-front : goal.returns-in_ok-change-in-Some-clause-front
 returns-in_ok-change-in-Some-clause-front g c =
@@ -98,7 +98,7 @@ returns-in_ok-change-in-Some-clause-front g c =
 pub returns-in_ok-change-in-Some-clause-behind : goal.returns-in_ok-change-in-Some-clause-behind
 returns-in_ok-change-in-Some-clause-behind g c =
     let was = unwrap_or c.args.made.now c.args.self.now in
-    ap (drop (c.args.at + 1)) c.in_ok-change-in-Some.ensures ∙ drop-set-lt (c.args.at + 1) was c.args.at c.in-Some.item (omega arith) ∙ alike_behind was c.args.self.now c.args.at c.requires.behind
+    ap (drop (c.args.at + 1)) c.in_ok-change-in-Some.ensures ∙ drop-set-lt (c.args.at + 1) was c.args.at c.in-Some.item (omega arith) ∙ alike_behind was c.args.self.now c.args.at 1 c.requires.behind
 
 pub returns-in_ok-change-in-Some-clause-same : goal.returns-in_ok-change-in-Some-clause-same
 returns-in_ok-change-in-Some-clause-same g c =

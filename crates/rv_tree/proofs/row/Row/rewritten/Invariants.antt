@@ -1,4 +1,4 @@
-use Rattle.std.proofs.Common.{◌≡◌, ◌++◌, List, length, take, drop}
+use Rattle.std.proofs.Common.{◌≡◌, ◌≤◌, ◌-◌, ◌++◌, List, length, take, drop}
 use Rattle.std.specs.Prelude.{unwrap_or}
 use Rattle.rv_tree.specs.Passes.{Runs}
 use Rattle.rv_tree.specs.Sums.{total, AllSums}
@@ -11,6 +11,7 @@ invariant-loop-at g l =
     let of = g.T.Summed.sum_of in
     let made = unwrap_or l.made l.self in
     record {
+      within : l.at ≤ length l.self;
       same : length made ≡ length l.self;
       behind : drop l.at made ≡ drop l.at l.self;
       runs : Runs g.P.Pass.gives j.op of l.fn.pass l.before (take l.at l.self) (take l.at made) l.pass;
@@ -18,3 +19,6 @@ invariant-loop-at g l =
       sums : AllSums j.IsValue of (take l.at made);
       accepted : (rest : List g.row.T.Denot) × g.P.Pass.accepts l.pass l.sum (drop l.at l.self ++ rest);
     }
+
+abbrev pub decreases-loop-at : goal.decreases-loop-at
+decreases-loop-at g l = length l.self - l.at

@@ -1,6 +1,6 @@
 use Rattle.std.proofs.Common.{◌≤◌, ◌-◌, length}
 use Rattle.rv_program.specs.internal.LinesWithout.{AreOthers}
-use Rattle.rv_program.proofs.lines_of_kind.lines_up_to_groups.Given as goal
+use Rattle.rv_program.proofs.lines_of_kind.lines_up_by_blocks.Given as goal
 
 abbrev pub invariant-loop-begin : goal.invariant-loop-begin
 invariant-loop-begin l = record {

@@ -1,7 +1,7 @@
 use Rattle.std.proofs.Common.{◌≡◌, arith, subst}
 use Rattle.rv_program.specs.internal.LinesWithout.{AreOthers}
 use Rattle.rv_program.proofs.LinesWithout.{others-none, others-joined}
-use Rattle.rv_program.proofs.lines_of_kind.lines_up_to_groups.Goals as goal
+use Rattle.rv_program.proofs.lines_of_kind.lines_up_by_blocks.Goals as goal
 
 pub loop-begin-init : goal.loop-begin-init
 loop-begin-init c = record {
