@@ -88,19 +88,19 @@ equ-defines line symbol name true is h = sym ((bytes_eq-Decides symbol name).0 (
 equ-defines line symbol name false is h = absurd (true≢false (sym h))
 
 -- a line with one label that is no `.equ` adds no other name
-defined-by_one : (l : Label) (others : List Label) (symbol name : List ℕ) → (length others == 0) ≡ true → l.name ≡ LabelSymbol symbol → list_any (λ m. defines_symbol m.name name) (l ∷ others) ≡ true → name ≡ symbol
+defined-by_one : (l : Label) (others : List Label) (symbol name : List ℕ) → length others ≡ 0 → l.name ≡ LabelSymbol symbol → list_any (λ m. defines_symbol m.name name) (l ∷ others) ≡ true → name ≡ symbol
 defined-by_one l [] symbol name none is h = at (or_cases (defines_symbol l.name name) false h)
   where
     at : (defines_symbol l.name name ≡ true) ⊎ (false ≡ true) → name ≡ symbol
     at (inl defines) = sym ((bytes_eq-Decides symbol name).0 (ap (λ n. defines_symbol n name) (sym is) ∙ defines))
     at (inr wrong) = absurd (true≢false (sym wrong))
-defined-by_one l (m ∷ others) symbol name none is h = absurd (let e : suc (length others) ≡ 0 = eqb-true (suc (length others)) 0 none in omega (arith, e))
+defined-by_one l (m ∷ others) symbol name none is h = absurd (omega (arith, none))
 
 undefined-by_body : (line : ℕ) (b : Body) (name : List ℕ) → is_equ b ≡ false → is_defined (place_in_body line b name) ≡ false
 undefined-by_body line (EquBody d) name h = absurd (true≢false h)
 undefined-by_body line b name h = refl
 
-pub one-added : (behind : LineBehind) (l : Label) (others : List Label) (symbol name : List ℕ) → (statement_of behind.line.now).labels ≡ l ∷ others → (length others == 0) ≡ true → l.name ≡ LabelSymbol symbol → is_equ (statement_of behind.line.now).body ≡ false → added_by behind name ≡ true → name ≡ symbol
+pub one-added : (behind : LineBehind) (l : Label) (others : List Label) (symbol name : List ℕ) → (statement_of behind.line.now).labels ≡ l ∷ others → length others ≡ 0 → l.name ≡ LabelSymbol symbol → is_equ (statement_of behind.line.now).body ≡ false → added_by behind name ≡ true → name ≡ symbol
 one-added behind l others symbol name are none is no_equ adds =
     let s = statement_of behind.line.now in
     let parts = and_parts (not (is_earlier behind.number (in_row behind.names.now behind.definitions.now Nowhere name))) (is_defined (place_in_statement behind.number s name)) adds in

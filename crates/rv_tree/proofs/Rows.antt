@@ -2,7 +2,7 @@
 use Rattle.std.proofs.Common.{◌≡◌, ℕ, zero, suc, ◌+◌, ◌-◌, ◌≤◌, ◌<◌, List, [], ◌∷◌, ◌++◌, length, take, drop, Some, arith, ap, ap₂, sym, ◌∙◌, refl, add-one}
 use Rattle.std.specs.Prelude.{slice_get, slice_index_or}
 use Rattle.std.specs.List.{insert, remove, AllZip}
-use Rattle.std.proofs.lemmas.List.{map-append, take-map, drop-map, drop-drop, drop_more, take-append-drop}
+use Rattle.std.proofs.lemmas.List.{map-append, take-map, drop-map, drop-drop, drop-take, drop_more, take-append-drop}
 use Rattle.std.specs.declared.rc.Rc.{Rc}
 use Rattle.std.specs.declared.alloc.Global.{Global}
 use Rattle.rv_tree.specs.Rows.{values, some_behind}
@@ -41,17 +41,9 @@ drop_get (y ∷ ys) zero (suc n) x lt e = let same : y ≡ x = cc e in ap (λ z.
 drop_get (y ∷ ys) (suc i) zero x lt e = absurd (omega arith)
 drop_get (y ∷ ys) (suc i) (suc n) x lt e = drop_get ys i n x (omega arith) e
 
-nothing_taken : {X : Type 0} (n : ℕ) → [] ≡ take {A = X} n []
-nothing_taken zero = refl
-nothing_taken (suc n) = refl
-
 -- those of the first e items that stand behind the first i
-pub drop-take : {X : Type 0} (xs : List X) (i e : ℕ) → i ≤ e → drop i (take e xs) ≡ some_behind i (e - i) xs
-drop-take xs zero e le = let all : e ≡ e - 0 = omega arith in ap (λ n. take n xs) all
-drop-take [] (suc i) zero le = absurd (omega arith)
-drop-take [] (suc i) (suc e) le = nothing_taken (suc e - suc i)
-drop-take (x ∷ xs) (suc i) zero le = absurd (omega arith)
-drop-take (x ∷ xs) (suc i) (suc e) le = let same : e - i ≡ suc e - suc i = omega arith in drop-take xs i e (omega arith) ∙ ap (λ n. take n (drop i xs)) same
+pub taken_behind : {X : Type 0} (xs : List X) (i e : ℕ) → i ≤ e → drop i (take e xs) ≡ some_behind i (e - i) xs
+taken_behind xs i e le = let all : e ≡ i + (e - i) = omega (arith, le) in ap (λ n. drop i (take n xs)) all ∙ drop-take i (e - i) xs
 
 drop_from : {X : Type 0} (xs : List X) (i : ℕ) (x : X) → slice_get xs i ≡ Some x → drop i xs ≡ x ∷ drop (suc i) xs
 drop_from [] i x e = absurd (cc e)

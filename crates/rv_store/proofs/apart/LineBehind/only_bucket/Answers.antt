@@ -1,4 +1,4 @@
-use Rattle.std.proofs.Common.{◌≡◌, ◌∷◌, ◌==◌, length, arith, ap, sym, ◌∙◌}
+use Rattle.std.proofs.Common.{◌≡◌, ◌∷◌, length, arith, ap, sym, ◌∙◌}
 use Rattle.rv_stmt.specs.LentLabels.{label_lent, name_lent}
 use Rattle.rv_stmt.specs.Statement.{statement_of}
 use Rattle.rv_program.specs.internal.NameSets.{bucket_of}
@@ -12,5 +12,5 @@ returns-in-Symbol c name adds =
     let others = c.in_ok-label._others in
     let are : (statement_of behind.line.now).labels ≡ label ∷ others = ap (λ t. t.labels) (sym c.stmt.ensures) ∙ sym c.as_slice.ensures ∙ c.in_ok-label.ensures.some in
     let none : length others ≡ 0 = omega (arith, ap length are, c.len.ensures, ap (λ t. length t.labels) c.stmt.ensures) in
-    ap bucket_of (one-added behind label others c.in-Symbol.symbol.now name are (ap (λ n. n == 0) none) (ap name_lent c.in-Symbol.is) (sym (ap (λ b. b.equ) c.brief.ensures) ∙ c.if-brief.false) adds)
+    ap bucket_of (one-added behind label others c.in-Symbol.symbol.now name are none (ap name_lent c.in-Symbol.is) (sym (ap (λ b. b.equ) c.brief.ensures) ∙ c.if-brief.false) adds)
     ∙ sym c.bucket_of.ensures.bucket

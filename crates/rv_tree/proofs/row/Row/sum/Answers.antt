@@ -1,7 +1,7 @@
-use Rattle.std.proofs.Common.{◌≡◌, suc, ◌-◌, ◌∙◌, arith, ap, ap₂, drop, take}
+use Rattle.std.proofs.Common.{◌≡◌, ◌≤◌, ℕ, List, suc, ◌-◌, ◌∙◌, arith, ap, ap₂, drop, take}
 use Rattle.rv_tree.specs.Rows.{some_behind}
 use Rattle.rv_tree.specs.Sums.{total}
-use Rattle.rv_tree.proofs.Rows.{drop_get, drop-take}
+use Rattle.rv_tree.proofs.Rows.{drop_get, taken_behind}
 use Rattle.rv_tree.proofs.row.Row.sum.Goals as goal
 
 pub loop-left-preserved : goal.loop-left-preserved
@@ -17,16 +17,17 @@ loop-left-preserved g c =
       sums = rw item (rw c.sum-item.ensures at c.known.ensures, done.sums);
     }
 
+-- at the end it is the sum of them all
+all_behind : {X : Type 0} (xs : List X) (left from end : ℕ) → left ≡ from → from ≤ end → drop left (take end xs) ≡ some_behind from (end - from) xs
+all_behind xs left from end all le = ap (λ i. drop i (take end xs)) all ∙ taken_behind xs from end le
+
 pub returns-clause-value : goal.returns-clause-value
 returns-clause-value g c =
     let j = g.T.Sum.Joined in
     let done = c.loop-left.invariant in
-    let all : c.loop-left.left ≡ c.args.from = omega (arith, c.loop-left-test.false, done.least) in
-    done.sum ∙ ap (total j.empty j.op g.T.Summed.sum_of) (ap (λ i. drop i (take c.args.end c.args.self.now)) all ∙ drop-take c.args.self.now c.args.from c.args.end c.requires.order)
+    done.sum ∙ ap (total j.empty j.op g.T.Summed.sum_of) (all_behind c.args.self.now c.loop-left.left c.args.from c.args.end (omega (arith, c.loop-left-test.false, done.least)) c.requires.order)
 
 pub returns-clause-sums : goal.returns-clause-sums
 returns-clause-sums g c =
     let done = c.loop-left.invariant in
-    let all : c.loop-left.left ≡ c.args.from = omega (arith, c.loop-left-test.false, done.least) in
-    let items : drop c.loop-left.left (take c.args.end c.args.self.now) ≡ some_behind c.args.from (c.args.end - c.args.from) c.args.self.now = ap (λ i. drop i (take c.args.end c.args.self.now)) all ∙ drop-take c.args.self.now c.args.from c.args.end c.requires.order in
-    rw items at done.sums
+    rw (all_behind c.args.self.now c.loop-left.left c.args.from c.args.end (omega (arith, c.loop-left-test.false, done.least)) c.requires.order) at done.sums
