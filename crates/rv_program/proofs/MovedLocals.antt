@@ -12,11 +12,13 @@ use Rattle.rv_stmt.specs.LabelNames as label
 use Rattle.rv_stmt.specs.Statement.{statement_of}
 use Rattle.rv_program.specs.declared.limits.TheConstants.{MAX_LINES}
 use Rattle.rv_program.specs.Edits.{line_before_edit, place_of_edit}
-use Rattle.rv_program.specs.internal.MovedLocals.{labels_put_in, line_moved, lines_below, lines_moved, number_behind, numbers_end, one_line, row_after}
+use Rattle.rv_program.specs.internal.MovedLocals.{labels_put_in, line_moved, lines_moved, number_behind, numbers_end, one_line, row_after}
+use Rattle.rv_program.specs.internal.Locals.{lines_below}
 use Rattle.rv_program.specs.Program.{program_of, lines_that, no_statement}
 use Rattle.rv_program.specs.References.{among_local, has_local, is_local}
 use Rattle.rv_program.specs.internal.Rows.{AreLocals}
 use Rattle.rv_program.specs.Text.{Edit, Insert, Delete, Replace, refusal_of, lines_after}
+use Rattle.rv_program.specs.lemmas.LocalLines.{first-below}
 use Rattle.rv_program.specs.lemmas.EarlierLines.{stood, statement-stood, insert_within, delete_within, replace_within}
 use Rattle.rv_program.specs.lemmas.Programs.{length-program}
 
@@ -44,10 +46,6 @@ below-one : (b : Bool) (place l : ℕ) → nat_lt l place ≡ false → lines_be
 below-one true place l behind = ap (λ c. if c then l ∷ [] else []) behind
 below-one false place l behind = refl
 
-below-kept : (b : Bool) (place l : ℕ) → nat_lt l place ≡ true → lines_below place (if b then l ∷ [] else []) ≡ (if b then l ∷ [] else [])
-below-kept true place l before = ap (λ c. if c then l ∷ [] else []) before
-below-kept false place l before = refl
-
 moved-one : (b : Bool) (edit : Edit) (l : ℕ) (to : Option ℕ) → line_moved edit l ≡ to → lines_moved edit (if b then l ∷ [] else []) ≡ (if b then one_line to else [])
 moved-one true edit l to is = append-nil (one_line (line_moved edit l)) ∙ ap one_line is
 moved-one false edit l to is = refl
@@ -70,16 +68,6 @@ row-more edit labelled b l l' xs behind moves =
     ∙ sym (append_assoc (lines_below place xs) (new ++ lines_moved edit xs) (if b then l' ∷ [] else []))
 
 -- Lines before the place of the edit
-
-first-below : (test : ℕ → Bool) (place n : ℕ) → n < place → lines_below place (lines_that test n) ≡ lines_that test n
-first-below test place zero within = refl
-first-below test place (suc n) within =
-    filter-append (λ l. nat_lt l place) (lines_that test n) (if test (suc n) then suc n ∷ [] else [])
-    ∙ ap (λ ls. ls ++ lines_below place (if test (suc n) then suc n ∷ [] else [])) (first-below test place n (omega (arith, within)))
-    ∙ ap (λ ls. lines_that test n ++ ls) (below-kept (test (suc n)) place (suc n) (lt-true (suc n) place within))
-  where
-    lt-true : (l m : ℕ) → l < m → nat_lt l m ≡ true
-    lt-true l m less = grind (arith, nat_tests, common_steps)
 
 none-moved : (test : ℕ → Bool) (edit : Edit) (n : ℕ) → ((l : ℕ) → l ≤ n → line_moved edit l ≡ None) → lines_moved edit (lines_that test n) ≡ []
 none-moved test edit zero stay = refl

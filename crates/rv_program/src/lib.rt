@@ -48,7 +48,7 @@ mod value_rows;
 
 pub use before::Before;
 pub use constants::{LineConstants, settle_constant};
-pub use definitions::{define_line, defining_equ_on, is_defined, may_define};
+pub use definitions::{define_line, defining_equ_on, is_defined};
 pub use due::due_lines;
 pub use edit::{LineEdit, ReadEdit};
 pub use edit_error::EditError;
@@ -71,5 +71,5 @@ pub use room::{room_for, row_for};
 pub use symbol_rows::SymbolRows;
 pub use text_lines::operands_are_few_on;
 pub use text_rows::{TextRows, address_in};
-pub use uses::{NameTest, any_name};
+pub use uses::{NameTest, any_name, uses_local_label};
 pub use value_rows::{ValueRows, shape_on};

@@ -1,14 +1,17 @@
 //! The lines of local labels.
 
-ghost use Rattle.std.specs.Prelude.{◌≡◌, ◌≤◌, [], nat_le, true, false, length, IsTrue};
+ghost use Rattle.std.specs.Prelude.{◌≡◌, ◌≤◌, ◌<◌, ◌==◌, ℕ, [], nat_le, nat_lt, true, false, length, get_or, IsTrue, OnOk};
 ghost use Rattle.std.specs.List.{AllWithin};
 ghost use Rattle.std.specs.List.Sorted.{IsNonDecreasing};
-ghost use Rattle.rv_program.specs.internal.Locals.{AreParted, AreRising, line_among, local_line_in, has_local_labels};
+ghost use Rattle.std.specs.Option.{is_some};
+ghost use Rattle.rv_expr.specs.declared.tree.Direction.TheVariants.{Forward};
+ghost use Rattle.rv_program.specs.internal.Locals.{AreParted, AreRising, line_among, local_line_in, has_local_labels, with_last, lines_below};
+ghost use Rattle.rv_program.specs.References.{among_local};
 
 use rv_expr::Direction;
 use rv_stmt::{LabelName, LabelSlice};
 use rv_text::Sequence;
-use std::alloc::Global;
+use std::alloc::{AllocError, Global};
 use std::marker::Model;
 
 // How far from a guess a count is looked for first.
@@ -123,6 +126,20 @@ fn line_among(lines: &[u32], line: u32, direction: Direction, count: usize) -> O
     }
 }
 
+// Takes out the lines of a row from this one on.
+fn keep_below(row: &mut Sequence<u32>, line: u32)
+    requires { IsNonDecreasing row.old }
+    ensures lines { row.new ≡ lines_below line row.old }
+    ensures rising { IsNonDecreasing row.new }
+{
+    let count = row.as_slice().partition_point(
+        |l: &u32| -> bool
+            ensures { result ≡ nat_lt l.now line }
+        { *l < line },
+    );
+    row.truncate(count);
+}
+
 impl Locals {
     /// Those of no lines, which take no memory.
     pub fn new(alloc: Global) -> Self
@@ -179,5 +196,85 @@ impl Locals {
     {
         let lines = self.rows.get(usize::from(number))?.as_slice();
         line_among(lines, line, direction, count_up_to(lines, line))
+    }
+    // The last line that has the local label of a number, or 0.
+    fn last(&self, number: u16) -> u32
+        ensures { (i : ℕ) → i < result → is_some (local_line_in self.now i number Forward) ≡ true }
+    {
+        match self.rows.get(usize::from(number)) {
+            Some(lines) => lines.as_slice().last().copied().unwrap_or(0),
+            None => 0,
+        }
+    }
+
+    /// From which line on a line `end` behind all others may be what a line names by `f`, where it has these labels: each line before that
+    /// finds each of them before the end. It is the end itself where none of the labels is a local one.
+    pub fn reach(&self, mut labels: LabelSlice<'_>, end: u32) -> u32
+        ensures { (number i : ℕ) → among_local number labels.entry ≡ true → i < result → is_some (local_line_in self.now i number Forward) ≡ true }
+    {
+        let mut first = end;
+        'labels: while let Some((label, rest)) = labels.split_first() {
+            if let LabelName::Local(number) = label.name {
+                first = first.min(self.last(number));
+            }
+            labels = rest;
+        }
+        first
+    }
+
+    // Makes the rows longer, so that a number has one.
+    fn lengthen(&mut self, alloc: Global, number: usize) -> Result<(), AllocError>
+        ensures long { OnOk result (number < length self.new) }
+        ensures same { (n : ℕ) → get_or self.new n [] ≡ get_or self.old n [] }
+    {
+        'rows: while self.rows.len() <= number {
+            self.rows.push(Sequence::new(alloc))?;
+        }
+        Ok(())
+    }
+
+    // Makes a line the last one that has the local label of a number. The lines before it stay, also where there is no memory for that.
+    fn put_last(&mut self, alloc: Global, number: u16, line: u32) -> Result<(), AllocError>
+        ensures ok { OnOk result ((n : ℕ) → get_or self.new n [] ≡ with_last line (n == number) (get_or self.old n [])) }
+        ensures below { (n : ℕ) → lines_below line (get_or self.new n []) ≡ lines_below line (get_or self.old n []) }
+    {
+        let number = usize::from(number);
+        self.lengthen(alloc, number)?;
+        let row = &mut self.rows[number];
+        keep_below(row, line);
+        row.push(line)?;
+        Ok(())
+    }
+
+    /// Makes a line that has these labels the last one that has them. The lines before it stay, whatever the outcome.
+    ///
+    /// # Errors
+    ///
+    /// Where there was no memory, some of the labels may have it.
+    pub fn put_line(
+        &mut self,
+        alloc: Global,
+        mut labels: LabelSlice<'_>,
+        line: u32,
+    ) -> Result<(), AllocError>
+        ensures ok { OnOk result ((number : ℕ) → get_or self.new number [] ≡ with_last line (among_local number labels.entry) (get_or self.old number [])) }
+        ensures below { (number : ℕ) → lines_below line (get_or self.new number []) ≡ lines_below line (get_or self.old number []) }
+    {
+        'labels: while let Some((label, rest)) = labels.split_first() {
+            if let LabelName::Local(number) = label.name {
+                self.put_last(alloc, number, line)?;
+            }
+            labels = rest;
+        }
+        Ok(())
+    }
+
+    /// Takes out the lines from this one on.
+    pub fn take_out(&mut self, line: u32)
+        ensures { (number : ℕ) → get_or self.new number [] ≡ lines_below line (get_or self.old number []) }
+    {
+        for number in 0..self.rows.len() {
+            keep_below(&mut self.rows[number], line);
+        }
     }
 }

@@ -4,7 +4,8 @@ ghost use Rattle.std.specs.Prelude.{◌≡◌, ◌≤◌, ◌^◌, ◌++◌, ℕ
 ghost use Rattle.rv_stmt.specs.LentLabels.{name_lent};
 ghost use Rattle.rv_program.specs.internal.Before.{IsBefore, lines_before, edit_on};
 ghost use Rattle.rv_program.specs.Edits.{edit_of};
-ghost use Rattle.rv_program.specs.internal.MovedLocals.{labels_put_in, line_moved, lines_below, lines_moved, number_behind, numbers_end, row_after};
+ghost use Rattle.rv_program.specs.internal.MovedLocals.{labels_put_in, line_moved, lines_moved, number_behind, numbers_end, row_after};
+ghost use Rattle.rv_program.specs.internal.Locals.{lines_below};
 ghost use Rattle.rv_program.specs.Program.{program_of};
 ghost use Rattle.rv_program.specs.References.{among_local, is_local};
 ghost use Rattle.rv_program.specs.internal.Rows.{AreLocals};

@@ -18,9 +18,9 @@ use Rattle.rv_program.specs.Layout.{shape_at, shapes_of, section_at, address_at,
 use Rattle.rv_program.specs.Pairs.{pcrel_high_of}
 use Rattle.rv_program.specs.Program.{Program, no_statement, statement_at, body_at, for_lines}
 use Rattle.rv_program.specs.References.{is_local, among_local, has_local}
-use Rattle.rv_store.specs.internal.Still.{IsStill}
-use Rattle.rv_program.specs.Uses.{is_equ, names_used}
-use Rattle.rv_store.proofs.ApartLines.{none-of}
+use Rattle.rv_store.specs.internal.Still.{Touched, IsStill}
+use Rattle.rv_program.specs.Uses.{is_equ}
+use Rattle.rv_store.proofs.ApartLines.{untouched}
 use Rattle.rv_program.specs.lemmas.ConstantRows.{IsEquOf, is_equ_of, equ-defines, constant-kept}
 use Rattle.rv_store.proofs.Rooms.{map-for_lines, section-rooms, address-rooms, size-rooms, ends-rooms}
 use Rattle.rv_store.proofs.StillLaws.{same_number}
@@ -83,6 +83,9 @@ no_equ-on p i name none = at (is_equ_on (suc i) (definition_of p name)) refl
     at : (b : Bool) → is_equ_on (suc i) (definition_of p name) ≡ b → is_equ_on (suc i) (definition_of p name) ≡ false
     at false e = e
     at true e = absurd (by (equ-defines p i name e))
+
+abbrev pub nothing_touched : Program → Touched
+nothing_touched p = record { names = λ name. false; from = suc (length p) }
 
 module _ (p : Program) (k : ℕ) (t : Stmt) (first : 1 ≤ k) (last : k ≤ length p) (alike : IsAlike p k t) where
   abbrev pub put : Program
@@ -182,21 +185,21 @@ module _ (p : Program) (k : ℕ) (t : Stmt) (first : 1 ≤ k) (last : k ≤ leng
   has_local-same number i = among_local-same number (statement_at p i).labels (statement_at put i).labels (labels-same i)
 
   -- the other lines stay as they are
-  pub alike-still : (base : ℕ) → IsStill base p put k (λ name. false)
+  pub alike-still : (base : ℕ) → IsStill base p put k (nothing_touched p)
   alike-still base = record {
     first = first;
     last = omega (arith, last, length-put);
     longer = omega (arith, length-put);
     behind = λ i past within. absurd (omega (arith, past, within, length-put));
     statements = λ i other. statement-other i (λ e. other.differs (omega (arith, e, first, other.first)));
-    unused = λ i other settled. none-of (λ name. false) (names_used (body_at p i)) (λ name. refl);
+    unused = λ i other settled. untouched p (nothing_touched p) i (λ name. refl) (let within = other.last in omega (arith, within));
     differ = λ i j name no. absurd (true≢false (sym no));
     definitions = λ name none. ap (λ f. f name) definitions-same;
     equs = λ m name within. ap (λ f. is_equ_on m (f name)) definitions-same;
     no_equ = λ within. no_equ;
     constants = λ m within. constants-same m;
     locals = λ number i from to. has_local-same number i;
-    no_local = λ past number. absurd (omega (arith, past, last));
+    near = λ number i past. absurd (omega (arith, past, last));
     high_before = alike.defines.plain_before.high;
     high = ap (λ s. pcrel_high_of s.body) statement-put ∙ alike.defines.plain_after.high;
     places = λ i from to. ap (λ f. f i) (place-same base);

@@ -1,5 +1,5 @@
 -- No other line has to do with a line in the place of one that it is alike.
-use Rattle.std.proofs.Common.{◌≡◌, ℕ, suc, ◌-◌, ◌≤◌, Bool, true, false, ◌||◌, List, [], ◌∷◌, ◌++◌, length, Some, None, if◌then◌else◌, true≢false, arith, ap, sym, subst, ◌∙◌, refl}
+use Rattle.std.proofs.Common.{◌≡◌, ℕ, suc, ◌-◌, ◌<◌, ◌≤◌, true, false, ◌||◌, List, [], ◌∷◌, ◌++◌, length, Some, None, if◌then◌else◌, true≢false, arith, ap, sym, subst, ◌∙◌, refl}
 use Rattle.std.proofs.lemmas.Bool.{ne_eqb, eq-eqb}
 use Rattle.std.proofs.lemmas.List.{map-set}
 use Rattle.rv_stmt.specs.Statement.{statement_of}
@@ -10,14 +10,13 @@ use Rattle.rv_store.specs.internal.Alike.{IsAlike}
 use Rattle.rv_program.specs.Constants.{constant_of}
 use Rattle.rv_store.specs.internal.Ends.{ends_of}
 use Rattle.rv_program.specs.Layout.{shape_at, shapes_of, place_at}
-use Rattle.rv_program.specs.Program.{Program, program_of, body_at, lines_that}
-use Rattle.rv_program.specs.Uses.{names_used}
+use Rattle.rv_program.specs.Program.{Program, program_of, lines_that}
 use Rattle.rv_program.specs.internal.Still.{set_or_push}
-use Rattle.rv_store.specs.internal.Still.{uses_any, is_put_or_uses, IsStill, IsPutEdit}
+use Rattle.rv_store.specs.internal.Still.{Touched, uses_any, is_put_or_uses, IsStill, IsPutEdit}
 use Rattle.rv_store.specs.internal.StillLines.{IsStillLine}
 use Rattle.rv_program.specs.Text.{Replace}
-use Rattle.rv_store.proofs.AlikeLaws.{put, shape-put, ends-same, place-same, alike-still}
-use Rattle.rv_store.proofs.ApartLines.{none-of}
+use Rattle.rv_store.proofs.AlikeLaws.{nothing_touched, put, shape-put, ends-same, place-same, alike-still}
+use Rattle.rv_store.proofs.ApartLines.{untouched}
 use Rattle.rv_program.specs.lemmas.Programs.{length-program}
 use Rattle.rv_store.proofs.StillLaws.{lines_that-still}
 use Rattle.rv_store.proofs.StillTexts.{set-set_or_push}
@@ -29,12 +28,12 @@ replaced-put lines k line first last = record {
   others = λ i to differs. ap (λ b. if b then None else Some i) (ne_eqb i k differs);
 }
 
--- line k alone is due, where no name is touched
-one-line : (touched : List ℕ → Bool) (p : Program) (k n : ℕ) → 1 ≤ k → k ≤ n → ((name : List ℕ) → touched name ≡ false) → lines_that (is_put_or_uses touched p k) n ≡ k ∷ []
-one-line touched p k n first last none =
-    lines_that-still (is_put_or_uses touched p k) (is_put_or_uses touched p k) k n last (λ i from to. refl) (λ i past to. apart i (λ e. omega (arith, e, past)))
+-- line k alone is due, where no name is touched, and local labels are for no line
+one-line : (touched : Touched) (p : Program) (k n : ℕ) → 1 ≤ k → k ≤ n → ((name : List ℕ) → touched.names name ≡ false) → n < touched.from → lines_that (is_put_or_uses touched p k) n ≡ k ∷ []
+one-line touched p k n first last none beyond =
+    lines_that-still (is_put_or_uses touched p k) (is_put_or_uses touched p k) k n last (λ i from to. refl) (λ i past to. apart i to (λ e. omega (arith, e, past)))
     ∙ ap (lines_that (is_put_or_uses touched p k)) (sym next)
-    ∙ (λ j. lines_that-still (is_put_or_uses touched p k) (is_put_or_uses touched p k) 0 (k - 1) (omega arith) (λ i from to. refl) (λ i from to. apart i (λ e. omega (arith, e, to, first))) j
+    ∙ (λ j. lines_that-still (is_put_or_uses touched p k) (is_put_or_uses touched p k) 0 (k - 1) (omega arith) (λ i from to. refl) (λ i from to. apart i (omega (arith, to, last)) (λ e. omega (arith, e, to, first))) j
     ++ (if here j then next j ∷ [] else []))
   where
     next : suc (k - 1) ≡ k
@@ -43,8 +42,8 @@ one-line touched p k n first last none =
     here : is_put_or_uses touched p k (suc (k - 1)) ≡ true
     here = ap (λ b. b || uses_any touched p (suc (k - 1))) (eq-eqb (suc (k - 1)) k next)
 
-    apart : (i : ℕ) → (i ≡ k → ⊥) → is_put_or_uses touched p k i ≡ false
-    apart i differs = λ j. ne_eqb i k differs j || none-of touched (names_used (body_at p i)) none j
+    apart : (i : ℕ) → i ≤ n → (i ≡ k → ⊥) → is_put_or_uses touched p k i ≡ false
+    apart i within differs = let unused = untouched p touched i none (omega (arith, within, beyond)) in λ j. ne_eqb i k differs j || unused j
 
 pub alike-line : (base : ℕ) (lines : List (List ℕ)) (k : ℕ) (line : List ℕ) (given : Still) → 1 ≤ k → k ≤ length lines → IsAlike (program_of lines) k (statement_of line)
     → given.shape ≡ shape_of (constant_of (program_of lines) k) (statement_of line).body → IsLimited given.shape → given.ends ≡ ends_of (shapes_of (program_of lines)) → given.place ≡ place_at base (program_of lines) k → given.defines ≡ false
@@ -56,13 +55,13 @@ alike-line base lines k line given first last alike shape limited ends place non
     let q : Program = put p k t first within alike in
     let after : program_of (set_or_push lines (k - 1) line) ≡ q = ap program_of (sym (set-set_or_push lines (k - 1) line (omega (arith, first, last)))) ∙ map-set statement_of lines (k - 1) line in
     record {
-      touched = λ name. false;
-      still = subst (λ r. IsStill base p r k (λ name. false)) (sym after) (alike-still p k t first within alike base);
+      touched = nothing_touched p;
+      still = subst (λ r. IsStill base p r k (nothing_touched p)) (sym after) (alike-still p k t first within alike base);
       shape = shape ∙ sym (shape-put p k t first within alike) ∙ ap (λ r. shape_at r k) (sym after);
       limited = limited;
       ends = ends ∙ sym (ends-same p k t first within alike) ∙ ap (λ r. ends_of (shapes_of r)) (sym after);
       place = place ∙ sym (ap (λ f. f k) (place-same p k t first within alike base)) ∙ ap (λ r. place_at base r k) (sym after);
       nothing = λ e name. refl;
       last = λ defines. absurd (true≢false (sym defines ∙ none));
-      those = sym (one-line (λ name. false) p k (length lines) first last (λ name. refl));
+      those = sym (one-line (nothing_touched p) p k (length lines) first last (λ name. refl) (omega (arith, length-program lines)));
     }

@@ -1,8 +1,8 @@
 -- Lines with which no line of a text has to do: what they add, and who uses it.
-use Rattle.std.proofs.Common.{◌≡◌, ℕ, suc, ◌+◌, ◌-◌, ◌%◌, ◌<◌, ◌≤◌, ◌==◌, ◌⊎◌, inl, inr, Bool, true, false, not, ◌&&◌, ◌||◌, List, [], ◌∷◌, ◌++◌, length, map, get_or, bytes_eq, None, if◌then◌else◌, true≢false, arith, ap, sym, subst, ◌∙◌, refl}
+use Rattle.std.proofs.Common.{◌≡◌, ℕ, suc, ◌+◌, ◌-◌, ◌%◌, ◌<◌, ◌≤◌, ◌==◌, ◌⊎◌, inl, inr, Bool, true, false, not, ◌&&◌, ◌||◌, List, [], ◌∷◌, ◌++◌, length, map, get_or, bytes_eq, nat_le, if◌then◌else◌, true≢false, arith, ap, sym, subst, ◌∙◌, refl}
 use Rattle.std.specs.List.{list_any}
 use Rattle.std.proofs.Math.Path.{fun_ext}
-use Rattle.std.proofs.lemmas.Bool.{cases_lt, lt-ltb, le-ltb, eqb-true, eq-eqb, and_parts, or_cases}
+use Rattle.std.proofs.lemmas.Bool.{cases_lt, lt-ltb, le-ltb, lt-leb, eqb-true, eq-eqb, and_parts, and_left, and_right, or_parts, or_from, or_cases}
 use Rattle.std.proofs.lemmas.List.{get_or-map}
 use Rattle.std.proofs.lemmas.Slice.Eq.{bytes_eq-Decides}
 use Rattle.rv_stmt.specs.declared.statement.Stmt.{Stmt}
@@ -13,27 +13,25 @@ use Rattle.rv_stmt.specs.Statement.{statement_of}
 use Rattle.rv_list.specs.declared.view.DefinitionPlace.{DefinitionPlace}
 use Rattle.rv_list.specs.declared.view.DefinitionPlace.TheVariants.{Nowhere, Label as ByLabel, Equ}
 use Rattle.rv_store.specs.declared.apart.LineBehind.{LineBehind}
-use Rattle.rv_store.specs.internal.Apart.{added_by, HasGroupOf}
+use Rattle.rv_store.specs.internal.Apart.{added_by, touched_by, HasGroupOf, HasWanted}
 use Rattle.rv_program.specs.declared.groups.Groups.{Groups}
+use Rattle.rv_program.specs.declared.groups.Kind.TheVariants.{Uncompared}
 use Rattle.rv_program.specs.internal.Briefs.{groups_on}
-use Rattle.rv_store.specs.internal.Appended.{adds, is_earlier, TellEarlier, adds_by_rows, IsApart}
+use Rattle.rv_store.specs.internal.Appended.{adds, is_earlier, TellEarlier, adds_by_rows}
 use Rattle.rv_program.specs.internal.Defining.{IsOn}
 use Rattle.rv_program.specs.Definitions.{defines_symbol, place_among_labels, place_in_body, or_place, place_in_statement, definition_of, is_defined}
-use Rattle.rv_program.specs.internal.Locals.{has_local_labels}
-use Rattle.rv_program.specs.internal.Groups.{no_groups, has_group, SharesNone}
-use Rattle.rv_program.specs.internal.LinesWithout.{AreOthers}
+use Rattle.rv_program.specs.internal.Groups.{no_groups, has_group, kind_bit, SharesNone}
+use Rattle.rv_program.specs.internal.LinesWithout.{is_of_kind, AreOthers}
 use Rattle.rv_program.specs.internal.NameSets.{bucket_of, brief_of_names, may_have}
-use Rattle.rv_program.specs.Pairs.{pcrel_high_of}
-use Rattle.rv_program.specs.Program.{Program, program_of, no_statement, body_at, lines_that}
+use Rattle.rv_program.specs.Program.{Program, program_of, no_statement, statement_at, body_at}
 use Rattle.rv_program.specs.internal.Rows.{in_row, AreDefinitions}
-use Rattle.rv_program.specs.Uses.{names_used, is_equ}
-use Rattle.rv_store.specs.internal.Still.{is_settled, uses_any}
+use Rattle.rv_program.specs.Uses.{names_used, uses_local_label, uses_paired_high, is_equ}
+use Rattle.rv_store.specs.internal.Still.{Touched, uses_any}
 use Rattle.rv_store.proofs.LongerTexts.{definitions-longer}
-use Rattle.rv_store.proofs.StillLaws.{lines_that-still}
 use Rattle.rv_program.specs.lemmas.DefinitionLaws.{IsWithin, statement-within, definition-within}
 use Rattle.rv_program.specs.lemmas.DefinitionParts.{within-on}
-use Rattle.rv_program.specs.lemmas.LocalLines.{none-among}
-use Rattle.rv_program.specs.lemmas.LineGroups.{count-groups, unused-group}
+use Rattle.rv_program.specs.lemmas.GroupLaws.{kind-below}
+use Rattle.rv_program.specs.lemmas.LineGroups.{count-groups, kind-on, unused-group}
 use Rattle.rv_program.specs.lemmas.NameSetLaws.{none-passes}
 use Rattle.rv_program.specs.lemmas.Programs.{length-program}
 
@@ -50,14 +48,48 @@ unused-by_groups behind added line has apart =
     none-passes (has_group added) (added_by behind) (only_in behind added has) (names_used (statement_of line).body)
     (λ bucket is. unused-group line bucket (apart (bucket % 59) (omega arith) is))
 
--- nor do those that are gone past
-pub others-unused : (lines : List (List ℕ)) (behind : LineBehind) (added : Groups) (groups : List Groups) → groups ≡ map groups_on lines → ((name : List ℕ) → added_by behind name ≡ true → HasGroupOf name added) → (i j : ℕ) → j ≤ length groups → AreOthers groups added i j → (line : ℕ) → i < line → line ≤ j → uses_any (added_by behind) (program_of lines) line ≡ false
-others-unused lines behind added groups are has i j last others line past within =
-    let short : line - 1 < length lines = omega (arith, past, within, last, count-groups lines groups are) in
-    ap (λ s. list_any (added_by behind) (names_used s.body)) (get_or-map statement_of lines (line - 1) [] no_statement short)
-    ∙ unused-by_groups behind added (get_or lines (line - 1) []) has
-    (subst (SharesNone added) (ap (λ gs. get_or gs (line - 1) no_groups) are ∙ get_or-map groups_on lines (line - 1) [] no_groups short)
-    (others (line - 1) (omega (arith, past)) (omega (arith, past, within))))
+-- Lines that a line behind a text does not touch
+
+pub none-of : (test : List ℕ → Bool) (names : List (List ℕ)) → ((name : List ℕ) → test name ≡ false) → list_any test names ≡ false
+none-of test [] none = refl
+none-of test (n ∷ ns) none = let here = none n in let more = none-of test ns none in λ j. here j || more j
+
+-- those before the lines for which local labels are touched, where no name is
+pub untouched : (p : Program) (touched : Touched) (i : ℕ) → ((name : List ℕ) → touched.names name ≡ false) → i < touched.from → uses_any touched p i ≡ false
+untouched p touched i none before =
+    or_from (list_any touched.names (names_used (body_at p i))) (nat_le touched.from i && uses_local_label (body_at p i)) (none-of touched.names (names_used (body_at p i)) none)
+    (and_left (nat_le touched.from i) (uses_local_label (body_at p i)) (lt-leb touched.from i before))
+
+-- those that are gone past
+pub others-untouched : (lines : List (List ℕ)) (behind : LineBehind) (wanted : Groups) (groups : List Groups) → behind.number ≡ length lines + 1 → groups ≡ map groups_on lines → HasWanted behind wanted → (i j : ℕ) → j ≤ length groups → AreOthers groups wanted i j → (line : ℕ) → i < line → line ≤ j → uses_any (touched_by behind) (program_of lines) line ≡ false
+others-untouched lines behind wanted groups number are has i j last others line past within =
+    or_from (list_any (added_by behind) (names_used (body_at (program_of lines) line))) (nat_le behind.from line && uses_local_label (body_at (program_of lines) line))
+    (ap (λ s. list_any (added_by behind) (names_used s.body)) statement ∙ unused-by_groups behind wanted text has.names apart)
+    (at (cases_lt line behind.from))
+  where
+    text : List ℕ
+    text = get_or lines (line - 1) []
+
+    short : line - 1 < length lines
+    short = omega (arith, past, within, last, count-groups lines groups are)
+
+    statement : statement_at (program_of lines) line ≡ statement_of text
+    statement = get_or-map statement_of lines (line - 1) [] no_statement short
+
+    apart : SharesNone wanted (groups_on text)
+    apart =
+        subst (SharesNone wanted) (ap (λ gs. get_or gs (line - 1) no_groups) are ∙ get_or-map groups_on lines (line - 1) [] no_groups short)
+        (others (line - 1) (omega (arith, past)) (omega (arith, past, within)))
+
+    at : (line < behind.from) ⊎ (behind.from ≤ line) → (nat_le behind.from line && uses_local_label (body_at (program_of lines) line)) ≡ false
+    at (inl before) = and_left (nat_le behind.from line) (uses_local_label (body_at (program_of lines) line)) (lt-leb behind.from line before)
+    at (inr from) =
+        let b = (statement_of text).body in
+        let none : is_of_kind Uncompared b ≡ false =
+        sym (kind-on text Uncompared) ∙ apart (kind_bit Uncompared) (kind-below Uncompared) (has.locals (omega (arith, from, within, last, number, count-groups lines groups are))) in
+        let parts = or_parts (uses_local_label b || uses_paired_high b) (is_equ b) none in
+        let local = (or_parts (uses_local_label b) (uses_paired_high b) parts.0).0 in
+        and_right (nat_le behind.from line) (uses_local_label (body_at (program_of lines) line)) (ap (λ s. uses_local_label s.body) statement ∙ local)
 
 -- Names that a statement defines
 
@@ -122,34 +154,6 @@ pub unused-by_bucket : (behind : LineBehind) (bucket : ℕ) (names : List (List 
 unused-by_bucket behind bucket names only apart =
     none-passes (λ b. b == bucket) (added_by behind) (of_bucket behind bucket only) names
     (λ b is. ap (may_have (brief_of_names names)) (eqb-true b bucket is) ∙ apart)
-
--- Texts that use nothing that a line adds
-
-pub none-of : (test : List ℕ → Bool) (names : List (List ℕ)) → ((name : List ℕ) → test name ≡ false) → list_any test names ≡ false
-none-of test [] none = refl
-none-of test (n ∷ ns) none = let here = none n in let more = none-of test ns none in λ j. here j || more j
-
-module _ (lines : List (List ℕ)) (s : Stmt) (local : has_local_labels s.labels ≡ false) (high : pcrel_high_of s.body ≡ None) where
-  -- a line that adds nothing
-  pub apart-unadded : ((name : List ℕ) → adds (program_of lines) s name ≡ false) → IsApart (program_of lines) s
-  apart-unadded none = record {
-    local = λ number. none-among number s.labels local;
-    high = high;
-    unused = λ i first last settled. none-of (adds (program_of lines) s) (names_used (body_at (program_of lines) i)) none;
-  }
-
-  -- one that adds what no settled line uses
-  pub apart-unsettled : ((i : ℕ) → 1 ≤ i → i ≤ length lines → is_settled (body_at (program_of lines) i) ≡ true → uses_any (adds (program_of lines) s) (program_of lines) i ≡ false) → IsApart (program_of lines) s
-  apart-unsettled unused = record {
-    local = λ number. none-among number s.labels local;
-    high = high;
-    unused = λ i first last. unused i first (omega (arith, last, length-program lines));
-  }
-
--- where a line adds nothing, no line uses it
-pub no_users : (p : Program) (test : List ℕ → Bool) (n : ℕ) → ((name : List ℕ) → test name ≡ false) → lines_that (uses_any test p) n ≡ []
-no_users p test n none =
-    lines_that-still (uses_any test p) (uses_any test p) 0 n (omega arith) (λ i first last. refl) (λ i first last. none-of test (names_used (body_at p i)) none)
 
 -- What holds of each of the first lines
 

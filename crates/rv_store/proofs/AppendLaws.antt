@@ -1,4 +1,5 @@
--- A statement at the end of a text has to do with the lines before it by the names that it adds alone, if no section moves.
+-- A statement at the end of a text has to do with the lines before it by the names that it adds and its local labels alone, if no section
+-- moves.
 use Rattle.std.proofs.Common.{◌≡◌, ℕ, suc, ◌+◌, ◌-◌, ◌≤◌, nat_le, Bool, true, false, not, ◌&&◌, List, [], ◌∷◌, ◌++◌, length, get_or, Ok, Err, if◌then◌else◌, true≢false, arith, ap, sym, ◌∙◌, refl}
 use Rattle.std.proofs.lemmas.Bool.{and_parts, not-true, or_left, not_from_false}
 use Rattle.std.proofs.lemmas.List.{get_or_append_left, get_or_past, take-append-le}
@@ -12,7 +13,7 @@ use Rattle.rv_layout.specs.Places.{before, section_through, offset_through, sect
 use Rattle.rv_layout.specs.Sections.{section_number}
 use Rattle.rv_list.specs.declared.view.DefinitionPlace.{DefinitionPlace}
 use Rattle.rv_list.specs.declared.view.DefinitionPlace.TheVariants.{Nowhere, Label as ByLabel, Equ}
-use Rattle.rv_store.specs.internal.Appended.{adds, IsApart, shape_at_end, StaySections}
+use Rattle.rv_store.specs.internal.Appended.{adds, touches, IsApart, shape_at_end, StaySections}
 use Rattle.rv_program.specs.Definitions.{or_place, place_in_statement, definition_of, is_defined}
 use Rattle.rv_program.specs.Layout.{shape_at, shapes_of, section_at, address_at, size_at as size_on, place_at}
 use Rattle.rv_program.specs.Pairs.{pcrel_high_of}
@@ -39,7 +40,7 @@ no_fault address k (Equ line) value h = at (nat_le line k) value
 
 -- The text with one statement more
 
-module _ (p : Program) (s : Stmt) (apart : IsApart p s) where
+module _ (p : Program) (s : Stmt) (from : ℕ) (apart : IsApart p s from) where
   -- Definitions
 
   pub definition-same : (name : List ℕ) → adds p s name ≡ false → definition_of (more p s) name ≡ definition_of p name
@@ -71,8 +72,8 @@ module _ (p : Program) (s : Stmt) (apart : IsApart p s) where
   pub has_local-same : (number i : ℕ) → 1 ≤ i → i ≤ length p → has_local (more p s) number i ≡ has_local p number i
   has_local-same number i first last = ap (λ t. among_local number t.labels) (statement-earlier p s i first last)
 
-  pub has_local-last : (number : ℕ) → has_local (more p s) number (suc (length p)) ≡ false
-  has_local-last number = ap (λ t. among_local number t.labels) (statement-last p s) ∙ apart.local number
+  pub has_local-last : (number : ℕ) → has_local (more p s) number (suc (length p)) ≡ among_local number s.labels
+  has_local-last number = ap (λ t. among_local number t.labels) (statement-last p s)
 
   -- Places, where no section moves
 
@@ -108,7 +109,7 @@ module _ (p : Program) (s : Stmt) (apart : IsApart p s) where
         let size = size-same i first last in
         λ j. record { section = section j; address = address j; size = size j }
 
-    pub end-still : IsStill base p (more p s) (suc (length p)) (adds p s)
+    pub end-still : IsStill base p (more p s) (suc (length p)) (touches p s from)
     end-still =
         let back : suc (length p) - 1 ≡ length p = omega arith in
         let count = count-more p s in
@@ -125,7 +126,7 @@ module _ (p : Program) (s : Stmt) (apart : IsApart p s) where
           no_equ = λ within. absurd (omega (arith, within));
           constants = constants-same p s;
           locals = has_local-same;
-          no_local = λ past. has_local-last;
+          near = λ number i past has. apart.near number i (sym (has_local-last number) ∙ has);
           high_before = ap (λ t. pcrel_high_of t.body) (ap (λ i. get_or p i no_statement) back ∙ get_or_past p (length p) no_statement (omega arith));
           high = ap pcrel_high_of (body-last p s) ∙ apart.high;
           places = place-same;

@@ -12,7 +12,7 @@ use Rattle.rv_layout.specs.Places.{sum_below, section_base_of, is_base, IsLimite
 use Rattle.rv_layout.specs.Sections.{sections, section_number}
 use Rattle.rv_store.specs.declared.ends.Ends.{Ends}
 use Rattle.rv_store.specs.declared.still.Still.{Still}
-use Rattle.rv_store.specs.internal.Appended.{adds, IsApart, shape_at_end, StaySections}
+use Rattle.rv_store.specs.internal.Appended.{adds, touches, IsApart, shape_at_end, StaySections}
 use Rattle.rv_store.specs.internal.Ends.{ends_of, ends_after, end_in, base_by_ends, next_offset, next_place, place_by_shapes}
 use Rattle.rv_program.specs.Layout.{shape_at, shapes_of, place_at}
 use Rattle.rv_program.specs.Program.{Program, program_of, lines_that}
@@ -74,13 +74,13 @@ module _ (ms : List Measured) (m : Measured) (few : length ms < 16384) (limited 
   together-all after is =
       subst (λ e. sum_below (end_in e) sections ≤ 2 ^ 30) (sym is) (ends-together (ms ++ m ∷ []) limited few-all)
 
--- Other lines have to do with it by the names that it adds alone, if no section moves
-pub ending-line : (base : ℕ) (lines : List (List ℕ)) (line : List ℕ) (shapes : List Measured) (before : Ends) (given : Still) (due : List ℕ) → AreShapes (program_of lines) shapes → AreLimited shapes → length lines < 16384
-    → IsApart (program_of lines) (statement_of line) → (given.defines ≡ false → (name : List ℕ) → adds (program_of lines) (statement_of line) name ≡ false)
+-- Other lines have to do with it by the names that it adds and its local labels alone, if no section moves
+pub ending-line : (base : ℕ) (lines : List (List ℕ)) (line : List ℕ) (from : ℕ) (shapes : List Measured) (before : Ends) (given : Still) (due : List ℕ) → AreShapes (program_of lines) shapes → AreLimited shapes → length lines < 16384
+    → IsApart (program_of lines) (statement_of line) from → (given.defines ≡ false → (name : List ℕ) → adds (program_of lines) (statement_of line) name ≡ false)
     → given.shape ≡ shape_at_end (program_of lines) (statement_of line) → IsLimited given.shape → before ≡ ends_of shapes → given.ends ≡ ends_of (shapes ++ given.shape ∷ [])
     → ((t : ℕ) → t < sections → base_by_ends base given.ends t ≡ base_by_ends base before t) → given.place ≡ place_by_shapes base (shapes ++ given.shape ∷ []) (suc (length shapes))
-    → due ≡ lines_that (uses_any (adds (program_of lines) (statement_of line)) (program_of lines)) (length lines) → IsStillLine base lines (length lines + 1) line given due
-ending-line base lines line shapes before given due are limited few apart nothing shape limited_end is all stay place those =
+    → due ≡ lines_that (uses_any (touches (program_of lines) (statement_of line) from) (program_of lines)) (length lines) → IsStillLine base lines (length lines + 1) line given due
+ending-line base lines line from shapes before given due are limited few apart nothing shape limited_end is all stay place those =
     let p : Program = program_of lines in
     let s : Stmt = statement_of line in
     let from_program : length p ≡ length lines = length-program lines in
@@ -96,23 +96,23 @@ ending-line base lines line shapes before given due are limited few apart nothin
     ∙ ap (λ e. base_by_ends base e t) is
     ∙ base-ends base shapes t l
     ∙ ap (λ ms. section_base_of base ms t) are in
-    let still = end-still p s apart base (subst (StaySections base p) shape stays) in
+    let still = end-still p s from apart base (subst (StaySections base p) shape stays) in
     let number : suc (length p) ≡ length lines + 1 = omega (arith, from_program) in
     let after : more p s ≡ program_of (set_or_push lines (length lines + 1 - 1) line) =
     sym (program-longer lines line) ∙ ap program_of (end-set_or_push lines (length lines + 1 - 1) line (omega arith)) in
     record {
-      touched = adds p s;
-      still = subst (λ r. IsStill base p r (length lines + 1) (adds p s)) after (subst (λ n. IsStill base p (more p s) n (adds p s)) number still);
+      touched = touches p s from;
+      still = subst (λ r. IsStill base p r (length lines + 1) (touches p s from)) after (subst (λ n. IsStill base p (more p s) n (touches p s from)) number still);
       shape = shape ∙ sym (shape-last p s) ∙ (λ j. shape_at (after j) (number j));
       limited = limited_end;
       ends = all ∙ ap ends_of rows ∙ ap (λ r. ends_of (shapes_of r)) after;
       place = place ∙ (λ i. place_by_shapes base (rows i) (suc (length shapes))) ∙ ap (place_by_shapes base (shapes_of (more p s))) (ap suc (count ∙ sym from_program)) ∙ (λ j. place_at base (after j) (number j));
       nothing = nothing;
-      those = those ∙ lines_that-same (uses_any (adds p s) p) (is_put_or_uses (adds p s) p (length lines + 1)) (length lines)
-          (λ i first last. ap (λ b. b || uses_any (adds p s) p i) (sym (ne_eqb i (length lines + 1) (λ e. omega (arith, e, last)))));
+      those = those ∙ lines_that-same (uses_any (touches p s from) p) (is_put_or_uses (touches p s from) p (length lines + 1)) (length lines)
+          (λ i first last. ap (λ b. b || uses_any (touches p s from) p i) (sym (ne_eqb i (length lines + 1) (λ e. omega (arith, e, last)))));
       last = λ defines. (
         omega arith,
-        record { apart = apart; earlier = ap (λ r. equ_value base r (length lines)) (program-longer lines line) ∙ equ_value-still still (length lines) (omega (arith, from_program)) },
+        ap (λ r. equ_value base r (length lines)) (program-longer lines line) ∙ equ_value-still still (length lines) (omega (arith, from_program)),
       );
     }
 

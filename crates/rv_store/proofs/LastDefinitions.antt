@@ -3,7 +3,7 @@
 use Rattle.std.proofs.Common.{◌≡◌, ℕ, ℤ, zero, suc, ◌+◌, ◌-◌, ◌<◌, ◌≤◌, ◌==◌, nat_lt, Bool, true, false, ◌&&◌, List, [], ◌∷◌, ◌++◌, length, set, bytes_eq, Option, Some, None, Err, if◌then◌else◌, true≢false, arith, ap, sym, subst, ◌∙◌, refl, ◌⊎◌, inl, inr}
 use Rattle.std.proofs.Math.ListN.{drop_of_length-le}
 use Rattle.std.proofs.Math.Path.{fun_ext}
-use Rattle.std.proofs.lemmas.Bool.{cases_lt, ne_eqb, eq-eqb, lt-ltb}
+use Rattle.std.proofs.lemmas.Bool.{cases_lt, ne_eqb, eq-eqb, lt-ltb, and_right}
 use Rattle.std.proofs.lemmas.List.{length-set, set_past, get_or_past}
 use Rattle.std.proofs.lemmas.Slice.Eq.{bytes_eq-Decides}
 use Rattle.rv_expr.specs.declared.faults.ValueFault.TheVariants.{LaterEqu}
@@ -17,7 +17,7 @@ use Rattle.rv_fix.specs.Values.{Entry}
 use Rattle.rv_list.specs.declared.view.DefinitionPlace.{DefinitionPlace}
 use Rattle.rv_list.specs.declared.view.DefinitionPlace.TheVariants.{Nowhere, Label as ByLabel, Equ}
 use Rattle.rv_store.specs.declared.survey.Survey.{Survey}
-use Rattle.rv_store.specs.internal.Appended.{IsLast, AreSymbols, is_equ_behind, AreInPart, AreDefinitionsInPart}
+use Rattle.rv_store.specs.internal.Appended.{StayEqus, AreSymbols, is_equ_behind, AreInPart, AreDefinitionsInPart}
 use Rattle.rv_program.specs.Constants.{constant_through}
 use Rattle.rv_program.specs.internal.Defining.{Definitions, or_here, also_on, IsOn, Holds, HoldsPart}
 use Rattle.rv_program.specs.Definitions.{defines_symbol, place_among_labels, place_in_body, or_place, place_in_statement, first_place, definition_of, is_defined, is_equ_on}
@@ -70,10 +70,6 @@ row-forgotten names row other symbol n f number here others = at (cases_lt n (le
 
 -- Definitions behind a text
 
-pub and-false : (b : Bool) → (b && false) ≡ false
-and-false true = refl
-and-false false = refl
-
 -- what the text defines comes first
 behind : (n : ℕ) (earlier here : DefinitionPlace) → IsWithin 1 (1 + n) earlier → or_here (suc n) earlier here ≡ or_place earlier here
 behind n Nowhere here within = or_place-nowhere here
@@ -125,7 +121,7 @@ taken-back n (Equ l) here found within on none =
 
 -- The text with the line and without it
 
-module _ (base : ℕ) (lines : List (List ℕ)) (line : List ℕ) (is : IsLast base lines line) where
+module _ (base : ℕ) (lines : List (List ℕ)) (line : List ℕ) (earlier : StayEqus base lines line) where
   abbrev p : Program
   p = program_of lines
 
@@ -174,7 +170,7 @@ module _ (base : ℕ) (lines : List (List ℕ)) (line : List ℕ) (is : IsLast b
   constant-behind name none = constant-kept q n name none ∙ ap (λ f. f name) earlier-constants
 
   equ_value-behind : (name : List ℕ) → is_equ_on (suc n) (definition_of q name) ≡ false → equ_value base q (suc n) name ≡ equ_value base p n name
-  equ_value-behind name none = equ_value-kept base q n name none ∙ ap (λ f. f name) is.earlier
+  equ_value-behind name none = equ_value-kept base q n name none ∙ ap (λ f. f name) earlier
 
   -- Rows with what the line defines
 
@@ -194,7 +190,7 @@ module _ (base : ℕ) (lines : List (List ℕ)) (line : List ℕ) (is : IsLast b
     in_part-waiting are = record {
       definitions = held are.definitions;
       constants = λ name none. ap (λ f. f name) (are.constants.each ∙ earlier-constants);
-      equ_values = λ name none. ap (λ f. f name) (are.equ_values.each ∙ is.earlier);
+      equ_values = λ name none. ap (λ f. f name) (are.equ_values.each ∙ earlier);
       constants_within = are.constants.within;
       equ_values_within = are.equ_values.within;
     }
@@ -213,7 +209,7 @@ module _ (base : ℕ) (lines : List (List ℕ)) (line : List ℕ) (is : IsLast b
     pub symbols-no_equ : is_equ s.body ≡ false → AreSymbols base q n names t → AreSymbols base q (suc n) names t
     symbols-no_equ equ are =
         let none : (name : List ℕ) → is_equ_on (suc n) (definition_of q name) ≡ false =
-        λ name. no_equ-behind name (ap (λ place. is_equ_on (suc n) (definition_of q name) && is_defined place) (nowhere (suc n) s.body name equ) ∙ and-false (is_equ_on (suc n) (definition_of q name))) in
+        λ name. no_equ-behind name (ap (λ place. is_equ_on (suc n) (definition_of q name) && is_defined place) (nowhere (suc n) s.body name equ) ∙ and_right (is_equ_on (suc n) (definition_of q name)) false refl) in
         record {
           definitions = are.definitions;
           constants = record { each = are.constants.each ∙ sym (fun_ext (λ name. constant-kept q n name (none name))); within = are.constants.within };
@@ -243,7 +239,7 @@ module _ (base : ℕ) (lines : List (List ℕ)) (line : List ℕ) (is : IsLast b
         within = holds.within;
       };
       constants = record { each = constants-grown.each ∙ sym earlier-constants; within = constants-grown.within };
-      equ_values = record { each = equ_values-grown.each ∙ sym is.earlier; within = equ_values-grown.within };
+      equ_values = record { each = equ_values-grown.each ∙ sym earlier; within = equ_values-grown.within };
     }
 
     -- or a part of them
@@ -278,8 +274,8 @@ module _ (base : ℕ) (lines names : List (List ℕ)) (s : Stmt) (old : Survey) 
           ap (λ b. b && is_defined (if bytes_eq d.symbol name then Equ (suc (length lines)) else Nowhere)) (ap (λ m. is_equ_on (suc (length lines)) (in_row names row Nowhere m)) (sym same) ∙ none d refl)
       at false e =
           ap (λ b. is_equ_on (suc (length lines)) (in_row names row Nowhere name) && is_defined (if b then Equ (suc (length lines)) else Nowhere)) e
-          ∙ and-false (is_equ_on (suc (length lines)) (in_row names row Nowhere name))
-  no_equ-of body none name = and-false (is_equ_on (suc (length lines)) (in_row names row Nowhere name))
+          ∙ and_right (is_equ_on (suc (length lines)) (in_row names row Nowhere name)) false refl
+  no_equ-of body none name = and_right (is_equ_on (suc (length lines)) (in_row names row Nowhere name)) false refl
 
   pub equ-unwritten : ((d : Definition) → s.body ≡ EquBody d → is_equ_on (suc (length lines)) (in_row names row Nowhere d.symbol) ≡ false) → AreDefinitionsInPart base lines names old
   equ-unwritten none = record {
@@ -300,7 +296,7 @@ module _ (base : ℕ) (lines names : List (List ℕ)) (s : Stmt) (old : Survey) 
       where
         at : (b : Bool) → bytes_eq d.symbol m ≡ b → (is_equ_on (suc (length lines)) (in_row names row Nowhere m) && is_defined (if b then Equ (suc (length lines)) else Nowhere)) ≡ false
         at true e = absurd (differs (sym ((bytes_eq-Decides d.symbol m).0 e)))
-        at false e = and-false (is_equ_on (suc (length lines)) (in_row names row Nowhere m))
+        at false e = and_right (is_equ_on (suc (length lines)) (in_row names row Nowhere m)) false refl
 
     pub equ-forgotten : (new : Survey) → new.definitions.items ≡ row → new.constants.items ≡ set old.constants.items number None → new.equ_values.items ≡ set old.equ_values.items number (Err LaterEqu) → AreDefinitionsInPart base lines names new
     equ-forgotten new definitions constants equ_values = record {

@@ -3,7 +3,7 @@ use Rattle.std.proofs.Common.{◌≡◌, ℕ, suc, ◌+◌, ◌-◌, ◌<◌, �
 use Rattle.std.proofs.Math.ListN.{drop_of_length-le}
 use Rattle.std.proofs.Math.Path.{fun_ext}
 use Rattle.std.proofs.Math.Seq.{take-append_seam, get_or-append_seam}
-use Rattle.std.proofs.lemmas.Bool.{lt-ltb, not_from_true, or_parts}
+use Rattle.std.proofs.lemmas.Bool.{lt-ltb, and_right, not_from_true, or_parts}
 use Rattle.std.proofs.lemmas.List.{take-map, length-map, get_or-set_same, set-set, set-get_or}
 use Rattle.std.proofs.lemmas.List.FromFn.{length-map-range_with_len}
 use Rattle.rv_stmt.specs.Statement.{statement_of}
@@ -20,18 +20,19 @@ use Rattle.rv_program.specs.Codes.{values_at, code_at}
 use Rattle.rv_program.specs.Constants.{constant_through}
 use Rattle.rv_program.specs.Layout.{shape_at, shapes_of, place_at}
 use Rattle.rv_program.specs.Program.{Program, program_of, for_lines, lines_that}
-use Rattle.rv_program.specs.References.{equ_value}
+use Rattle.rv_program.specs.References.{among_local, has_local, equ_value}
 use Rattle.rv_program.specs.Text.{Edit, Delete, lines_after}
 use Rattle.rv_program.specs.internal.Items.{AreItems}
 use Rattle.rv_program.specs.internal.Rows.{AreConstants, AreEquValues, AreShapes, AreHighs, ArePairedHighs}
 use Rattle.rv_program.specs.internal.LinesAhead.{all_ahead, none_ahead}
+use Rattle.rv_program.specs.lemmas.LocalLines.{statement-of-line}
 use Rattle.rv_program.specs.lemmas.Programs.{at-for_lines, length-for_lines, length-program}
 use Rattle.rv_program.specs.lemmas.SamenessLaws.{same_code-Decides}
 use Rattle.rv_store.specs.declared.ends.Ends.{Ends}
 use Rattle.rv_store.specs.declared.last_line.LastLine.{LastLine}
 use Rattle.rv_store.specs.declared.still.Still.{Still}
 use Rattle.rv_store.specs.declared.survey.Survey.{Survey}
-use Rattle.rv_store.specs.internal.Appended.{adds, shape_at_end, IsApart, AreSymbols}
+use Rattle.rv_store.specs.internal.Appended.{adds, touches, shape_at_end, IsApart, AreSymbols}
 use Rattle.rv_store.specs.internal.Ends.{ends_of, ends_after, ends_before, base_by_ends, next_offset, place_by_shapes}
 use Rattle.rv_store.specs.internal.Still.{uses_any, is_put_or_uses, IsOther, IsStill}
 use Rattle.rv_store.specs.internal.StillLines.{IsStillLine, IsLastLine}
@@ -40,7 +41,7 @@ use Rattle.rv_store.proofs.EndLaws.{at-section, ends_of-push, take-AreLimited}
 use Rattle.rv_store.proofs.Endings.{ending-line}
 use Rattle.rv_store.proofs.LongerPrograms.{shapes-more, for_lines-same}
 use Rattle.rv_store.proofs.LongerTexts.{count-longer, program-longer}
-use Rattle.rv_store.proofs.StillLaws.{lines_that-still, shape-still, locals-still, highs-back, paired_highs-back, values-still, code-still, constant-all, equ_value-all}
+use Rattle.rv_store.proofs.StillLaws.{lines_that-still, shape-still, locals-put, highs-back, paired_highs-back, values-still, code-still, constant-all, equ_value-all}
 use Rattle.rv_store.proofs.StillTexts.{end-set_or_push}
 
 -- Rows without their last value
@@ -132,19 +133,20 @@ module _ (base : ℕ) (lines : List (List ℕ)) (line : List ℕ) where
 
     -- no other line has to do with it
     pub is-last_line : (given : LastLine) (ends : Ends) (text : List (List ℕ)) → text ≡ lines ++ line ∷ [] → ends ≡ ends_of (shapes_of (program_of (lines ++ line ∷ []))) → given.before ≡ ends_of shapes
-        → ((t : ℕ) → t < sections → base_by_ends base ends t ≡ base_by_ends base given.before t) → IsApart (program_of lines) (statement_of line)
-        → (given.defines ≡ false → (name : List ℕ) → adds (program_of lines) (statement_of line) name ≡ false)
-        → [] ≡ lines_that (uses_any (adds (program_of lines) (statement_of line)) (program_of lines)) (length lines) → IsLastLine base text given
-    is-last_line given ends text whole all first stay apart nothing unused =
+        → ((t : ℕ) → t < sections → base_by_ends base ends t ≡ base_by_ends base given.before t) → (from : ℕ) → IsApart (program_of lines) (statement_of line) from
+        → ((number : ℕ) → among_local number (statement_of line).labels ≡ false) → (given.defines ≡ false → (name : List ℕ) → adds (program_of lines) (statement_of line) name ≡ false)
+        → [] ≡ lines_that (uses_any (touches (program_of lines) (statement_of line) from) (program_of lines)) (length lines) → IsLastLine base text given
+    is-last_line given ends text whole all first stay from apart local nothing unused =
         let there : Still = record { shape = shape; ends = ends; place = place_by_shapes base (shapes ++ shape ∷ []) (suc (length shapes)); defines = given.defines } in
         record {
           lines = lines;
           line = line;
           there = there;
           whole = whole;
-          still = ending-line base lines line shapes given.before there [] refl limited-without few apart nothing refl (limited-last shapes shape limited) first (all ∙ ap ends_of shapes-with) stay refl unused;
+          still = ending-line base lines line from shapes given.before there [] refl limited-without few apart nothing refl (limited-last shapes shape limited) first (all ∙ ap ends_of shapes-with) stay refl unused;
           before = first;
           defines = refl;
+          local = local;
         }
 
 -- The survey of the text
@@ -204,7 +206,7 @@ module _ {base : ℕ} {lines : List (List ℕ)} {line : List ℕ} {there : Still
       ∙ ap (for_lines f) (sym (length-program lines))
 
   -- where it defines nothing, the rows by names stay
-  pub symbols-back : (names : List (List ℕ)) (s : Survey) → ((name : List ℕ) → is.touched name ≡ false) → AreSymbols base whole (length (lines ++ line ∷ [])) names s → AreSymbols base without (length lines) names s
+  pub symbols-back : (names : List (List ℕ)) (s : Survey) → ((name : List ℕ) → is.touched.names name ≡ false) → AreSymbols base whole (length (lines ++ line ∷ [])) names s → AreSymbols base without (length lines) names s
   symbols-back names s none are =
       let count = length-program lines in
       let longer : length without ≤ length (lines ++ line ∷ []) = omega (arith, count, count-longer lines line) in
@@ -220,10 +222,20 @@ module _ {base : ℕ} {lines : List (List ℕ)} {line : List ℕ} {there : Still
         };
       }
 
+  -- the lines of a local label that the last line has not
+  locals-without : (number : ℕ) → among_local number (statement_of line).labels ≡ false → lines_that (has_local whole number) (length whole) ≡ lines_that (has_local without number) (length without)
+  locals-without number none =
+      let n : ℕ = length lines + 1 in
+      let statement = statement-of-line (lines ++ line ∷ []) (length lines) line (omega (arith, count-longer lines line)) (sym (get_or-append_seam lines line [] line)) in
+      locals-put still number
+      ∙ ap (λ b. lines_that (has_local without number) (length without) ++ (if b then n ∷ [] else []))
+      (and_right (nat_lt (length without) n) (has_local whole number n) (ap (λ s. among_local number s.labels) statement ∙ none))
+      ∙ append-nil (lines_that (has_local without number) (length without))
+
   -- the rows by lines lose their last values
   pub survey-without : (names : List (List ℕ)) (old new : Survey) → IsSurvey base whole names old → AreSymbols base without (length lines) names new → new.shapes.items ≡ take (length lines) old.shapes.items → new.ends ≡ ends_of (shapes_of without)
-      → new.places.items ≡ take (length lines) old.places.items → new.locals ≡ old.locals → new.highs.items ≡ take (length lines) old.highs.items → new.paired_highs.items ≡ take (length lines) old.paired_highs.items → IsSurvey base without names new
-  survey-without names old new are symbols shapes ends places locals highs paired_highs =
+      → new.places.items ≡ take (length lines) old.places.items → ((number : ℕ) → get_or new.locals number [] ≡ get_or old.locals number []) → ((number : ℕ) → among_local number (statement_of line).labels ≡ false) → new.highs.items ≡ take (length lines) old.highs.items → new.paired_highs.items ≡ take (length lines) old.paired_highs.items → IsSurvey base without names new
+  survey-without names old new are symbols shapes ends places locals local highs paired_highs =
       let count : length lines ≡ length without = sym (length-program lines) in
       let kept : AreShapes without new.shapes.items = shapes ∙ survey-row (shape_at without) (shape_at whole) old.shapes.items (shape-still still) are.shapes in
       let constants = subst (λ k. AreConstants without k names new.constants.items) count symbols.constants in
@@ -235,7 +247,7 @@ module _ {base : ℕ} {lines : List (List ℕ)} {line : List ℕ} {there : Still
         limited = subst AreLimited (sym shapes) (take-AreLimited (length lines) old.shapes.items are.limited);
         ends = ends ∙ ap ends_of (sym kept);
         places = places ∙ survey-row (place_at base without) (place_at base whole) old.places.items (λ i there. still.places i there.first there.last) are.places;
-        locals = λ number. (λ j. get_or (locals j) number []) ∙ are.locals number ∙ locals-still still number;
+        locals = λ number. locals number ∙ are.locals number ∙ locals-without number (local number);
         equ_values = equ_values;
         highs = subst (AreHighs base without) (sym (highs ∙ ap (λ n. take n old.highs.items) count)) (highs-back still old.highs.items are.highs);
         paired_highs = subst (ArePairedHighs base without) (sym (paired_highs ∙ ap (λ n. take n old.paired_highs.items) count)) (paired_highs-back still old.paired_highs.items are.paired_highs);

@@ -1,8 +1,10 @@
 -- The rows of a text that get a line in place with which no other line has to do, or lose it again.
-use Rattle.std.proofs.Common.{◌≡◌, ℕ, zero, suc, ◌-◌, ◌≤◌, inl, inr, Bool, true, List, [], ◌∷◌, ◌++◌, length, set, take, get_or, Option, Some, None, Result, Ok, Err, arith, ap, sym, subst, ◌∙◌, refl}
+use Rattle.std.proofs.Common.{◌≡◌, ℕ, zero, suc, ◌-◌, ◌≤◌, nat_lt, ◌&&◌, inl, inr, Bool, true, false, if◌then◌else◌, List, [], ◌∷◌, ◌++◌, length, set, take, get_or, Option, Some, None, Result, Ok, Err, arith, ap, sym, subst, ◌∙◌, refl}
 use Rattle.std.specs.Result.{OnErr}
 use Rattle.std.proofs.Math.Seq.{take-append_seam}
-use Rattle.std.proofs.lemmas.List.{take_all}
+use Rattle.std.proofs.lemmas.Bool.{le-ltb, ltb-true, and_left, and_parts}
+use Rattle.std.proofs.lemmas.List.{take_all, append-nil}
+use Rattle.rv_stmt.specs.Statement.{statement_of}
 use Rattle.rv_layout.specs.declared.measured.Measured.{Measured}
 use Rattle.rv_layout.specs.Places.{IsLimited, AreLimited}
 use Rattle.rv_store.specs.declared.still.Still.{Still}
@@ -10,17 +12,20 @@ use Rattle.rv_store.specs.declared.survey.Survey.{Survey}
 use Rattle.rv_store.specs.internal.Appended.{AreSameSymbols, AreSameLines, AreSymbols, IsUnsettled}
 use Rattle.rv_store.specs.internal.Ends.{ends_of}
 use Rattle.rv_program.specs.Layout.{shape_at, place_at}
-use Rattle.rv_program.specs.Program.{Program, program_of}
+use Rattle.rv_program.specs.Program.{Program, program_of, no_statement, statement_at, lines_that}
+use Rattle.rv_program.specs.References.{among_local, has_local}
+use Rattle.rv_program.specs.internal.Locals.{with_last, lines_below}
 use Rattle.rv_program.specs.internal.Rows.{AreDefinitions, AreConstants, AreEquValues, AreShapes, ArePlaces, AreLocals, AreHighs, ArePairedHighs}
 use Rattle.rv_program.specs.internal.Still.{set_or_push}
-use Rattle.rv_store.specs.internal.Still.{IsStill}
+use Rattle.rv_store.specs.internal.Still.{Touched, IsStill}
 use Rattle.rv_store.specs.internal.Column.{taken_back}
-use Rattle.rv_store.specs.internal.StillLines.{IsStillLine, AreLinesPut, MayBePut, ArePartlyPut, IsAt, MayWait}
+use Rattle.rv_store.specs.internal.StillLines.{IsStillLine, is_behind_with, AreLinesPut, MayBePut, MayHaveLast, ArePartlyPut, IsAt, MayWait}
 use Rattle.rv_store.specs.internal.Surveys.{IsSurvey}
 use Rattle.rv_store.proofs.Columns.{set-back, set-same}
+use Rattle.rv_program.specs.lemmas.LocalLines.{first-below, below-last}
 use Rattle.rv_program.specs.lemmas.Programs.{length-for_lines, length-program}
-use Rattle.rv_store.proofs.StillLaws.{shape-still, locals-still, highs-still, paired_highs-still}
-use Rattle.rv_store.proofs.StillTexts.{set-set_or_push, end-set_or_push, row-still, symbols-still}
+use Rattle.rv_store.proofs.StillLaws.{shape-still, locals-put, highs-still, paired_highs-still}
+use Rattle.rv_store.proofs.StillTexts.{set-set_or_push, end-set_or_push, map-set_or_push, at-set_or_push, within-next, row-still, symbols-still}
 
 -- whatever the error
 pub in_any_error : {X E Q : Type 0} (r : Result X E) → Q → OnErr r Q
@@ -37,18 +42,44 @@ back old new place (Some a) (inl same) stood = ap (λ row. set row place a) same
 back old new place (Some a) (inr put) stood =
     ap (λ row. set row place a) (put.1 ∙ sym (set-set_or_push old place put.0 stood.0)) ∙ set-back old place put.0 a stood.1
 
-pub partly : (place : ℕ) (line : List ℕ) (given : Still) (old new : Survey) → AreLinesPut place line given old new → ArePartlyPut place old new
-partly place line given old new put = record {
+-- Rows of local labels with a line behind them
+
+with-line : (line : ℕ) (here : Bool) (xs : List ℕ) → (here ≡ true → lines_below line xs ≡ xs) → with_last line here xs ≡ xs ++ (if here then line ∷ [] else [])
+with-line line true xs before = ap (λ ls. ls ++ line ∷ []) (before refl)
+with-line line false xs before = sym (append-nil xs)
+
+module _ (place : ℕ) (s : Survey) (located : AreLocals (program_of s.lines.items) (length (program_of s.lines.items)) s.locals) where
+  -- all stand before it
+  pub locals-before : length s.lines.items ≤ place → (number : ℕ) → lines_below (suc place) (get_or s.locals number []) ≡ get_or s.locals number []
+  locals-before behind number =
+      ap (lines_below (suc place)) (located number)
+      ∙ first-below (has_local (program_of s.lines.items) number) (suc place) (length (program_of s.lines.items)) (omega (arith, behind, length-program s.lines.items))
+      ∙ sym (located number)
+
+  pub has-last-none : MayHaveLast place s s
+  has-last-none = record { within = λ l number. refl; behind = locals-before }
+
+  pub has-last : (line : List ℕ) (new : Survey) → ((number : ℕ) → get_or new.locals number [] ≡ with_last (suc place) (is_behind_with s place line number) (get_or s.locals number [])) → MayHaveLast place s new
+  has-last line new put = record {
+    within = λ l number.
+        put number
+        ∙ ap (λ b. with_last (suc place) b (get_or s.locals number []))
+        (and_left (nat_lt (length s.lines.items) (suc place)) (among_local number (statement_of line).labels) (le-ltb (length s.lines.items) (suc place) (omega (arith, l))));
+    behind = λ l number. ap (lines_below (suc place)) (put number) ∙ below-last (suc place) (is_behind_with s place line number) (get_or s.locals number []) ∙ locals-before l number;
+  }
+
+pub partly : (place : ℕ) (line : List ℕ) (given : Still) (old new : Survey) → AreLocals (program_of old.lines.items) (length (program_of old.lines.items)) old.locals → AreLinesPut place line given old new → ArePartlyPut place old new
+partly place line given old new located put = record {
   lines = inr (line, put.lines);
   shapes = inr (given.shape, put.shapes);
   places = inr (given.place, put.places);
-  locals = put.locals;
+  locals = has-last place old located line new put.locals;
   highs = put.highs;
   paired_highs = put.paired_highs;
 }
 
-pub partly-none : (place : ℕ) (s : Survey) → ArePartlyPut place s s
-partly-none place s = record { lines = inl refl; shapes = inl refl; places = inl refl; locals = refl; highs = refl; paired_highs = refl }
+pub partly-none : (place : ℕ) (s : Survey) → AreLocals (program_of s.lines.items) (length (program_of s.lines.items)) s.locals → ArePartlyPut place s s
+partly-none place s located = record { lines = inl refl; shapes = inl refl; places = inl refl; locals = has-last-none place s located; highs = refl; paired_highs = refl }
 
 -- where the rows by lines change no more
 pub partly-still : (place : ℕ) (old middle new : Survey) → ArePartlyPut place old middle → AreSameLines middle new → ArePartlyPut place old new
@@ -56,7 +87,10 @@ partly-still place old middle new put same = record {
   lines = subst (MayBePut place old.lines.items) (sym same.lines) put.lines;
   shapes = subst (MayBePut place old.shapes.items) (sym same.shapes) put.shapes;
   places = subst (MayBePut place old.places.items) (sym same.places) put.places;
-  locals = same.locals ∙ put.locals;
+  locals = record {
+    within = λ l number. same.locals number ∙ put.locals.within l number;
+    behind = λ l number. ap (lines_below (suc place)) (same.locals number) ∙ put.locals.behind l number;
+  };
   highs = same.highs ∙ put.highs;
   paired_highs = same.paired_highs ∙ put.paired_highs;
 }
@@ -88,7 +122,7 @@ survey-back base lines names names' old new are same symbols =
       limited = subst AreLimited (sym same.shapes) are.limited;
       ends = same.ends ∙ are.ends ∙ ap ends_of (sym same.shapes);
       places = same.places ∙ are.places;
-      locals = λ number. (λ j. get_or (same.locals j) number []) ∙ are.locals number;
+      locals = λ number. same.locals number ∙ are.locals number;
       equ_values = equ_values;
       highs = subst (AreHighs base (program_of lines)) (sym same.highs) are.highs;
       paired_highs = subst (ArePairedHighs base (program_of lines)) (sym same.paired_highs) are.paired_highs;
@@ -119,10 +153,10 @@ record AreLineRows (base : ℕ) (program : Program) (s : Survey) : Type 0 where
   pub ends : s.ends ≡ ends_of s.shapes.items
   pub places : ArePlaces base program s.places.items
 
-module _ {base : ℕ} {p q : Program} {k : ℕ} {touched : List ℕ → Bool} (is : IsStill base p q k touched) where
-  -- the rows of local labels and high halves stay
+module _ {base : ℕ} {p q : Program} {k : ℕ} {touched : Touched} (is : IsStill base p q k touched) where
+  -- the rows of high halves stay
   survey-still : (names names' : List (List ℕ)) (old new : Survey) → IsSurvey base p names old → AreSymbols base q (length q) names' new → AreLineRows base q new
-      → new.locals ≡ old.locals → new.highs.items ≡ old.highs.items → new.paired_highs.items ≡ old.paired_highs.items → IsSurvey base q names' new
+      → AreLocals q (length q) new.locals → new.highs.items ≡ old.highs.items → new.paired_highs.items ≡ old.paired_highs.items → IsSurvey base q names' new
   survey-still names names' old new are symbols rows locals highs paired_highs = record {
     definitions = symbols.definitions;
     constants = symbols.constants;
@@ -130,7 +164,7 @@ module _ {base : ℕ} {p q : Program} {k : ℕ} {touched : List ℕ → Bool} (i
     limited = rows.limited;
     ends = rows.ends;
     places = rows.places;
-    locals = λ number. (λ j. get_or (locals j) number []) ∙ are.locals number ∙ sym (locals-still is number);
+    locals = locals;
     equ_values = symbols.equ_values;
     highs = subst (AreHighs base q) (sym highs) (highs-still is old.highs.items are.highs);
     paired_highs = subst (ArePairedHighs base q) (sym paired_highs) (paired_highs-still is old.paired_highs.items are.paired_highs);
@@ -147,6 +181,28 @@ module _ {base : ℕ} {lines : List (List ℕ)} {k : ℕ} {line : List ℕ} {giv
         put.places ∙ (λ j. set_or_push (are.places j) (k - 1) (is.place j))
         ∙ row-still is.still (place_at base (program_of lines)) (place_at base (program_of (set_or_push lines (k - 1) line))) (λ i other. sym (is.still.places i other.first other.last))
 
+    module _ (listed : old.lines.items ≡ lines) where
+      locals-here : AreLocals (program_of (set_or_push lines (k - 1) line)) (length (program_of (set_or_push lines (k - 1) line))) new.locals
+      locals-here number =
+          let p = program_of lines in
+          let q = program_of (set_or_push lines (k - 1) line) in
+          let first = is.still.first in
+          let next = within-next is.still in
+          let place : suc (k - 1) ≡ k = omega (arith, first) in
+          let count : length old.lines.items ≡ length p = ap length listed ∙ sym (length-program lines) in
+          let statement : statement_at q k ≡ statement_of line =
+          ap (λ ss. get_or ss (k - 1) no_statement) (map-set_or_push statement_of lines (k - 1) line)
+          ∙ at-set_or_push p (k - 1) (statement_of line) no_statement (omega (arith, next, first)) in
+          let here : is_behind_with old (k - 1) line number ≡ (nat_lt (length p) k && has_local q number k) =
+          (λ j. nat_lt (count j) (place j) && among_local number (sym statement j).labels) in
+          put.locals number
+          ∙ ap (with_last (suc (k - 1)) (is_behind_with old (k - 1) line number)) (are.locals number)
+          ∙ with-line (suc (k - 1)) (is_behind_with old (k - 1) line number) (lines_that (has_local p number) (length p))
+          (λ has. first-below (has_local p number) (suc (k - 1)) (length p)
+          (let past = ltb-true (length old.lines.items) (suc (k - 1)) (and_parts (nat_lt (length old.lines.items) (suc (k - 1))) (among_local number (statement_of line).labels) has).0 in omega (arith, past, count)))
+          ∙ (λ j. lines_that (has_local p number) (length p) ++ (if here j then place j ∷ [] else []))
+          ∙ sym (locals-put is.still number)
+
     module _ (last : List ℕ) (named : last ≡ line) (few : length (set_or_push lines (k - 1) line) ≤ 16384) (same : AreSameSymbols old new) (listed : old.lines.items ≡ lines) where
       now : new.lines.items ≡ set_or_push lines (k - 1) line
       now = put.lines ∙ ap (λ ls. set_or_push ls (k - 1) line) listed
@@ -158,10 +214,10 @@ module _ {base : ℕ} {lines : List (List ℕ)} {k : ℕ} {line : List ℕ} {giv
           subst (λ l. IsUnsettled base lines names l new) (sym named) (record {
             more = now ∙ sym (end-set_or_push lines (k - 1) line (let number = end.0 in omega (arith, number)));
             few = rw now few;
-            last = end.1;
+            earlier = end.1;
             symbols = symbols-same base (program_of lines) (length lines) names old new same (symbols-of base lines names old are);
             places = subst (λ ls. ArePlaces base (program_of ls) new.places.items) (sym now) places-put;
-            locals = subst (λ ls. AreLocals (program_of ls) (length (program_of ls)) new.locals) (sym now) (λ number. (λ j. get_or (put.locals j) number []) ∙ are.locals number ∙ sym (locals-still is.still number));
+            locals = subst (λ ls. AreLocals (program_of ls) (length (program_of ls)) new.locals) (sym now) (locals-here listed);
           })
 
       pub may-wait : MayWait base names last given.defines new
@@ -174,8 +230,8 @@ module _ {base : ℕ} {lines : List (List ℕ)} {k : ℕ} {line : List ℕ} {giv
       }
 
     -- and then have it
-    survey-put : (names' : List (List ℕ)) (settled : Survey) → AreSameLines new settled → AreSymbols base (program_of (set_or_push lines (k - 1) line)) (length (set_or_push lines (k - 1) line)) names' settled → IsSurvey base (program_of (set_or_push lines (k - 1) line)) names' settled
-    survey-put names' settled same symbols =
+    survey-put : (names' : List (List ℕ)) (settled : Survey) → old.lines.items ≡ lines → AreSameLines new settled → AreSymbols base (program_of (set_or_push lines (k - 1) line)) (length (set_or_push lines (k - 1) line)) names' settled → IsSurvey base (program_of (set_or_push lines (k - 1) line)) names' settled
+    survey-put names' settled listed same symbols =
         let shapes = same.shapes ∙ shapes-put in
         survey-still is.still names names' old settled are (subst (λ m. AreSymbols base (program_of (set_or_push lines (k - 1) line)) m names' settled) (sym (length-program (set_or_push lines (k - 1) line))) symbols)
         (record {
@@ -184,11 +240,11 @@ module _ {base : ℕ} {lines : List (List ℕ)} {k : ℕ} {line : List ℕ} {giv
           ends = same.ends ∙ put.ends ∙ is.ends ∙ ap ends_of (sym shapes);
           places = same.places ∙ places-put;
         })
-        (same.locals ∙ put.locals) (same.highs ∙ put.highs) (same.paired_highs ∙ put.paired_highs)
+        (λ number. same.locals number ∙ locals-here listed number) (same.highs ∙ put.highs) (same.paired_highs ∙ put.paired_highs)
 
     -- the same by the lines that the survey holds
     pub survey-whole : (names' : List (List ℕ)) (settled : Survey) → AreSameLines new settled → AreSymbols base (program_of settled.lines.items) (length settled.lines.items) names' settled → old.lines.items ≡ lines → IsSurvey base (program_of settled.lines.items) names' settled
     survey-whole names' settled same symbols listed =
         let all : settled.lines.items ≡ set_or_push lines (k - 1) line = same.lines ∙ put.lines ∙ ap (λ ls. set_or_push ls (k - 1) line) listed in
         subst (λ ls. IsSurvey base (program_of ls) names' settled) (sym all)
-        (survey-put names' settled same (subst (λ ls. AreSymbols base (program_of ls) (length ls) names' settled) all symbols))
+        (survey-put names' settled listed same (subst (λ ls. AreSymbols base (program_of ls) (length ls) names' settled) all symbols))

@@ -1,8 +1,9 @@
--- What is kept of a text where a line is new with which the others have to do by its names alone, and what such an edit may take.
-use Rattle.std.proofs.Common.{◌≡◌, ℕ, zero, suc, ◌+◌, ◌-◌, ◌*◌, ◌==◌, ◌<◌, ◌≤◌, ◌⊎◌, inl, inr, Bool, true, false, ◌||◌, true≢false, List, [], ◌∷◌, ◌++◌, length, map, set, insert, get_or, Some, None, arith, ap, sym, subst, ◌∙◌, refl}
+-- What is kept of a text where a line is new with which the others have to do by its names and its local labels alone, and what such an
+-- edit may take.
+use Rattle.std.proofs.Common.{◌≡◌, ℕ, zero, suc, ◌+◌, ◌-◌, ◌*◌, ◌==◌, ◌<◌, ◌≤◌, ◌⊎◌, inl, inr, nat_le, Bool, true, false, ◌&&◌, ◌||◌, true≢false, List, [], ◌∷◌, ◌++◌, length, map, set, insert, get_or, Some, None, arith, ap, sym, subst, ◌∙◌, refl}
 use Rattle.std.specs.List.{list_any}
 use Rattle.std.proofs.Math.Path.{fun_ext}
-use Rattle.std.proofs.lemmas.Bool.{cases_lt, not_from_true, eq-eqb, ne_eqb, or_left, or_right, or_parts, or_from}
+use Rattle.std.proofs.lemmas.Bool.{cases_lt, and_parts, or_cases, not_from_true, eq-eqb, ne_eqb, or_left, or_right, or_parts, or_from}
 use Rattle.std.proofs.lemmas.List.{length-map}
 use Rattle.std.proofs.lemmas.List.Edits.{insert_end}
 use Rattle.std.proofs.lemmas.Option.{get_or_from_slice_get, slice_get_within}
@@ -13,7 +14,7 @@ use Rattle.rv_program.specs.Changes.{program_after, is_new_or, differs_in_name, 
 use Rattle.rv_program.specs.Edits.{line_before_edit}
 use Rattle.rv_program.specs.Program.{Program, program_of, no_statement, body_at, for_lines, lines_that}
 use Rattle.rv_program.specs.Text.{refusal_of}
-use Rattle.rv_program.specs.Uses.{names_used}
+use Rattle.rv_program.specs.Uses.{names_used, uses_local_label}
 use Rattle.rv_program.specs.internal.Former.{AreFormer}
 use Rattle.rv_program.specs.internal.Items.{IsItem, AreItems}
 use Rattle.rv_program.specs.internal.NewShapes.{shape_operands}
@@ -32,7 +33,7 @@ use Rattle.rv_store.specs.declared.survey.Survey.{Survey}
 use Rattle.rv_store.specs.internal.Appended.{AreSymbols}
 use Rattle.rv_store.specs.internal.Assembled.{AreCountedAfter}
 use Rattle.rv_store.specs.internal.Renewed.{AreItemsLeft}
-use Rattle.rv_store.specs.internal.Still.{uses_any, is_put_or_uses, IsOther, IsStill, IsPutEdit}
+use Rattle.rv_store.specs.internal.Still.{Touched, uses_any, is_put_or_uses, IsOther, IsStill, IsPutEdit}
 use Rattle.rv_store.proofs.CountedEdits.{counted-after}
 use Rattle.rv_store.proofs.LongerPrograms.{for_lines-same}
 use Rattle.rv_store.proofs.StillLaws.{same_number, body-still, shape-still, constant-all, equ_value-all, values-still}
@@ -110,7 +111,7 @@ any-more f g (n ∷ ns) more h = at (f n) refl h (any-more f g ns more)
 
 -- The rows of the text
 
-module _ {base : ℕ} {p q : Program} {k : ℕ} {touched : List ℕ → Bool} (is : IsStill base p q k touched) where
+module _ {base : ℕ} {p q : Program} {k : ℕ} {touched : Touched} (is : IsStill base p q k touched) where
   -- line k is one of the lines, or the next one
   pub within-next : k ≤ suc (length p)
   within-next = at (cases_lt (length p) k)
@@ -138,7 +139,7 @@ module _ {base : ℕ} {p q : Program} {k : ℕ} {touched : List ℕ → Bool} (i
           row-within f g k is.first (length p) (omega (arith, last, same_count)) others ∙ ap (for_lines g) same_count
 
   -- where no name is touched, the rows by names stay
-  pub symbols-still : (names : List (List ℕ)) (s : Survey) → ((name : List ℕ) → touched name ≡ false) → AreSymbols base p (length p) names s → AreSymbols base q (length q) names s
+  pub symbols-still : (names : List (List ℕ)) (s : Survey) → ((name : List ℕ) → touched.names name ≡ false) → AreSymbols base p (length p) names s → AreSymbols base q (length q) names s
   symbols-still names s none are = record {
     definitions = record { each = are.definitions.each ∙ sym (fun_ext (λ name. is.definitions name (none name))); within = are.definitions.within };
     constants = record { each = are.constants.each ∙ sym (fun_ext (λ name. constant-all is (length q) is.longer name (none name))); within = are.constants.within };
@@ -147,7 +148,7 @@ module _ {base : ℕ} {p q : Program} {k : ℕ} {touched : List ℕ → Bool} (i
 
 -- What the edit does to the other lines
 
-module _ (r : EditedText) {k : ℕ} {line : List ℕ} {touched : List ℕ → Bool} (is : IsStill r.base (program_of r.lines) (program_of (set_or_push r.lines (k - 1) line)) k touched) (put : IsPutEdit r.lines r.edit k line) where
+module _ (r : EditedText) {k : ℕ} {line : List ℕ} {touched : Touched} (is : IsStill r.base (program_of r.lines) (program_of (set_or_push r.lines (k - 1) line)) k touched) (put : IsPutEdit r.lines r.edit k line) where
   abbrev p : Program
   p = program_of r.lines
 
@@ -166,14 +167,21 @@ module _ (r : EditedText) {k : ℕ} {line : List ℕ} {touched : List ℕ → Bo
       ap (is_new_or (differs (program_after r.lines r.edit) i)) (put.others i (let last = there.last in omega (arith, last, length-program r.lines)) there.differs)
       ∙ ap (λ ls. differs (program_of ls) i i) put.edited
 
-  -- a line that uses a name that is touched is invalidated
+  -- a line that uses what is touched is invalidated
   user-invalidated : (i : ℕ) → IsOther p k i → uses_any touched p i ≡ true → invalidates r i ≡ true
   user-invalidated i there used =
-      let names : list_any (differs_in_name r.base p q i i) (names_used (body_at q i)) ≡ true =
-      ap (λ b. list_any (differs_in_name r.base p q i i) (names_used b)) (body-still is i there)
-      ∙ any-more touched (differs_in_name r.base p q i i) (names_used (body_at p i)) (λ name. is.differ i i name) used in
-      let differs : differs_in_uses r.base p q i i (body_at q i) ≡ true = or_left _ _ (or_left _ _ (or_left _ _ (or_left _ _ names))) in
-      stood (λ t i j. differs_in_uses r.base p t i j (body_at t i)) i there ∙ differs
+      stood (λ t i j. differs_in_uses r.base p t i j (body_at t i)) i there ∙ at (or_cases (list_any touched.names (names_used (body_at p i))) (nat_le touched.from i && uses_local_label (body_at p i)) used)
+    where
+      at : (list_any touched.names (names_used (body_at p i)) ≡ true) ⊎ ((nat_le touched.from i && uses_local_label (body_at p i)) ≡ true) → differs_in_uses r.base p q i i (body_at q i) ≡ true
+      at (inl named) =
+          let names : list_any (differs_in_name r.base p q i i) (names_used (body_at q i)) ≡ true =
+          ap (λ b. list_any (differs_in_name r.base p q i i) (names_used b)) (body-still is i there)
+          ∙ any-more touched.names (differs_in_name r.base p q i i) (names_used (body_at p i)) (λ name. is.differ i i name) named in
+          or_left _ _ (or_left _ _ (or_left _ _ (or_left _ _ names)))
+      at (inr near) =
+          let local : uses_local_label (body_at q i) ≡ true =
+          ap uses_local_label (body-still is i there) ∙ (and_parts (nat_le touched.from i) (uses_local_label (body_at p i)) near).1 in
+          or_left _ _ (or_left _ _ (or_right _ _ local))
 
   -- and no other one is reencoded
   other-stays : (i : ℕ) → IsOther p k i → uses_any touched p i ≡ false → reencodes r i ≡ false

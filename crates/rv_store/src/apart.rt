@@ -1,23 +1,23 @@
-//! Lines at the end of a text with which other lines have to do by their names alone.
+//! Lines at the end of a text with which other lines have to do by their names and their local labels alone.
 
-ghost use Rattle.std.specs.Prelude.{◌≡◌, ◌≤◌, ◌<◌, ◌+◌, ℕ, List, [], true, false, length, map, IfSome, IfOk};
+ghost use Rattle.std.specs.Prelude.{◌≡◌, ◌≤◌, ◌<◌, ◌+◌, ◌&&◌, ◌||◌, ℕ, List, true, false, nat_le, length, map, IfSome};
 ghost use Rattle.std.specs.List.{list_any};
 ghost use Rattle.rv_stmt.specs.Statement.{statement_of};
 ghost use Rattle.rv_program.specs.declared.limits.TheConstants.{MAX_LINES};
-ghost use Rattle.rv_store.specs.internal.Appended.{adds, is_earlier, TellEarlier, IsApart};
-ghost use Rattle.rv_store.specs.internal.Apart.{added_by, HasGroupOf, AreMarked};
+ghost use Rattle.rv_store.specs.internal.Appended.{adds, touches, is_earlier, TellEarlier, FindsLocals, IsApart};
+ghost use Rattle.rv_store.specs.internal.Apart.{added_by, touched_by, HasGroupOf, HasWanted, AreMarked};
 ghost use Rattle.rv_program.specs.internal.Briefs.{groups_on};
 ghost use Rattle.rv_program.specs.internal.NameSets.{bucket_of};
 ghost use Rattle.rv_program.specs.Definitions.{defines_symbol, place_in_body, is_defined};
 ghost use Rattle.rv_program.specs.Program.{program_of, body_at, lines_that};
 ghost use Rattle.rv_store.specs.internal.Still.{is_settled, uses_any};
-ghost use Rattle.rv_program.specs.Uses.{names_used};
+ghost use Rattle.rv_program.specs.Uses.{names_used, uses_local_label};
 
 use rv_list::DefinitionPlace;
 use rv_program::lines_of_kind::lines_up_to_groups;
 use rv_program::{
-    Groups, Line, MAX_LINES, NameTable, NameTest, any_name, bucket_of, entry_of, is_defined,
-    may_define, place_on,
+    Groups, Kind, Line, MAX_LINES, NameTable, NameTest, any_name, bucket_of, entry_of, is_defined,
+    place_on, uses_local_label,
 };
 use rv_stmt::{Body, LabelName, LabelSlice};
 use std::alloc::Global;
@@ -32,11 +32,13 @@ fn is_earlier(line: u32, place: DefinitionPlace) -> bool
     }
 }
 
-// A line behind a text. The names that pass are those that it adds: it defines them, and the text does not.
+// A line behind a text. The names that pass are those that it adds: it defines them, and the text does not. The lines `from` on may find a
+// local label on it.
 #[derive(Drop)]
 struct LineBehind<'a> {
     line: &'a Line,
     number: u32,
+    from: u32,
     names: &'a NameTable,
     definitions: &'a [DefinitionPlace],
 }
@@ -133,8 +135,37 @@ impl LineBehind<'_> {
         }
     }
 
-    // The lines that use a name that it adds, rising, or `None` if other lines take what one of them gives, or there is no memory for
-    // them. Lines whose groups say that they use none are gone past.
+    // Whether a line of this number uses one, or may find a local label on it.
+    #[inline]
+    fn touches(&self, line: &Line, number: u32, only: Option<u16>) -> bool
+        requires { IfSome only (λ bucket. (name : List ℕ) → added_by self.now name ≡ true → bucket_of name ≡ bucket) }
+        ensures { result ≡ (list_any (added_by self.now) (names_used (statement_of line.now).body) || (nat_le self.now.from number && uses_local_label (statement_of line.now).body)) }
+    {
+        self.is_used_on(line, only) || (self.from <= number && uses_local_label(&line.stmt().body))
+    }
+
+    // The groups of the lines that it touches, where those of the names that it adds are `added`.
+    fn wanted(&self, added: Groups) -> Groups
+        requires added { (name : List ℕ) → added_by self.now name ≡ true → HasGroupOf name added }
+        ensures { HasWanted self.now result }
+    {
+        added.with_kind(Kind::Uncompared, self.from < self.number)
+    }
+
+    // How many lines it does not touch, from the first on: all before `from` where it adds no name.
+    fn untouched(&self, lines: &[Line], added: Groups) -> usize
+        requires added { (name : List ℕ) → added_by self.now name ≡ true → HasGroupOf name added }
+        ensures within { result ≤ length lines.now }
+        ensures none { (i : ℕ) → 1 ≤ i → i ≤ result → uses_any (touched_by self.now) (program_of lines.now) i ≡ false }
+    {
+        if !added.are_none() {
+            return 0;
+        }
+        (self.from as usize).saturating_sub(1).min(lines.len())
+    }
+
+    // The lines that it touches, rising, or `None` if other lines take what one of them gives, or there is no memory for them. Lines whose
+    // groups say that it does not touch them are gone past.
     fn users(
         &self,
         alloc: Global,
@@ -143,25 +174,28 @@ impl LineBehind<'_> {
         added: Groups,
     ) -> Option<Vec<u32>>
         requires few { length lines.now ≤ MAX_LINES }
+        requires number { self.now.number ≡ length lines.now + 1 }
         requires groups { groups.now ≡ map groups_on lines.now }
         requires added { (name : List ℕ) → added_by self.now name ≡ true → HasGroupOf name added }
-        ensures users { IfSome result (λ row. row.items ≡ lines_that (uses_any (added_by self.now) (program_of lines.now)) (length lines.now)) }
-        ensures unsettled { IfSome result (λ _. (i : ℕ) → 1 ≤ i → i ≤ length lines.now → is_settled (body_at (program_of lines.now) i) ≡ true → uses_any (added_by self.now) (program_of lines.now) i ≡ false) }
+        ensures users { IfSome result (λ row. row.items ≡ lines_that (uses_any (touched_by self.now) (program_of lines.now)) (length lines.now)) }
+        ensures unsettled { IfSome result (λ _. (i : ℕ) → 1 ≤ i → i ≤ length lines.now → is_settled (body_at (program_of lines.now) i) ≡ true → uses_any (touched_by self.now) (program_of lines.now) i ≡ false) }
     {
         let only = self.only_bucket();
+        let wanted = self.wanted(added);
         let mut users = Vec::new(alloc);
-        let mut i = lines_up_to_groups(groups, 0, added);
+        let mut i = lines_up_to_groups(groups, self.untouched(lines, added), wanted);
         'lines: while i < lines.len() {
             let line = &lines[i];
-            if self.is_used_on(line, only) {
+            let number = i as u32 + 1;
+            if self.touches(line, number, only) {
                 if is_settled(line) {
                     return None;
                 }
-                let Ok(()) = users.push(i as u32 + 1) else {
+                let Ok(()) = users.push(number) else {
                     return None;
                 };
             }
-            i = lines_up_to_groups(groups, i + 1, added);
+            i = lines_up_to_groups(groups, i + 1, wanted);
         }
         Some(users)
     }
@@ -172,26 +206,14 @@ impl LineBehind<'_> {
 pub struct Added {
     /// It defines a name that the text does not.
     pub any: bool,
-    /// The lines of the text that use such a name, rising.
+    /// The lines of the text that use such a name, or may find a local label on it, rising.
     pub users: Vec<u32>,
 }
 
-impl Added {
-    // No name.
-    fn nothing(alloc: Global) -> Added
-        ensures any { result.any ≡ false }
-        ensures users { result.users.items ≡ [] }
-    {
-        Added {
-            any: false,
-            users: Vec::new(alloc),
-        }
-    }
-}
-
 /// What a line behind a text adds to it. `groups` are those of the lines, and `definitions` says where names are defined,
-/// with that line or without it. `None` if another line may have to do with it otherwise than by a name: an `.equ` or a high half of the text
-/// uses one that it adds, or the line has a local label, or is a high half, or there is no memory to find out.
+/// with that line or without it. Each line before `from` finds all its local labels in the text. `None` if another line may have to do with it
+/// otherwise than by a name or a local label: an `.equ` or a high half of the text uses one that it adds, or the line is a high half, or there
+/// is no memory to find out.
 pub fn adds_apart(
     alloc: Global,
     lines: &[Line],
@@ -199,31 +221,30 @@ pub fn adds_apart(
     names: &NameTable,
     definitions: &[DefinitionPlace],
     line: &Line,
+    from: u32,
 ) -> Option<Added>
     requires definitions { TellEarlier lines.now names.now definitions.now }
     requires groups { groups.now ≡ map groups_on lines.now }
     requires few { length lines.now ≤ MAX_LINES }
-    ensures apart { IfSome result (λ _. IsApart (program_of lines.now) (statement_of line.now)) }
+    requires locals { FindsLocals (program_of lines.now) (statement_of line.now) from }
+    ensures apart { IfSome result (λ _. IsApart (program_of lines.now) (statement_of line.now) from) }
     ensures nothing { IfSome result (λ added. added.any ≡ false → (name : List ℕ) → adds (program_of lines.now) (statement_of line.now) name ≡ false) }
-    ensures users { IfSome result (λ added. added.users.items ≡ lines_that (uses_any (adds (program_of lines.now) (statement_of line.now)) (program_of lines.now)) (length lines.now)) }
+    ensures users { IfSome result (λ added. added.users.items ≡ lines_that (uses_any (touches (program_of lines.now) (statement_of line.now) from) (program_of lines.now)) (length lines.now)) }
 {
-    let brief = line.brief();
-    if brief.local_labels || brief.pcrel_high {
+    if line.brief().pcrel_high {
         return None;
-    }
-    if !may_define(line) {
-        return Some(Added::nothing(alloc));
     }
     let behind = LineBehind {
         line,
         number: lines.len() as u32 + 1,
+        from,
         names,
         definitions,
     };
     let added = behind.added();
-    if added.are_none() {
-        return Some(Added::nothing(alloc));
-    }
     let users = behind.users(alloc, lines, groups, added)?;
-    Some(Added { any: true, users })
+    Some(Added {
+        any: !added.are_none(),
+        users,
+    })
 }

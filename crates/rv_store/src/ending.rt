@@ -1,4 +1,4 @@
-//! A line at the end of a text with which other lines have to do by its names alone.
+//! A line at the end of a text with which other lines have to do by its names and its local labels alone.
 
 ghost use Rattle.std.specs.Prelude.{◌≡◌, ◌+◌, ◌<◌, length, true, IfSome};
 ghost use Rattle.rv_layout.specs.Places.{IsLimited, AreLimited, is_base};
@@ -7,7 +7,7 @@ ghost use Rattle.rv_program.specs.declared.limits.TheConstants.{MAX_LINES};
 ghost use Rattle.rv_store.specs.internal.Appended.{shape_at_end};
 ghost use Rattle.rv_store.specs.internal.Ends.{ends_of};
 ghost use Rattle.rv_program.specs.Program.{program_of};
-ghost use Rattle.rv_program.specs.internal.Rows.{AreDefinitions, AreShapes};
+ghost use Rattle.rv_program.specs.internal.Rows.{AreDefinitions, AreLocals, AreShapes};
 ghost use Rattle.rv_store.specs.internal.StillLines.{IsStillLine};
 
 use crate::apart::adds_apart;
@@ -23,12 +23,12 @@ use std::alloc::Global;
 pub struct Ending {
     /// What it is.
     pub still: Still,
-    /// The lines before it that use a name that it alone defines, rising.
+    /// The lines before it that use a name that it alone defines, or may find a local label on it, rising.
     pub users: Vec<u32>,
 }
 
-/// What a line of this shape adds at the end of a text, if other lines have to do with it by its names alone: no `.equ` and no high half
-/// uses what it defines, and no section moves by it.
+/// What a line of this shape adds at the end of a text, if other lines have to do with it by its names and its local labels alone: no `.equ`
+/// and no high half uses what it defines, and no section moves by it.
 pub fn apart_ending(
     alloc: Global,
     base: u32,
@@ -42,6 +42,7 @@ pub fn apart_ending(
     requires shapes { AreShapes (program_of survey.now.lines.items) survey.now.shapes.items }
     requires limited { AreLimited survey.now.shapes.items }
     requires ends { survey.now.ends ≡ ends_of survey.now.shapes.items }
+    requires locals { AreLocals (program_of survey.now.lines.items) (length (program_of survey.now.lines.items)) survey.now.locals }
     requires few { length survey.now.lines.items < MAX_LINES }
     requires shape { shape ≡ shape_at_end (program_of survey.now.lines.items) (statement_of line.now) }
     requires limited_shape { IsLimited shape }
@@ -52,6 +53,7 @@ pub fn apart_ending(
     if !stay_sections(base, &survey.ends, &ends) {
         return None;
     }
+    let from = survey.locals.reach(line.stmt().labels.as_slice(), survey.lines.len() as u32 + 1);
     let added = adds_apart(
         alloc,
         survey.lines.as_slice(),
@@ -59,6 +61,7 @@ pub fn apart_ending(
         names,
         &survey.definitions,
         line,
+        from,
     )?;
     let place = last_place(base, &survey.ends, &ends, &shape);
     let still = Still {

@@ -1,7 +1,7 @@
-//! Lines with which other lines have to do by their names alone: in the place of another one or behind the last one, only that line and those
-//! that use such a name are made.
+//! Lines with which other lines have to do by their names and their local labels alone: in the place of another one or behind the last one,
+//! only that line and those that use one of these are made.
 
-ghost use Rattle.std.specs.Prelude.{◌≡◌, ◌≤◌, ◌+◌, ◌-◌, ◌^◌, None, length, IfOk, IfErr, OnOk, OnErr};
+ghost use Rattle.std.specs.Prelude.{◌≡◌, ◌≤◌, ◌+◌, ◌-◌, ◌^◌, ℕ, suc, [], None, true, false, length, get_or, IfOk, IfErr, OnOk, OnErr};
 ghost use Rattle.rv_program.specs.declared.limits.TheConstants.{MAX_LINES};
 ghost use Rattle.rv_store.specs.internal.Assembled.{AreCountedAfter};
 ghost use Rattle.rv_store.specs.internal.Appended.{AreSameLines, AreSameSymbols, AreSymbols};
@@ -11,10 +11,12 @@ ghost use Rattle.rv_program.specs.Edits.{edit_of, place_of_edit};
 ghost use Rattle.rv_program.specs.internal.Items.{AreItems};
 ghost use Rattle.rv_program.specs.Program.{program_of};
 ghost use Rattle.rv_program.specs.Text.{refusal_of, lines_after};
+ghost use Rattle.rv_program.specs.internal.Locals.{with_last, lines_below};
+ghost use Rattle.rv_program.specs.internal.Rows.{AreLocals};
 ghost use Rattle.rv_program.specs.internal.Still.{set_or_push};
 ghost use Rattle.rv_store.specs.internal.Column.{taken_back};
 ghost use Rattle.rv_store.specs.internal.Still.{IsPutEdit};
-ghost use Rattle.rv_store.specs.internal.StillLines.{IsStillLine, AreLinesPut, ArePartlyPut, IsFormerLine};
+ghost use Rattle.rv_store.specs.internal.StillLines.{IsStillLine, is_behind_with, AreLinesPut, StayButLocals, MayHaveLast, ArePartlyPut, IsFormerLine};
 ghost use Rattle.rv_store.specs.internal.Surveys.{IsSurvey};
 
 use crate::changed::Changed;
@@ -28,7 +30,7 @@ use rv_text::Count;
 use rv_tree::SumTree;
 use std::alloc::{AllocError, Global};
 
-/// What a line is, with which other lines have to do by its names alone.
+/// What a line is, with which other lines have to do by its names and its local labels alone.
 #[derive(Clone, Copy)]
 pub struct Still {
     /// Its shape.
@@ -100,16 +102,54 @@ impl Survey {
         })
     }
 
-    // Puts a line in the rows by lines, but in those of local labels and high halves, of which it has none. Where there is no memory
-    // for that, some of them may have it.
-    fn put_line(&mut self, place: usize, line: Line, still: &Still) -> Result<(), AllocError>
+    // Puts the local labels of a line in, where it is behind the others. Where there is no memory for that, some of the rows may have it.
+    fn put_locals(&mut self, alloc: Global, place: usize, line: &Line) -> Result<(), AllocError>
+        requires few { place ≤ MAX_LINES }
+        requires locals { AreLocals (program_of self.old.lines.items) (length (program_of self.old.lines.items)) self.old.locals }
+        ensures ok { OnOk result ((number : ℕ) → get_or self.new.locals number [] ≡ with_last (suc place) (is_behind_with self.old place line.now number) (get_or self.old.locals number [])) }
+        ensures locals { MayHaveLast place self.old self.new }
+        ensures others { StayButLocals self.old self.new }
+        ensures symbols { AreSameSymbols self.old self.new }
+    {
+        if place < self.lines.len() || !line.brief().local_labels {
+            return Ok(());
+        }
+        let labels = line.stmt().labels.as_slice();
+        self.locals.put_line(alloc, labels, place as u32 + 1)
+    }
+
+    // Takes the local labels of a line back, where it was put behind the others.
+    fn take_locals(&mut self, place: usize, behind: bool)
+        requires { place ≤ MAX_LINES }
+        ensures behind { behind ≡ true → (number : ℕ) → get_or self.new.locals number [] ≡ lines_below (suc place) (get_or self.old.locals number []) }
+        ensures within { behind ≡ false → (number : ℕ) → get_or self.new.locals number [] ≡ get_or self.old.locals number [] }
+        ensures others { StayButLocals self.old self.new }
+        ensures symbols { AreSameSymbols self.old self.new }
+    {
+        if behind {
+            self.locals.take_out(place as u32 + 1);
+        }
+    }
+
+    // Puts a line in the rows by lines, but in those of high halves, of which it has none. Where there is no memory for that, some of
+    // them may have it.
+    fn put_line(
+        &mut self,
+        alloc: Global,
+        place: usize,
+        line: Line,
+        still: &Still,
+    ) -> Result<(), AllocError>
         requires lines { place ≤ length self.old.lines.items }
+        requires few { length self.old.lines.items ≤ MAX_LINES }
+        requires locals { AreLocals (program_of self.old.lines.items) (length (program_of self.old.lines.items)) self.old.locals }
         requires shapes { length self.old.shapes.items ≡ length self.old.lines.items }
         requires places { length self.old.places.items ≡ length self.old.lines.items }
         ensures ok { OnOk result (AreLinesPut place line still.now self.old self.new) }
         ensures err { OnErr result (ArePartlyPut place self.old self.new) }
         ensures symbols { AreSameSymbols self.old self.new }
     {
+        self.put_locals(alloc, place, &line)?;
         self.lines.put(place, line)?;
         set_or_push(&mut self.shapes, place, still.shape)?;
         set_or_push(&mut self.places, place, still.place)?;
@@ -119,9 +159,11 @@ impl Survey {
 
     /// Takes a line back from the rows by lines that may have it in place, where this stood there.
     pub fn take_back(&mut self, place: usize, former: FormerLine)
+        requires { place ≤ MAX_LINES }
         ensures lines { (old : Survey) → ArePartlyPut place old self.old → IsFormerLine place old former → AreSameLines old self.new }
         ensures symbols { AreSameSymbols self.old self.new }
     {
+        self.take_locals(place, former.line.is_none());
         self.lines.put_back(place, former.line);
         put_back(&mut self.shapes, place, former.shape);
         put_back(&mut self.places, place, former.place);
@@ -129,7 +171,7 @@ impl Survey {
     }
 }
 
-/// Puts a line in the place of another one, or behind the last one, and makes its item and those of the lines that use a name that it
+/// Puts a line in the place of another one, or behind the last one, and makes its item and those of the lines that use what it
 /// touches, by the survey of the text. `items` are those of the text before that, and `due` are those of its lines that are due. Names that
 /// the line defines get numbers, also where there is no memory for the rest.
 ///
@@ -170,7 +212,7 @@ pub fn put_still<C: Count>(
     ensures counted { AreCountedAfter base survey.old.lines.items (edit_of edit.now) (counts_of C.parsed_count C.valued_count C.encoded_count counter.old) (counts_of C.parsed_count C.valued_count C.encoded_count counter.new) }
 {
     let new = line.share()?;
-    survey.put_line(edit.place() as usize - 1, line, still)?;
+    survey.put_line(alloc, edit.place() as usize - 1, line, still)?;
     survey.define_last(alloc, base, names, &new, still.defines, counter)?;
     match items_put(alloc, base, names, survey, items, edit, due, counter) {
         Ok(put) => Ok(put),

@@ -219,7 +219,8 @@ impl Store {
         })
     }
 
-    // What a line of this shape is as line `k`, if that is behind the last one, and other lines have to do with it by its names alone.
+    // What a line of this shape is as line `k`, if that is behind the last one, and other lines have to do with it by its names and its local
+    // labels alone.
     fn ending(&self, k: u32, line: &Line, shape: Measured) -> Option<Ending>
         requires allowed { refusal_of self.now.lines (Insert k line.now) ≡ None }
         requires shape { shape ≡ shape_of (constant_of (program_of self.now.lines) k) (statement_of line.now).body }
@@ -240,8 +241,8 @@ impl Store {
         )
     }
 
-    // Puts in the line of an edit with which other lines have to do by its names alone: only this line is made, and those that use one
-    // of them. `due` are those of the lines before the edit that are due. Where there is no memory for that, the text stays.
+    // Puts in the line of an edit with which other lines have to do by its names and its local labels alone: only this line is made, and
+    // those that use one of them. `due` are those of the lines before the edit that are due. Where there is no memory for that, the text stays.
     fn put<C: Count>(
         &mut self,
         edit: &LineEdit<'_>,

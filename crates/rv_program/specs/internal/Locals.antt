@@ -1,6 +1,6 @@
 -- How the row of local labels is asked for one. (docs/LANGUAGE.md, Local labels)
-use Rattle.std.specs.Prelude.{◌≡◌, ℕ, nat_le, Bool, true, false, List, [], ◌∷◌, get_or, Option, Some, None, if◌then◌else◌}
-use Rattle.std.specs.List.{list_any}
+use Rattle.std.specs.Prelude.{◌≡◌, ℕ, nat_le, nat_lt, Bool, true, false, List, [], ◌∷◌, ◌++◌, get_or, Option, Some, None, if◌then◌else◌}
+use Rattle.std.specs.List.{filter, list_any}
 use Rattle.std.specs.List.Sorted.{IsNonDecreasing, IsPartitionPoint}
 use Rattle.std.specs.Option.{option_or}
 use Rattle.rv_expr.specs.declared.tree.Direction.{Direction}
@@ -34,6 +34,14 @@ local_line_in rows line number direction = line_among (get_or rows number []) li
 -- the lines of each number rise
 abbrev pub AreRising : List (List ℕ) → Type 0
 AreRising rows = (number : ℕ) → IsNonDecreasing (get_or rows number [])
+
+-- those of some lines that are before this one
+abbrev pub lines_below : (line : ℕ) → List ℕ → List ℕ
+lines_below line lines = filter (λ l. nat_lt l line) lines
+
+-- the lines of a label with one as the last of them, or without it
+abbrev pub with_last : (line : ℕ) → (labelled : Bool) → List ℕ → List ℕ
+with_last line labelled lines = if labelled then lines_below line lines ++ line ∷ [] else lines
 
 -- Local labels of a line
 

@@ -1,10 +1,11 @@
 -- The lines of a local label after an edit, by those before it.
 use Rattle.std.specs.Prelude.{ℕ, ◌+◌, ◌-◌, ◌^◌, min, max, nat_le, nat_lt, Bool, List, [], ◌∷◌, ◌++◌, Option, Some, None, if◌then◌else◌}
-use Rattle.std.specs.List.{filter, flat_map}
+use Rattle.std.specs.List.{flat_map}
 use Rattle.rv_stmt.specs.LabelNames.{Label, LabelName}
 use Rattle.rv_stmt.specs.LabelNames as label
 use Rattle.rv_stmt.specs.Statement.{statement_of}
 use Rattle.rv_program.specs.Edits.{place_of_edit}
+use Rattle.rv_program.specs.internal.Locals.{lines_below}
 use Rattle.rv_program.specs.Text.{Edit, Insert, Delete, Replace}
 
 -- the labels of the line that an edit puts in
@@ -12,10 +13,6 @@ abbrev pub labels_put_in : Edit → List Label
 labels_put_in (Insert place line) = (statement_of line).labels
 labels_put_in (Delete place) = []
 labels_put_in (Replace place line) = (statement_of line).labels
-
--- the lines before the place of an edit, which stay
-abbrev pub lines_below : (place : ℕ) → List ℕ → List ℕ
-lines_below place lines = filter (λ l. nat_lt l place) lines
 
 -- where a line behind the lines that an edit puts in or takes out stands after it
 abbrev pub line_moved : Edit → (l : ℕ) → Option ℕ
@@ -30,7 +27,7 @@ one_line (Some l) = l ∷ []
 abbrev pub lines_moved : Edit → List ℕ → List ℕ
 lines_moved edit lines = flat_map (λ l. one_line (line_moved edit l)) lines
 
--- the lines of a label, which the line that the edit puts in has or not
+-- the lines of a label, which the line that the edit puts in has or not: those before the place of the edit stay
 abbrev pub row_after : Edit → (labelled : Bool) → List ℕ → List ℕ
 row_after edit labelled lines =
     lines_below (place_of_edit edit) lines

@@ -1,10 +1,11 @@
 -- The row of local labels: how it grows by a line, and that it tells the line of a local label.
-use Rattle.std.proofs.Common.{◌≡◌, ℕ, zero, suc, ◌+◌, ◌-◌, nat_le, ◌<◌, ◌≤◌, Bool, true, false, List, [], ◌∷◌, ◌++◌, length, length-append, take, drop, get_or, slice_get, Option, Some, None, if◌then◌else◌, ◌⊎◌, inl, inr, arith, ap, sym, ◌∙◌, refl, subst}
+use Rattle.std.proofs.Common.{◌≡◌, ℕ, zero, suc, ◌+◌, ◌-◌, nat_le, nat_lt, ◌||◌, is_some, ◌<◌, ◌≤◌, Bool, true, false, List, [], ◌∷◌, ◌++◌, length, length-append, take, drop, get_or, slice_get, Option, Some, None, if◌then◌else◌, ◌⊎◌, inl, inr, arith, ap, sym, ◌∙◌, refl, subst}
 use Rattle.std.specs.List.{AllWithin}
-use Rattle.std.specs.List.Sorted.{IsNonDecreasing}
-use Rattle.std.specs.Option.{option_or}
-use Rattle.std.proofs.lemmas.Bool.{le-leb, lt-leb, cases_lt, true≢false, or_parts, or_from}
+use Rattle.std.specs.List.Sorted.{IsNonDecreasing, IsPartitionPoint}
+use Rattle.std.specs.Option.{option_or, unwrap_or}
+use Rattle.std.proofs.lemmas.Bool.{le-leb, lt-leb, le-ltb, lt-ltb, ltb-true, cases_lt, true≢false, or_parts, or_from}
 use Rattle.std.proofs.lemmas.List.{append-nil, get_or-map, get_or-take, get_or-drop, length-take, length-drop}
+use Rattle.std.proofs.lemmas.List.Elements.{filter-append}
 use Rattle.std.proofs.lemmas.List.Sorted.{IsNonDecreasingBy-push}
 use Rattle.std.proofs.lemmas.Option.{slice_get-get_or, get_or_from_slice_get}
 use Rattle.rv_expr.specs.declared.tree.Direction.{Direction}
@@ -12,7 +13,7 @@ use Rattle.rv_expr.specs.declared.tree.Direction.TheVariants.{Back, Forward}
 use Rattle.rv_stmt.specs.LabelNames.{Label, LabelName}
 use Rattle.rv_stmt.specs.LabelNames as label
 use Rattle.rv_stmt.specs.Statement.{statement_of}
-use Rattle.rv_program.specs.internal.Locals.{AreParted, last_up_to, first_above, local_line_in, AreRising, is_local_label, has_local_labels}
+use Rattle.rv_program.specs.internal.Locals.{AreParted, last_up_to, first_above, local_line_in, with_last, AreRising, is_local_label, has_local_labels, lines_below}
 use Rattle.rv_program.specs.Program.{Program, program_of, lines_that, last_line, first_line, no_statement, statement_at}
 use Rattle.rv_program.specs.References.{has_local, among_local, is_local, local_line}
 use Rattle.rv_program.specs.internal.Rows.{AreLocals}
@@ -24,7 +25,84 @@ statement-of-line lines i line l is =
     let same : i + 1 - 1 ≡ i = omega arith in
     ap (λ k. get_or (program_of lines) k no_statement) same ∙ get_or-map statement_of lines i line no_statement l ∙ ap statement_of (sym is)
 
+-- a line behind this one is found
+above-at : (xs : List ℕ) (line k : ℕ) → k < length xs → line < get_or xs k 0 → is_some (first_above line xs) ≡ true
+above-at [] line k within up = absurd (let no : k < 0 = within in omega (arith, no))
+above-at (x ∷ xs) line zero within up = rw (lt-leb x line up) refl
+above-at (x ∷ xs) line (suc k) within up = at (nat_le x line) (above-at xs line k (omega (arith, within)) up)
+  where
+    at : (b : Bool) → is_some (first_above line xs) ≡ true → is_some (if b then first_above line xs else Some x) ≡ true
+    at true found = found
+    at false found = refl
+
+-- so is one behind all lines before the last one
+pub above-last : (xs : List ℕ) (line : ℕ) → line < unwrap_or (slice_get xs (length xs - 1)) 0 → is_some (first_above line xs) ≡ true
+above-last [] line up = absurd (let no : line < 0 = up in omega (arith, no))
+above-last (x ∷ xs) line up =
+    let is = slice_get-get_or (x ∷ xs) (length (x ∷ xs) - 1) 0 (omega arith) in
+    above-at (x ∷ xs) line (length (x ∷ xs) - 1) (omega arith) (subst (λ o. line < unwrap_or o 0) is up)
+
 -- Where a binary search parts the lines
+
+-- those before a line are the first ones
+pub below-parted : (line : ℕ) (xs : List ℕ) (i : ℕ) → IsPartitionPoint (λ l. nat_lt l line ≡ true) (λ l. nat_lt l line ≡ false) xs i → take i xs ≡ lines_below line xs
+below-parted line [] zero p = refl
+below-parted line [] (suc i) p = refl
+below-parted line (x ∷ xs) zero p =
+    rw (p.1 zero 0 (omega arith) (omega arith))
+    (below-parted line xs zero ((λ k d l m. absurd (omega (arith, m))), λ k d l m. p.1 (suc k) d (omega arith) (omega (arith, m))))
+below-parted line (x ∷ xs) (suc i) p =
+    rw (p.0 zero 0 (omega arith) (omega arith))
+    (ap (λ ls. x ∷ ls) (below-parted line xs i ((λ k d l m. p.0 (suc k) d (omega arith) (omega (arith, m))), λ k d l m. p.1 (suc k) d (omega (arith, l)) (omega (arith, m)))))
+
+-- and stay where it is put behind them
+pub below-below : (line : ℕ) (xs : List ℕ) → lines_below line (lines_below line xs) ≡ lines_below line xs
+below-below line [] = refl
+below-below line (x ∷ xs) = at (nat_lt x line) refl (below-below line xs)
+  where
+    at : (b : Bool) → nat_lt x line ≡ b → lines_below line (lines_below line xs) ≡ lines_below line xs → lines_below line (if b then x ∷ lines_below line xs else lines_below line xs) ≡ (if b then x ∷ lines_below line xs else lines_below line xs)
+    at true is rest = rw is (ap (λ ls. x ∷ ls) rest)
+    at false is rest = rest
+
+pub below-pushed : (line : ℕ) (xs : List ℕ) → lines_below line (xs ++ line ∷ []) ≡ lines_below line xs
+below-pushed line [] = rw (le-ltb line line (omega arith)) refl
+below-pushed line (x ∷ xs) = ap (λ ls. if nat_lt x line then x ∷ ls else ls) (below-pushed line xs)
+
+pub below-last : (line : ℕ) (labelled : Bool) (xs : List ℕ) → lines_below line (with_last line labelled xs) ≡ lines_below line xs
+below-last line true xs = below-pushed line (lines_below line xs) ∙ below-below line xs
+below-last line false xs = refl
+
+below-each : (line : ℕ) (xs : List ℕ) (k d : ℕ) → k < length (lines_below line xs) → get_or (lines_below line xs) k d < line
+below-each line [] k d within = absurd (let no : k < 0 = within in omega (arith, no))
+below-each line (x ∷ xs) k d within = at (nat_lt x line) refl k within (below-each line xs)
+  where
+    at : (b : Bool) → nat_lt x line ≡ b → (k : ℕ) → k < length (if b then x ∷ lines_below line xs else lines_below line xs) → ((k d : ℕ) → k < length (lines_below line xs) → get_or (lines_below line xs) k d < line) → get_or (if b then x ∷ lines_below line xs else lines_below line xs) k d < line
+    at true is zero within rest = ltb-true x line is
+    at true is (suc k) within rest = rest k d (omega (arith, within))
+    at false is k within rest = rest k d within
+
+-- the line behind them keeps their order
+pub rising-pushed : (line : ℕ) (xs : List ℕ) → IsNonDecreasing (lines_below line xs) → IsNonDecreasing (lines_below line xs ++ line ∷ [])
+rising-pushed line xs up =
+    IsNonDecreasingBy-push (λ x. x) (lines_below line xs) line up (λ d some. let last = below-each line xs (length (lines_below line xs) - 1) d (omega (arith, some)) in omega (arith, last))
+
+-- put behind them twice it stands there once
+pub last-again : (line : ℕ) (here again : Bool) (xs : List ℕ) → with_last line again (with_last line here xs) ≡ with_last line (here || again) xs
+last-again line true true xs = ap (λ ls. ls ++ line ∷ []) (below-last line true xs)
+last-again line true false xs = refl
+last-again line false again xs = refl
+
+below-kept : (b : Bool) (line l : ℕ) → l < line → lines_below line (if b then l ∷ [] else []) ≡ (if b then l ∷ [] else [])
+below-kept true line l before = ap (λ c. if c then l ∷ [] else []) (lt-ltb l line before)
+below-kept false line l before = refl
+
+-- all lines are before one behind them
+pub first-below : (test : ℕ → Bool) (line n : ℕ) → n < line → lines_below line (lines_that test n) ≡ lines_that test n
+first-below test line zero within = refl
+first-below test line (suc n) within =
+    filter-append (λ l. nat_lt l line) (lines_that test n) (if test (suc n) then suc n ∷ [] else [])
+    ∙ ap (λ ls. ls ++ lines_below line (if test (suc n) then suc n ∷ [] else [])) (first-below test line n (omega (arith, within)))
+    ∙ ap (λ ls. lines_that test n ++ ls) (below-kept (test (suc n)) line (suc n) within)
 
 tail-AreParted : (line x : ℕ) (xs : List ℕ) (i : ℕ) → AreParted line (x ∷ xs) (suc i) → AreParted line xs i
 tail-AreParted line x xs i p = (

@@ -1,15 +1,21 @@
--- The groups of the names that a line behind a text adds.
-use Rattle.std.specs.Prelude.{◌≡◌, ℕ, Bool, true, List}
+-- The groups of the lines that a line behind a text touches.
+use Rattle.std.specs.Prelude.{◌≡◌, ◌<◌, ℕ, Bool, true, List}
 use Rattle.rv_stmt.specs.Statement.{statement_of}
 use Rattle.rv_store.specs.declared.apart.LineBehind.{LineBehind}
 use Rattle.rv_store.specs.internal.Appended.{adds_by_rows}
 use Rattle.rv_program.specs.declared.groups.Groups.{Groups}
-use Rattle.rv_program.specs.internal.Groups.{has_group}
+use Rattle.rv_program.specs.declared.groups.Kind.TheVariants.{Uncompared}
+use Rattle.rv_store.specs.internal.Still.{Touched}
+use Rattle.rv_program.specs.internal.Groups.{has_group, has_kind}
 use Rattle.rv_program.specs.internal.NameSets.{bucket_of}
 
 -- it adds the name
 abbrev pub added_by : LineBehind → (name : List ℕ) → Bool
 added_by behind name = adds_by_rows behind.names.now behind.definitions.now behind.number (statement_of behind.line.now) name
+
+-- what it touches
+abbrev pub touched_by : LineBehind → Touched
+touched_by behind = record { names = added_by behind; from = behind.from }
 
 -- a name is in one of some groups
 abbrev pub HasGroupOf : (name : List ℕ) → Groups → Type 0
@@ -19,3 +25,8 @@ HasGroupOf name groups = has_group groups (bucket_of name) ≡ true
 pub record AreMarked (passes : List ℕ → Bool) (IsOneOf : List ℕ → Type 0) (old new : Groups) : Type 0 where
   pub kept : (name : List ℕ) → HasGroupOf name old → HasGroupOf name new
   pub marked : (name : List ℕ) → IsOneOf name → passes name ≡ true → HasGroupOf name new
+
+-- the groups of the names that it adds, and that of the lines that use local labels, where it touches any of these
+pub record HasWanted (behind : LineBehind) (wanted : Groups) : Type 0 where
+  pub names : (name : List ℕ) → added_by behind name ≡ true → HasGroupOf name wanted
+  pub locals : behind.from < behind.number → has_kind wanted Uncompared ≡ true

@@ -1,8 +1,10 @@
--- A line at the end of a text. Other lines have to do with it by the names that it defines alone, where no section moves by it.
-use Rattle.std.specs.Prelude.{◌≡◌, ℕ, suc, ◌<◌, ◌≤◌, Bool, true, false, not, ◌&&◌, nat_lt, List, [], ◌∷◌, ◌++◌, length, None, Err}
+-- A line at the end of a text. Other lines have to do with it by the names that it defines and its local labels alone, where no section
+-- moves by it.
+use Rattle.std.specs.Prelude.{◌≡◌, ℕ, suc, ◌<◌, ◌≤◌, Bool, true, false, not, ◌&&◌, nat_lt, List, [], ◌∷◌, ◌++◌, length, get_or, None, Err}
+use Rattle.std.specs.Option.{is_some}
+use Rattle.rv_expr.specs.declared.tree.Direction.TheVariants.{Forward}
 use Rattle.rv_expr.specs.declared.faults.ValueFault.TheVariants.{LaterEqu}
 use Rattle.rv_stmt.specs.declared.statement.Stmt.{Stmt}
-use Rattle.rv_stmt.specs.Statement.{statement_of}
 use Rattle.rv_layout.specs.declared.measured.Measured.{Measured}
 use Rattle.rv_layout.specs.Places.{section_base_of}
 use Rattle.rv_layout.specs.Sections.{sections}
@@ -17,9 +19,9 @@ use Rattle.rv_program.specs.Definitions.{place_in_body, place_in_statement, defi
 use Rattle.rv_program.specs.Layout.{shapes_of}
 use Rattle.rv_program.specs.Pairs.{pcrel_high_of}
 use Rattle.rv_program.specs.Program.{Program, program_of, body_at}
-use Rattle.rv_program.specs.References.{among_local, equ_value}
+use Rattle.rv_program.specs.References.{among_local, local_line, equ_value}
 use Rattle.rv_program.specs.internal.Rows.{in_row, AreDefinitions, AreConstants, AreEquValues, ArePlaces, AreLocals}
-use Rattle.rv_store.specs.internal.Still.{is_settled, uses_any}
+use Rattle.rv_store.specs.internal.Still.{Touched, is_settled, uses_any}
 
 -- a statement at the end of a text defines a name that the text does not
 abbrev pub adds : Program → Stmt → (name : List ℕ) → Bool
@@ -40,12 +42,21 @@ TellEarlier lines names row =
 abbrev pub adds_by_rows : (names : List (List ℕ)) → List DefinitionPlace → (line : ℕ) → Stmt → (name : List ℕ) → Bool
 adds_by_rows names row line s name = not (is_earlier line (in_row names row Nowhere name)) && is_defined (place_in_statement line s name)
 
--- a statement with which the lines of a text have to do by the names that it adds alone: none of them that uses such a name is settled,
--- and the statement has no local label, and is no high half
-pub record IsApart (program : Program) (s : Stmt) : Type 0 where
-  pub local : (number : ℕ) → among_local number s.labels ≡ false
+-- what it touches: the names that it adds, and local labels from a line on
+abbrev pub touches : Program → Stmt → (from : ℕ) → Touched
+touches program s from = record { names = adds program s; from = from }
+
+-- each line before this one finds each of its local labels in the text
+abbrev pub FindsLocals : Program → Stmt → (from : ℕ) → Type 0
+FindsLocals program s from =
+    (number i : ℕ) → among_local number s.labels ≡ true → i ≤ length program → i < from → is_some (local_line program i number Forward) ≡ true
+
+-- a statement with which the lines of a text have to do by the names that it adds and its local labels alone: none of them that uses one
+-- is settled, and the statement is no high half
+pub record IsApart (program : Program) (s : Stmt) (from : ℕ) : Type 0 where
+  pub near : FindsLocals program s from
   pub high : pcrel_high_of s.body ≡ None
-  pub unused : (i : ℕ) → 1 ≤ i → i ≤ length program → is_settled (body_at program i) ≡ true → uses_any (adds program s) program i ≡ false
+  pub unused : (i : ℕ) → 1 ≤ i → i ≤ length program → is_settled (body_at program i) ≡ true → uses_any (touches program s from) program i ≡ false
 
 -- the shape of a statement at the end of a text
 abbrev pub shape_at_end : Program → Stmt → Measured
@@ -70,7 +81,7 @@ pub record AreSameLines (old new : Survey) : Type 0 where
   pub shapes : new.shapes.items ≡ old.shapes.items
   pub ends : new.ends ≡ old.ends
   pub places : new.places.items ≡ old.places.items
-  pub locals : new.locals ≡ old.locals
+  pub locals : (number : ℕ) → get_or new.locals number [] ≡ get_or old.locals number []
   pub highs : new.highs.items ≡ old.highs.items
   pub paired_highs : new.paired_highs.items ≡ old.paired_highs.items
 
@@ -88,15 +99,15 @@ pub record HavePlaces (names : List (List ℕ)) (s : Survey) : Type 0 where
 
 -- A line at the end of a text that has nothing to do with it
 
-pub record IsLast (base : ℕ) (lines : List (List ℕ)) (line : List ℕ) : Type 0 where
-  pub apart : IsApart (program_of lines) (statement_of line)
-  pub earlier : equ_value base (program_of (lines ++ line ∷ [])) (length lines) ≡ equ_value base (program_of lines) (length lines)
+-- the `.equ`s before it have the values that they have without it
+abbrev pub StayEqus : (base : ℕ) (lines : List (List ℕ)) (line : List ℕ) → Type 0
+StayEqus base lines line = equ_value base (program_of (lines ++ line ∷ [])) (length lines) ≡ equ_value base (program_of lines) (length lines)
 
 -- the rows by lines are those of the text with the line, and the rows by names still those of the text without it
 pub record IsUnsettled (base : ℕ) (lines names : List (List ℕ)) (line : List ℕ) (s : Survey) : Type 0 where
   pub more : s.lines.items ≡ lines ++ line ∷ []
   pub few : length s.lines.items ≤ MAX_LINES
-  pub last : IsLast base lines line
+  pub earlier : StayEqus base lines line
   pub symbols : AreSymbols base (program_of lines) (length lines) names s
   pub places : ArePlaces base (program_of s.lines.items) s.places.items
   pub locals : AreLocals (program_of s.lines.items) (length (program_of s.lines.items)) s.locals

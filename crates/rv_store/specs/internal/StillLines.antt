@@ -1,28 +1,31 @@
 -- A line with which no other line has to do, and the rows of a text that get it in place.
-use Rattle.std.specs.Prelude.{◌≡◌, ℕ, suc, ◌+◌, ◌-◌, ◌<◌, ◌⊎◌, Bool, true, false, List, [], ◌∷◌, ◌++◌, length, get_or, Option, Some, None}
+use Rattle.std.specs.Prelude.{◌≡◌, ℕ, suc, ◌+◌, ◌-◌, ◌<◌, ◌≤◌, ◌⊎◌, nat_lt, ◌&&◌, Bool, true, false, List, [], ◌∷◌, ◌++◌, length, get_or, Option, Some, None}
+use Rattle.rv_stmt.specs.Statement.{statement_of}
 use Rattle.rv_layout.specs.Places.{IsLimited}
 use Rattle.rv_store.specs.declared.last_line.LastLine.{LastLine}
 use Rattle.rv_store.specs.declared.still.FormerLine.{FormerLine}
 use Rattle.rv_store.specs.declared.still.Still.{Still}
 use Rattle.rv_store.specs.declared.survey.Survey.{Survey}
-use Rattle.rv_store.specs.internal.Appended.{IsLast, IsUnsettled, AreSymbols}
+use Rattle.rv_store.specs.internal.Appended.{StayEqus, IsUnsettled, AreSymbols}
 use Rattle.rv_store.specs.internal.Ends.{ends_of}
-use Rattle.rv_store.specs.internal.Still.{is_put_or_uses, IsStill}
+use Rattle.rv_store.specs.internal.Still.{Touched, is_put_or_uses, IsStill}
 use Rattle.rv_program.specs.Layout.{shape_at, shapes_of, place_at}
 use Rattle.rv_program.specs.Program.{program_of, lines_that}
+use Rattle.rv_program.specs.References.{among_local}
+use Rattle.rv_program.specs.internal.Locals.{with_last, lines_below}
 use Rattle.rv_program.specs.internal.Still.{set_or_push}
 
--- What line k of a text is, if other lines have to do with it by its names alone, and which lines of the text before it are due: line k,
--- and those that use one of the names. It defines a name that the text does not, and is behind it, or it touches no name.
+-- What line k of a text is, if other lines have to do with it by its names and its local labels alone, and which lines of the text before it
+-- are due: line k, and those that use one of these. It defines a name that the text does not, and is behind it, or it touches no name.
 pub record IsStillLine (base : ℕ) (lines : List (List ℕ)) (k : ℕ) (line : List ℕ) (given : Still) (due : List ℕ) : Type 0 where
-  pub touched : List ℕ → Bool
+  pub touched : Touched
   pub still : IsStill base (program_of lines) (program_of (set_or_push lines (k - 1) line)) k touched
   pub shape : given.shape ≡ shape_at (program_of (set_or_push lines (k - 1) line)) k
   pub limited : IsLimited given.shape
   pub ends : given.ends ≡ ends_of (shapes_of (program_of (set_or_push lines (k - 1) line)))
   pub place : given.place ≡ place_at base (program_of (set_or_push lines (k - 1) line)) k
-  pub nothing : given.defines ≡ false → (name : List ℕ) → touched name ≡ false
-  pub last : given.defines ≡ true → (k ≡ suc (length lines)) × IsLast base lines line
+  pub nothing : given.defines ≡ false → (name : List ℕ) → touched.names name ≡ false
+  pub last : given.defines ≡ true → (k ≡ suc (length lines)) × StayEqus base lines line
   pub those : due ≡ lines_that (is_put_or_uses touched (program_of lines) k) (length lines)
 
 -- the last line of a text, if no other line has to do with it
@@ -34,8 +37,13 @@ pub record IsLastLine (base : ℕ) (text : List (List ℕ)) (given : LastLine) :
   pub still : IsStillLine base lines (length lines + 1) line there []
   pub before : given.before ≡ ends_of (shapes_of (program_of lines))
   pub defines : given.defines ≡ there.defines
+  pub local : (number : ℕ) → among_local number (statement_of line).labels ≡ false
 
 -- Rows by lines
+
+-- a place is behind the lines, and a line there has the local label
+abbrev pub is_behind_with : Survey → (place : ℕ) (line : List ℕ) (number : ℕ) → Bool
+is_behind_with s place line number = nat_lt (length s.lines.items) (suc place) && among_local number (statement_of line).labels
 
 -- they have a line in place
 pub record AreLinesPut (place : ℕ) (line : List ℕ) (given : Still) (old new : Survey) : Type 0 where
@@ -43,7 +51,7 @@ pub record AreLinesPut (place : ℕ) (line : List ℕ) (given : Still) (old new 
   pub shapes : new.shapes.items ≡ set_or_push old.shapes.items place given.shape
   pub ends : new.ends ≡ given.ends
   pub places : new.places.items ≡ set_or_push old.places.items place given.place
-  pub locals : new.locals ≡ old.locals
+  pub locals : (number : ℕ) → get_or new.locals number [] ≡ with_last (suc place) (is_behind_with old place line number) (get_or old.locals number [])
   pub highs : new.highs.items ≡ old.highs.items
   pub paired_highs : new.paired_highs.items ≡ old.paired_highs.items
 
@@ -51,12 +59,25 @@ pub record AreLinesPut (place : ℕ) (line : List ℕ) (given : Still) (old new 
 abbrev pub MayBePut : {A : Type 0} → (place : ℕ) → (old new : List A) → Type 0
 MayBePut {A} place old new = (new ≡ old) ⊎ ((a : A) × (new ≡ set_or_push old place a))
 
+-- the other rows by lines changed in nothing
+pub record StayButLocals (old new : Survey) : Type 0 where
+  pub lines : new.lines.items ≡ old.lines.items
+  pub shapes : new.shapes.items ≡ old.shapes.items
+  pub places : new.places.items ≡ old.places.items
+  pub highs : new.highs.items ≡ old.highs.items
+  pub paired_highs : new.paired_highs.items ≡ old.paired_highs.items
+
+-- the rows of local labels may have a line behind the lines
+pub record MayHaveLast (place : ℕ) (old new : Survey) : Type 0 where
+  pub within : place < length old.lines.items → (number : ℕ) → get_or new.locals number [] ≡ get_or old.locals number []
+  pub behind : length old.lines.items ≤ place → (number : ℕ) → lines_below (suc place) (get_or new.locals number []) ≡ get_or old.locals number []
+
 -- some of the rows have a line in place
 pub record ArePartlyPut (place : ℕ) (old new : Survey) : Type 0 where
   pub lines : MayBePut place old.lines.items new.lines.items
   pub shapes : MayBePut place old.shapes.items new.shapes.items
   pub places : MayBePut place old.places.items new.places.items
-  pub locals : new.locals ≡ old.locals
+  pub locals : MayHaveLast place old new
   pub highs : new.highs.items ≡ old.highs.items
   pub paired_highs : new.paired_highs.items ≡ old.paired_highs.items
 

@@ -1,5 +1,5 @@
 use Rattle.std.proofs.Common.{◌≡◌, ◌++◌, length}
-use Rattle.rv_program.specs.internal.MovedLocals.{lines_below}
+use Rattle.rv_program.specs.internal.Locals.{lines_below}
 use Rattle.rv_program.proofs.locals_after.push_below.Given as goal
 
 -- those so far, and those of the lines that are left

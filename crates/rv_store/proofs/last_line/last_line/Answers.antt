@@ -1,6 +1,8 @@
 use Rattle.std.proofs.Common.{◌≡◌, ◌≤◌, ◌==◌, ℕ, Bool, true, true≢false, List, [], ◌∷◌, ◌++◌, length, map, take, arith, ap, sym, subst, ◌∙◌, refl}
 use Rattle.std.proofs.Math.Seq.{take-append_seam}
 use Rattle.std.proofs.lemmas.List.{take-map}
+use Rattle.rv_stmt.specs.Statement.{statement_of}
+use Rattle.rv_program.specs.lemmas.LocalLines.{none-among}
 use Rattle.rv_program.specs.Program.{program_of}
 use Rattle.rv_store.specs.declared.survey.Survey.{Survey}
 use Rattle.rv_store.specs.internal.Appended.{TellEarlier}
@@ -71,6 +73,9 @@ adds_apart-requires-clause-groups c =
     ∙ take-map groups_on (length lines) (lines ++ line ∷ [])
     ∙ ap (map groups_on) (take-append_seam lines (line ∷ []))
 
+pub adds_apart-requires-clause-locals : goal.adds_apart-requires-clause-locals
+adds_apart-requires-clause-locals c number i has = absurd (true≢false (sym has ∙ none-among number (statement_of c.in_ok-line.line.now).labels (sym (ap (λ b. b.local_labels) c.brief.ensures) ∙ c.if-brief.false)))
+
 pub returns : goal.returns
 returns c =
     let s = c.args.survey.now in
@@ -83,5 +88,5 @@ returns c =
     is-last_line base lines line (limited-with base lines line c.args.names.now s few are) (few-without base lines line c.args.names.now s few are) _ s.ends s.lines.items whole
     (ends-with base lines line c.args.names.now s few are)
     (ends-first base lines line c.args.names.now s few are c.index.result.now c.index.ensures c.before-before.result c.before-before.ensures)
-    (c.stay_sections.ensures c.if-not-stay_sections.false) c.in_ok-added.ensures.apart c.in_ok-added.ensures.nothing
+    (c.stay_sections.ensures c.if-not-stay_sections.false) c.len-end.result c.in_ok-added.ensures.apart (λ number. none-among number (statement_of line).labels (sym (ap (λ b. b.local_labels) c.brief.ensures) ∙ c.if-brief.false)) c.in_ok-added.ensures.nothing
     (empty c.in_ok-added.added.users.items c.is_empty.result (let count : c.in_ok-added.added.users.len ≡ length c.in_ok-added.added.users.items = omega (arith, c.in_ok-added.added.users.ok.0) in c.is_empty.ensures ∙ ap (λ n. n == 0) count) c.if-not-is_empty.false ∙ c.in_ok-added.ensures.users)

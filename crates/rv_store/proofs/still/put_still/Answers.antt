@@ -27,7 +27,7 @@ put_line-requires-clause-places g c = count-places c.args.base c.args.survey.now
 -- Without memory
 
 pub returns-in_err-new-clause-err : goal.returns-in_err-new-clause-err
-returns-in_err-new-clause-err g c = in_any_error c.from_residual.result (partly-none ((place_of_edit (edit_of c.args.edit.now)) - 1) c.args.survey.now)
+returns-in_err-new-clause-err g c = in_any_error c.from_residual.result (partly-none ((place_of_edit (edit_of c.args.edit.now)) - 1) c.args.survey.now c.requires.survey.locals)
 
 pub returns-in_err-new-clause-symbols : goal.returns-in_err-new-clause-symbols
 returns-in_err-new-clause-symbols g c = in_any_error c.from_residual.result (symbols-of c.args.base c.args.survey.now.lines.items c.args.names.now c.args.survey.now c.requires.survey)
@@ -50,7 +50,7 @@ pub returns-in_err-define_last-clause-err : goal.returns-in_err-define_last-clau
 returns-in_err-define_last-clause-err g c =
     let place = (place_of_edit (edit_of c.args.edit.now)) - 1 in
     in_any_error c.from_residual-in_err-define_last.result
-    (partly-still place c.args.survey.now c.put_line.new.self c.define_last.new.self (partly place c.args.line c.args.still.now c.args.survey.now c.put_line.new.self (rw c.place.ensures.value at c.in_ok-put_line.ensures.ok)) c.define_last.ensures.lines)
+    (partly-still place c.args.survey.now c.put_line.new.self c.define_last.new.self (partly place c.args.line c.args.still.now c.args.survey.now c.put_line.new.self c.requires.survey.locals (rw c.place.ensures.value at c.in_ok-put_line.ensures.ok)) c.define_last.ensures.lines)
 
 pub returns-in_err-define_last-clause-symbols : goal.returns-in_err-define_last-clause-symbols
 returns-in_err-define_last-clause-symbols g c =
@@ -100,7 +100,7 @@ returns-clause-err g c =
     let place = (place_of_edit (edit_of c.args.edit.now)) - 1 in
     let old = c.args.survey.now in
     partly-still place old c.define_last.new.self c.forget_last.new.self
-    (partly-still place old c.put_line.new.self c.define_last.new.self (partly place c.args.line c.args.still.now old c.put_line.new.self (rw c.place.ensures.value at c.in_ok-put_line.ensures.ok)) c.define_last.ensures.lines) c.forget_last.ensures.lines
+    (partly-still place old c.put_line.new.self c.define_last.new.self (partly place c.args.line c.args.still.now old c.put_line.new.self c.requires.survey.locals (rw c.place.ensures.value at c.in_ok-put_line.ensures.ok)) c.define_last.ensures.lines) c.forget_last.ensures.lines
 
 pub forget_last-requires-clause-some : goal.forget_last-requires-clause-some
 forget_last-requires-clause-some g c =

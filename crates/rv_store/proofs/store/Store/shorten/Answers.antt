@@ -35,6 +35,7 @@ module _ (base : ℕ) (names : List (List ℕ)) (survey : Survey) (items : List 
     still = still;
     before = is.before;
     defines = is.defines;
+    local = is.local;
   }
 
   surveyed : IsSurvey base (program_of survey.lines.items) names survey

@@ -20,7 +20,7 @@ returns-clause-survey c base is named are =
     (c.truncate-2.ensures.items ∙ (λ i. take (place i) (c.forget_last.ensures.lines.shapes i)))
     is.before
     (c.truncate-3.ensures.items ∙ (λ i. take (place i) (c.forget_last.ensures.lines.places i)))
-    c.forget_last.ensures.lines.locals
+    c.forget_last.ensures.lines.locals is.local
     (c.truncate-4.ensures.items ∙ (λ i. take (place i) (c.forget_last.ensures.lines.highs i)))
     (c.truncate-5.ensures.items ∙ (λ i. take (place i) (c.forget_last.ensures.lines.paired_highs i)))
   where

@@ -19,7 +19,7 @@ behind lines line all number more is = omega (arith, is, ap length more, count-l
 -- what the rows hold when all definitions are written
 written : (base : ℕ) (lines names names' : List (List ℕ)) (line : List ℕ) (number : ℕ) (old new : Survey) → IsUnsettled base lines names line old → number ≡ suc (length lines) → Grows names names' → Holds names' new.definitions.items (also_on number (in_row names old.definitions.items Nowhere) (place_in_statement number (statement_of line))) → new.constants ≡ old.constants → new.equ_values ≡ old.equ_values → AreSymbols base (program_of (lines ++ line ∷ [])) (length lines) names' new
 written base lines names names' line number old new was here grows holds constants equ_values =
-    symbols-written base lines line was.last names names' old new grows was.symbols constants equ_values
+    symbols-written base lines line was.earlier names names' old new grows was.symbols constants equ_values
     (subst (λ k. Holds names' new.definitions.items (also_on k (in_row names old.definitions.items Nowhere) (place_in_statement k (statement_of line)))) here holds)
 
 pub returns-in_err-define_line-clause-part : goal.returns-in_err-define_line-clause-part
@@ -27,7 +27,7 @@ returns-in_err-define_line-clause-part g c lines was =
     let line = c.args.line.now in
     let old = c.args.self.now in
     let here = behind lines line old.lines.items c.len-number.result was.more (omega (arith, c.len-number.ensures)) in
-    in_part-written c.args.base lines line was.last c.args.names.now c.define_line.new.names old _ c.define_line.ensures.names was.symbols refl refl
+    in_part-written c.args.base lines line was.earlier c.args.names.now c.define_line.new.names old _ c.define_line.ensures.names was.symbols refl refl
     (subst (λ k. HoldsPart c.define_line.new.names c.define_line.new.row.items k (in_row c.args.names.now old.definitions.items Nowhere)) here c.define_line.ensures.part)
 
 pub returns-in_err-lengthen_rows-clause-part : goal.returns-in_err-lengthen_rows-clause-part
@@ -35,7 +35,7 @@ returns-in_err-lengthen_rows-clause-part g c lines was =
     let line = c.args.line.now in
     let old = c.args.self.now in
     let here = behind lines line old.lines.items c.len-number.result was.more (omega (arith, c.len-number.ensures)) in
-    in_part-waiting c.args.base lines line was.last c.define_line.new.names c.lengthen_rows.new.self
+    in_part-waiting c.args.base lines line was.earlier c.define_line.new.names c.lengthen_rows.new.self
     (c.lengthen_rows.ensures.symbols c.args.base (program_of (lines ++ line ∷ [])) (length lines)
     (written c.args.base lines c.args.names.now c.define_line.new.names line c.len-number.result old _ was here c.define_line.ensures.names c.in_ok-define_line.ensures.row refl refl))
 
@@ -57,7 +57,7 @@ pub returns-in_ok-lengthen_rows-clause-part : goal.returns-in_ok-lengthen_rows-c
 returns-in_ok-lengthen_rows-clause-part g c lines was =
     let line = c.args.line.now in
     let all : c.settle_last.new.self.lines.items ≡ lines ++ line ∷ [] = c.settle_last.ensures.lines.lines ∙ c.lengthen_rows.ensures.lines.lines ∙ was.more in
-    in_part-all c.args.base lines line was.last c.define_line.new.names c.settle_last.new.self
+    in_part-all c.args.base lines line was.earlier c.define_line.new.names c.settle_last.new.self
     (all-of c.args.base lines c.define_line.new.names line c.settle_last.new.self.lines.items c.settle_last.new.self all c.settle_last.ensures.symbols)
 
 pub returns-else-brief-clause-symbols : goal.returns-else-brief-clause-symbols
@@ -69,7 +69,7 @@ returns-else-brief-clause-symbols g c =
     let here = behind lines line old.lines.items c.len-number.result was.more (omega (arith, c.len-number.ensures)) in
     let equ : is_equ (statement_of line).body ≡ false = sym (ap (λ b. b.equ) c.brief.ensures) ∙ c.if-brief.false in
     of-all c.args.base lines c.define_line.new.names line old.lines.items _ was.more
-    (symbols-no_equ c.args.base lines line was.last c.define_line.new.names _ equ
+    (symbols-no_equ c.args.base lines line was.earlier c.define_line.new.names _ equ
     (written c.args.base lines c.args.names.now c.define_line.new.names line c.len-number.result old _ was here c.define_line.ensures.names c.in_ok-define_line.ensures.row refl refl))
 
 pub returns-else-brief-clause-part : goal.returns-else-brief-clause-part
@@ -77,5 +77,5 @@ returns-else-brief-clause-part g c lines was =
     let line = c.args.line.now in
     let old = c.args.self.now in
     let here = behind lines line old.lines.items c.len-number.result was.more (omega (arith, c.len-number.ensures)) in
-    in_part-waiting c.args.base lines line was.last c.define_line.new.names _
+    in_part-waiting c.args.base lines line was.earlier c.define_line.new.names _
     (written c.args.base lines c.args.names.now c.define_line.new.names line c.len-number.result old _ was here c.define_line.ensures.names c.in_ok-define_line.ensures.row refl refl)
