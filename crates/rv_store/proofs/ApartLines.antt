@@ -2,7 +2,7 @@
 use Rattle.std.proofs.Common.{◌≡◌, ℕ, suc, ◌+◌, ◌-◌, ◌%◌, ◌<◌, ◌≤◌, ◌==◌, ◌⊎◌, inl, inr, Bool, true, false, not, ◌&&◌, ◌||◌, List, [], ◌∷◌, ◌++◌, length, map, get_or, bytes_eq, nat_le, if◌then◌else◌, true≢false, arith, ap, sym, subst, ◌∙◌, refl}
 use Rattle.std.specs.List.{list_any}
 use Rattle.std.proofs.Math.Path.{fun_ext}
-use Rattle.std.proofs.lemmas.Bool.{cases_lt, lt-ltb, le-ltb, lt-leb, eqb-true, eq-eqb, and_parts, and_left, and_right, or_parts, or_from, or_cases}
+use Rattle.std.proofs.lemmas.Bool.{cases_lt, lt-ltb, le-ltb, lt-leb, eqb-true, eq-eqb, and_parts, and_left, or_parts, or_from, or_cases}
 use Rattle.std.proofs.lemmas.List.{get_or-map}
 use Rattle.std.proofs.lemmas.Slice.Eq.{bytes_eq-Decides}
 use Rattle.rv_stmt.specs.declared.statement.Stmt.{Stmt}
@@ -13,15 +13,15 @@ use Rattle.rv_stmt.specs.Statement.{statement_of}
 use Rattle.rv_list.specs.declared.view.DefinitionPlace.{DefinitionPlace}
 use Rattle.rv_list.specs.declared.view.DefinitionPlace.TheVariants.{Nowhere, Label as ByLabel, Equ}
 use Rattle.rv_store.specs.declared.apart.LineBehind.{LineBehind}
-use Rattle.rv_store.specs.internal.Apart.{added_by, touched_by, HasGroupOf, HasWanted}
+use Rattle.rv_store.specs.internal.Apart.{added_by, HasGroupOf}
 use Rattle.rv_program.specs.declared.groups.Groups.{Groups}
 use Rattle.rv_program.specs.declared.groups.Kind.TheVariants.{Uncompared}
 use Rattle.rv_program.specs.internal.Briefs.{groups_on}
 use Rattle.rv_store.specs.internal.Appended.{adds, is_earlier, TellEarlier, adds_by_rows}
 use Rattle.rv_program.specs.internal.Defining.{IsOn}
 use Rattle.rv_program.specs.Definitions.{defines_symbol, place_among_labels, place_in_body, or_place, place_in_statement, definition_of, is_defined}
-use Rattle.rv_program.specs.internal.Groups.{no_groups, has_group, kind_bit, SharesNone}
-use Rattle.rv_program.specs.internal.LinesWithout.{is_of_kind, AreOthers}
+use Rattle.rv_program.specs.internal.Groups.{no_groups, has_group, kind_bit, has_kind, SharesNone}
+use Rattle.rv_program.specs.internal.LinesWithout.{is_of_kind}
 use Rattle.rv_program.specs.internal.NameSets.{bucket_of, brief_of_names, may_have}
 use Rattle.rv_program.specs.Program.{Program, program_of, no_statement, statement_at, body_at}
 use Rattle.rv_program.specs.internal.Rows.{in_row, AreDefinitions}
@@ -60,36 +60,29 @@ untouched p touched i none before =
     or_from (list_any touched.names (names_used (body_at p i))) (nat_le touched.from i && uses_local_label (body_at p i)) (none-of touched.names (names_used (body_at p i)) none)
     (and_left (nat_le touched.from i) (uses_local_label (body_at p i)) (lt-leb touched.from i before))
 
--- those that are gone past
-pub others-untouched : (lines : List (List ℕ)) (behind : LineBehind) (wanted : Groups) (groups : List Groups) → behind.number ≡ length lines + 1 → groups ≡ map groups_on lines → HasWanted behind wanted → (i j : ℕ) → j ≤ length groups → AreOthers groups wanted i j → (line : ℕ) → i < line → line ≤ j → uses_any (touched_by behind) (program_of lines) line ≡ false
-others-untouched lines behind wanted groups number are has i j last others line past within =
-    or_from (list_any (added_by behind) (names_used (body_at (program_of lines) line))) (nat_le behind.from line && uses_local_label (body_at (program_of lines) line))
-    (ap (λ s. list_any (added_by behind) (names_used s.body)) statement ∙ unused-by_groups behind wanted text has.names apart)
-    (at (cases_lt line behind.from))
-  where
-    text : List ℕ
-    text = get_or lines (line - 1) []
+module _ (lines : List (List ℕ)) (behind : LineBehind) (groups : List Groups) (are : groups ≡ map groups_on lines) (line : ℕ) (first : 1 ≤ line) (last : line ≤ length groups) where
+  abbrev text : List ℕ
+  text = get_or lines (line - 1) []
 
-    short : line - 1 < length lines
-    short = omega (arith, past, within, last, count-groups lines groups are)
+  short : line - 1 < length lines
+  short = omega (arith, first, last, count-groups lines groups are)
 
-    statement : statement_at (program_of lines) line ≡ statement_of text
-    statement = get_or-map statement_of lines (line - 1) [] no_statement short
+  statement : statement_at (program_of lines) line ≡ statement_of text
+  statement = get_or-map statement_of lines (line - 1) [] no_statement short
 
-    apart : SharesNone wanted (groups_on text)
-    apart =
-        subst (SharesNone wanted) (ap (λ gs. get_or gs (line - 1) no_groups) are ∙ get_or-map groups_on lines (line - 1) [] no_groups short)
-        (others (line - 1) (omega (arith, past)) (omega (arith, past, within)))
+  apart-on : (wanted : Groups) → SharesNone wanted (get_or groups (line - 1) no_groups) → SharesNone wanted (groups_on text)
+  apart-on wanted apart = subst (SharesNone wanted) (ap (λ gs. get_or gs (line - 1) no_groups) are ∙ get_or-map groups_on lines (line - 1) [] no_groups short) apart
 
-    at : (line < behind.from) ⊎ (behind.from ≤ line) → (nat_le behind.from line && uses_local_label (body_at (program_of lines) line)) ≡ false
-    at (inl before) = and_left (nat_le behind.from line) (uses_local_label (body_at (program_of lines) line)) (lt-leb behind.from line before)
-    at (inr from) =
-        let b = (statement_of text).body in
-        let none : is_of_kind Uncompared b ≡ false =
-        sym (kind-on text Uncompared) ∙ apart (kind_bit Uncompared) (kind-below Uncompared) (has.locals (omega (arith, from, within, last, number, count-groups lines groups are))) in
-        let parts = or_parts (uses_local_label b || uses_paired_high b) (is_equ b) none in
-        let local = (or_parts (uses_local_label b) (uses_paired_high b) parts.0).0 in
-        and_right (nat_le behind.from line) (uses_local_label (body_at (program_of lines) line)) (ap (λ s. uses_local_label s.body) statement ∙ local)
+  -- a line in none of the groups of the names that it adds
+  pub unnamed-by_groups : (wanted : Groups) → ((name : List ℕ) → added_by behind name ≡ true → HasGroupOf name wanted) → SharesNone wanted (get_or groups (line - 1) no_groups) → list_any (added_by behind) (names_used (body_at (program_of lines) line)) ≡ false
+  unnamed-by_groups wanted has apart = ap (λ s. list_any (added_by behind) (names_used s.body)) statement ∙ unused-by_groups behind wanted text has (apart-on wanted apart)
+
+  -- nor one that uses local labels
+  pub no_local-by_groups : (wanted : Groups) → has_kind wanted Uncompared ≡ true → SharesNone wanted (get_or groups (line - 1) no_groups) → uses_local_label (body_at (program_of lines) line) ≡ false
+  no_local-by_groups wanted has apart =
+      let b = (statement_of text).body in
+      let none : is_of_kind Uncompared b ≡ false = sym (kind-on text Uncompared) ∙ apart-on wanted apart (kind_bit Uncompared) (kind-below Uncompared) has in
+      ap (λ s. uses_local_label s.body) statement ∙ (or_parts (uses_local_label b) (uses_paired_high b) (or_parts (uses_local_label b || uses_paired_high b) (is_equ b) none).0).0
 
 -- Names that a statement defines
 

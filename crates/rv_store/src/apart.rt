@@ -1,11 +1,11 @@
 //! Lines at the end of a text with which other lines have to do by their names and their local labels alone.
 
-ghost use Rattle.std.specs.Prelude.{◌≡◌, ◌≤◌, ◌<◌, ◌+◌, ◌&&◌, ◌||◌, ℕ, List, true, false, nat_le, length, map, IfSome};
+ghost use Rattle.std.specs.Prelude.{◌≡◌, ◌≤◌, ◌<◌, ◌+◌, ◌&&◌, ◌||◌, ℕ, List, true, false, nat_le, max, length, map, IfSome};
 ghost use Rattle.std.specs.List.{list_any};
 ghost use Rattle.rv_stmt.specs.Statement.{statement_of};
 ghost use Rattle.rv_program.specs.declared.limits.TheConstants.{MAX_LINES};
 ghost use Rattle.rv_store.specs.internal.Appended.{adds, touches, is_earlier, TellEarlier, FindsLocals, IsApart};
-ghost use Rattle.rv_store.specs.internal.Apart.{added_by, touched_by, HasGroupOf, HasWanted, AreMarked};
+ghost use Rattle.rv_store.specs.internal.Apart.{added_by, touched_by, HasGroupOf, AreUnnamed, AreMarked};
 ghost use Rattle.rv_program.specs.internal.Briefs.{groups_on};
 ghost use Rattle.rv_program.specs.internal.NameSets.{bucket_of};
 ghost use Rattle.rv_program.specs.Definitions.{defines_symbol, place_in_body, is_defined};
@@ -144,24 +144,41 @@ impl LineBehind<'_> {
         self.is_used_on(line, only) || (self.from <= number && uses_local_label(&line.stmt().body))
     }
 
-    // The groups of the lines that it touches, where those of the names that it adds are `added`.
-    fn wanted(&self, added: Groups) -> Groups
+    // How many lines there are before the next one behind the first `i` that may use a name that it adds, or the first `end` where there is
+    // none among these. `added` are the groups of these names.
+    fn lines_up_to_named(&self, groups: &[Groups], i: usize, end: usize, added: Groups) -> usize
         requires added { (name : List ℕ) → added_by self.now name ≡ true → HasGroupOf name added }
-        ensures { HasWanted self.now result }
+        requires within { i ≤ length groups.now }
+        requires end { end ≤ length groups.now }
+        ensures up { i ≤ result }
+        ensures within { result ≤ length groups.now }
+        ensures most { result ≤ max i end }
+        ensures passed { (lines : List (List ℕ)) → groups.now ≡ map groups_on lines → AreUnnamed self.now lines i result }
     {
-        added.with_kind(Kind::Uncompared, self.from < self.number)
+        if i >= end {
+            return i;
+        }
+        if added.are_none() {
+            return end;
+        }
+        lines_up_to_groups(&groups[..end], i, added)
     }
 
-    // How many lines it does not touch, from the first on: all before `from` where it adds no name.
-    fn untouched(&self, lines: &[Line], added: Groups) -> usize
+    // How many lines there are before the next one behind the first `i` that it may touch. Only from `from` on is it looked for by local
+    // labels.
+    fn lines_up_to_touched(&self, groups: &[Groups], i: usize, added: Groups) -> usize
         requires added { (name : List ℕ) → added_by self.now name ≡ true → HasGroupOf name added }
-        ensures within { result ≤ length lines.now }
-        ensures none { (i : ℕ) → 1 ≤ i → i ≤ result → uses_any (touched_by self.now) (program_of lines.now) i ≡ false }
+        requires within { i ≤ length groups.now }
+        ensures up { i ≤ result }
+        ensures within { result ≤ length groups.now }
+        ensures passed { (lines : List (List ℕ)) → groups.now ≡ map groups_on lines → (line : ℕ) → i < line → line ≤ result → uses_any (touched_by self.now) (program_of lines) line ≡ false }
     {
-        if !added.are_none() {
-            return 0;
+        let end = groups.len().min((self.from as usize).saturating_sub(1));
+        let next = self.lines_up_to_named(groups, i, end, added);
+        if next < end {
+            return next;
         }
-        (self.from as usize).saturating_sub(1).min(lines.len())
+        lines_up_to_groups(groups, next, added.with_kind(Kind::Uncompared, true))
     }
 
     // The lines that it touches, rising, or `None` if other lines take what one of them gives, or there is no memory for them. Lines whose
@@ -174,16 +191,14 @@ impl LineBehind<'_> {
         added: Groups,
     ) -> Option<Vec<u32>>
         requires few { length lines.now ≤ MAX_LINES }
-        requires number { self.now.number ≡ length lines.now + 1 }
         requires groups { groups.now ≡ map groups_on lines.now }
         requires added { (name : List ℕ) → added_by self.now name ≡ true → HasGroupOf name added }
         ensures users { IfSome result (λ row. row.items ≡ lines_that (uses_any (touched_by self.now) (program_of lines.now)) (length lines.now)) }
         ensures unsettled { IfSome result (λ _. (i : ℕ) → 1 ≤ i → i ≤ length lines.now → is_settled (body_at (program_of lines.now) i) ≡ true → uses_any (touched_by self.now) (program_of lines.now) i ≡ false) }
     {
         let only = self.only_bucket();
-        let wanted = self.wanted(added);
         let mut users = Vec::new(alloc);
-        let mut i = lines_up_to_groups(groups, self.untouched(lines, added), wanted);
+        let mut i = self.lines_up_to_touched(groups, 0, added);
         'lines: while i < lines.len() {
             let line = &lines[i];
             let number = i as u32 + 1;
@@ -195,7 +210,7 @@ impl LineBehind<'_> {
                     return None;
                 };
             }
-            i = lines_up_to_groups(groups, i + 1, wanted);
+            i = self.lines_up_to_touched(groups, i + 1, added);
         }
         Some(users)
     }

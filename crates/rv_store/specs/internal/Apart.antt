@@ -1,13 +1,15 @@
 -- The groups of the lines that a line behind a text touches.
-use Rattle.std.specs.Prelude.{◌≡◌, ◌<◌, ℕ, Bool, true, List}
+use Rattle.std.specs.Prelude.{◌≡◌, ◌<◌, ◌≤◌, ℕ, Bool, true, false, List}
+use Rattle.std.specs.List.{list_any}
 use Rattle.rv_stmt.specs.Statement.{statement_of}
 use Rattle.rv_store.specs.declared.apart.LineBehind.{LineBehind}
 use Rattle.rv_store.specs.internal.Appended.{adds_by_rows}
 use Rattle.rv_program.specs.declared.groups.Groups.{Groups}
-use Rattle.rv_program.specs.declared.groups.Kind.TheVariants.{Uncompared}
 use Rattle.rv_store.specs.internal.Still.{Touched}
-use Rattle.rv_program.specs.internal.Groups.{has_group, has_kind}
+use Rattle.rv_program.specs.internal.Groups.{has_group}
 use Rattle.rv_program.specs.internal.NameSets.{bucket_of}
+use Rattle.rv_program.specs.Program.{program_of, body_at}
+use Rattle.rv_program.specs.Uses.{names_used}
 
 -- it adds the name
 abbrev pub added_by : LineBehind → (name : List ℕ) → Bool
@@ -26,7 +28,6 @@ pub record AreMarked (passes : List ℕ → Bool) (IsOneOf : List ℕ → Type 0
   pub kept : (name : List ℕ) → HasGroupOf name old → HasGroupOf name new
   pub marked : (name : List ℕ) → IsOneOf name → passes name ≡ true → HasGroupOf name new
 
--- the groups of the names that it adds, and that of the lines that use local labels, where it touches any of these
-pub record HasWanted (behind : LineBehind) (wanted : Groups) : Type 0 where
-  pub names : (name : List ℕ) → added_by behind name ≡ true → HasGroupOf name wanted
-  pub locals : behind.from < behind.number → has_kind wanted Uncompared ≡ true
+-- none of the lines behind line i, up to line j, uses a name that it adds
+abbrev pub AreUnnamed : LineBehind → (lines : List (List ℕ)) → (i j : ℕ) → Type 0
+AreUnnamed behind lines i j = (line : ℕ) → i < line → line ≤ j → list_any (added_by behind) (names_used (body_at (program_of lines) line)) ≡ false

@@ -1,5 +1,4 @@
-use Rattle.std.proofs.Common.{◌≡◌, ◌+◌, ◌<◌, ◌≤◌, ◌⊎◌, inl, inr, ℕ, nat_le, ◌&&◌, ◌||◌, Bool, false, true≢false, arith, ap, sym, ◌∙◌}
-use Rattle.std.proofs.lemmas.Bool.{cases_lt}
+use Rattle.std.proofs.Common.{◌≡◌, ◌+◌, ℕ, nat_le, ◌&&◌, ◌||◌, Bool, true≢false, arith, ap, sym, ◌∙◌}
 use Rattle.std.specs.List.{list_any}
 use Rattle.rv_program.specs.Program.{program_of, body_at}
 use Rattle.rv_program.specs.Uses.{names_used, uses_local_label}
@@ -8,7 +7,7 @@ use Rattle.rv_program.specs.lemmas.LineRows.{row-added, row-kept, row-through}
 use Rattle.rv_program.specs.lemmas.LocalLines.{statement-of-line}
 use Rattle.rv_store.specs.internal.Apart.{added_by, touched_by}
 use Rattle.rv_store.specs.internal.Still.{is_settled, uses_any}
-use Rattle.rv_store.proofs.ApartLines.{others-untouched, with-next, with-block}
+use Rattle.rv_store.proofs.ApartLines.{with-next, with-block}
 use Rattle.rv_store.proofs.apart.LineBehind.users.Goals as goal
 use Rattle.rv_store.proofs.apart.LineBehind.users.Goals.{then-touches+else-is_settled+in-Ok, else-touches}
 
@@ -18,20 +17,13 @@ lines-init c =
     let behind = c.args.self.now in
     let test : ℕ → Bool = uses_any (touched_by behind) (program_of lines) in
     let settled : ℕ → Bool = λ i. is_settled (body_at (program_of lines) i) in
-    let next = c.lines_up_to_groups-i.ensures in
-    let end = c.lines_up_to_groups-i.result in
-    let unused : (i : ℕ) → 0 < i → i ≤ end → test i ≡ false = λ i first last. at i first last (cases_lt c.untouched.result i) in
+    let next = c.lines_up_to_touched-i.ensures in
+    let unused = next.passed lines c.requires.groups in
     record {
       within = omega (arith, next.within, count-groups lines c.args.groups.now c.requires.groups);
-      users = c.new-users.ensures.items ∙ row-through test 0 end (omega arith) unused;
+      users = c.new-users.ensures.items ∙ row-through test 0 c.lines_up_to_touched-i.result next.up unused;
       unsettled = λ i first last h. unused i first last;
     }
-  where
-    at : (i : ℕ) → 0 < i → i ≤ c.lines_up_to_groups-i.result → (c.untouched.result < i) ⊎ (i ≤ c.untouched.result) → uses_any (touched_by c.args.self.now) (program_of c.args.lines.now) i ≡ false
-    at i first last (inl past) =
-        others-untouched c.args.lines.now c.args.self.now c.wanted-wanted.result c.args.groups.now c.requires.number c.requires.groups c.wanted-wanted.ensures c.untouched.result c.lines_up_to_groups-i.result
-        c.lines_up_to_groups-i.ensures.within c.lines_up_to_groups-i.ensures.passed i past last
-    at i first last (inr before) = c.untouched.ensures.none i first before
 
 pub lines-preserved : goal.lines-preserved
 lines-preserved c =
@@ -45,9 +37,9 @@ lines-preserved c =
     let statement = statement-of-line lines n c.index-lines-i.result (omega (arith, c.lines-test.true)) c.index-lines-i.is in
     let used : c.touches.result ≡ test (n + 1) =
     c.touches.ensures ∙ ap (λ s. list_any (added_by behind) (names_used s.body) || (nat_le behind.from (n + 1) && uses_local_label s.body)) (sym statement) in
-    let next = c.lines_up_to_groups-i-in-lines.ensures in
-    let end = c.lines_up_to_groups-i-in-lines.result in
-    let unused = others-untouched lines behind c.wanted-wanted.result c.args.groups.now c.requires.number c.requires.groups c.wanted-wanted.ensures (n + 1) end next.within next.passed in
+    let next = c.lines_up_to_touched-i-in-lines.ensures in
+    let end = c.lines_up_to_touched-i-in-lines.result in
+    let unused = next.passed lines c.requires.groups in
     let through = row-through test (n + 1) end next.up unused in
     record {
       within = omega (arith, next.within, count-groups lines c.args.groups.now c.requires.groups);
