@@ -197,6 +197,7 @@ impl Locals {
         let lines = self.rows.get(usize::from(number))?.as_slice();
         line_among(lines, line, direction, count_up_to(lines, line))
     }
+
     // The last line that has the local label of a number, or 0.
     fn last(&self, number: u16) -> u32
         ensures { (i : ℕ) → i < result → is_some (local_line_in self.now i number Forward) ≡ true }
@@ -207,8 +208,8 @@ impl Locals {
         }
     }
 
-    /// From which line on a line `end` behind all others may be what a line names by `f`, where it has these labels: each line before that
-    /// finds each of them before the end. It is the end itself where none of the labels is a local one.
+    /// From which line on `f` may name the line `end`, which is behind all others and has these labels: each line before that finds each
+    /// local one of them before the end. It is the end itself where none of them is local.
     pub fn reach(&self, mut labels: LabelSlice<'_>, end: u32) -> u32
         ensures { (number i : ℕ) → among_local number labels.entry ≡ true → i < result → is_some (local_line_in self.now i number Forward) ≡ true }
     {
