@@ -12,14 +12,14 @@ use std::marker::Model;
 // How many buckets there are.
 const BUCKETS: usize = 16_384;
 
-/// The bucket of a name. By the factor 37 names that end in other numbers are mostly in other buckets.
+/// The bucket of a name. By the factor 439 names that are numbered alike share buckets less often than they would by chance.
 pub fn bucket_of(mut name: &[u8]) -> u16
     ensures bucket { result ≡ bucket_of name.entry.now }
     ensures below { result < 16384 }
 {
     let mut bucket = 0;
     while let [byte, rest @ ..] = name {
-        bucket = (bucket * 37 + u32::from(*byte)) % 16384;
+        bucket = (bucket * 439 + u32::from(*byte)) % 16384;
         name = rest;
     }
     bucket as u16

@@ -17,7 +17,7 @@ use Rattle.rv_program.specs.internal.Before.{IsBefore, lines_before, edit_on}
 use Rattle.rv_store.specs.internal.Column.{HasPlace}
 use Rattle.rv_program.specs.Constants.{constant_through, constant_of}
 use Rattle.rv_program.specs.Edits.{line_before_edit, place_of_edit}
-use Rattle.rv_store.specs.internal.FormerShapes.{former_shapes, shape_or, former_shape, shapes_through}
+use Rattle.rv_store.specs.internal.EditedRows.{edited_row, shape_or, former_shape, shapes_through}
 use Rattle.rv_program.specs.Layout.{shape_at}
 use Rattle.rv_program.specs.internal.NewShapes.{IsNewShape}
 use Rattle.rv_program.specs.Program.{Program, program_of, body_at, for_lines}
@@ -33,7 +33,7 @@ use Rattle.rv_program.specs.lemmas.Programs.{length-for_lines, length-program}
 
 -- How many there are
 
-pub former-count : (ms : List Measured) (lines : List (List ℕ)) (edit : Edit) (shape : Measured) → length ms ≡ length lines → HasPlace lines edit → length (former_shapes ms edit shape) ≡ length (lines_after lines edit)
+pub former-count : {A : Type 0} (ms : List A) (lines : List (List ℕ)) (edit : Edit) (shape : A) → length ms ≡ length lines → HasPlace lines edit → length (edited_row ms edit shape) ≡ length (lines_after lines edit)
 former-count ms lines (Insert place line) shape count has =
     length-insert ms (place - 1) shape (omega (arith, has.0, has.1, count))
     ∙ ap (λ n. n + 1) count
@@ -47,7 +47,7 @@ former-count ms lines (Replace place line) shape count has =
 
 -- That of a line that stood in the text before
 
-pub former-at : (ms : List Measured) (lines : List (List ℕ)) (edit : Edit) (shape : Measured) (k j : ℕ) (other : Measured) → length ms ≡ length lines → HasPlace lines edit → 1 ≤ k → line_before_edit edit k ≡ Some j → get_or (former_shapes ms edit shape) (k - 1) other ≡ get_or ms (j - 1) other
+pub former-at : {A B : Type 0} (ms : List A) (lines : List B) (edit : Edit) (shape : A) (k j : ℕ) (other : A) → length ms ≡ length lines → HasPlace lines edit → 1 ≤ k → line_before_edit edit k ≡ Some j → get_or (edited_row ms edit shape) (k - 1) other ≡ get_or ms (j - 1) other
 former-at ms lines (Insert place line) shape k j other count has first h = at (insert_before place line k j h)
   where
     room : place - 1 ≤ length ms
@@ -81,7 +81,7 @@ former-at ms lines (Replace place line) shape k j other count has first h =
 
 -- That of the line that the edit puts in
 
-former-new : (ms : List Measured) (lines : List (List ℕ)) (edit : Edit) (shape : Measured) (other : Measured) → length ms ≡ length lines → HasPlace lines edit → line_before_edit edit (place_of_edit edit) ≡ None → get_or (former_shapes ms edit shape) (place_of_edit edit - 1) other ≡ shape
+pub former-new : {A B : Type 0} (ms : List A) (lines : List B) (edit : Edit) (shape other : A) → length ms ≡ length lines → HasPlace lines edit → line_before_edit edit (place_of_edit edit) ≡ None → get_or (edited_row ms edit shape) (place_of_edit edit - 1) other ≡ shape
 former-new ms lines (Insert place line) shape other count has new = get_or-insert_at ms (place - 1) shape other (omega (arith, has.0, has.1, count))
 former-new ms lines (Delete place) shape other count has new = absurd (deleted-stood place new)
 former-new ms lines (Replace place line) shape other count has new = get_or-set_same ms (place - 1) shape other (omega (arith, has.0, has.1, count))
@@ -103,7 +103,7 @@ module _ (before : Before) (is : IsBefore before) where
 
 module _ (before : Before) (is : IsBefore before) (lines : List (List ℕ)) (after : lines ≡ lines_after (lines_before before) (edit_on before)) (shape : Measured) where
   abbrev pub former : List Measured
-  former = former_shapes before.shapes.now (edit_on before) shape
+  former = edited_row before.shapes.now (edit_on before) shape
 
   pub former-length : length former ≡ length lines
   former-length =

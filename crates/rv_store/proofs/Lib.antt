@@ -35,4 +35,5 @@ pub mod Stores
 pub mod Surveys
 pub mod SymbolLaws
 pub mod TextExamples
+pub mod Unmoved
 pub mod UseExamples

@@ -20,12 +20,12 @@ use Rattle.rv_program.specs.internal.Work.{equ_operands, operands_through, work}
 use Rattle.rv_program.specs.lemmas.KeptShapes.{body-on}
 use Rattle.rv_program.specs.lemmas.NewShapeLaws.{through-next}
 use Rattle.rv_program.specs.lemmas.ShapeWork.{operands-next}
-use Rattle.rv_store.specs.internal.FormerShapes.{former_shapes, shapes_through}
+use Rattle.rv_store.specs.internal.EditedRows.{edited_row, shapes_through}
 use Rattle.rv_store.proofs.FormerShapes.{former, former-length, former-stays, constants-stay, through-kept}
 
 -- the rows after the first i lines, where so many expressions were computed before them, and so many are now
 pub record AreSettled (before : Before) (lines : List (List ℕ)) (shape : Measured) (start i : ℕ) (row : List Measured) (constant_row : List (Option ℤ)) (count : ℕ) : Type 0 where
-  pub shapes : row ≡ shapes_through (program_of lines) (former_shapes before.shapes.now (edit_on before) shape) i
+  pub shapes : row ≡ shapes_through (program_of lines) (edited_row before.shapes.now (edit_on before) shape) i
   pub constants : AreConstants (program_of lines) i before.symbols.text.names.now constant_row
   pub most : count ≤ start + 2 * i
   pub work : count + shape_operands_through (edit_on before) i ≤ start

@@ -10,7 +10,7 @@ use Rattle.rv_program.specs.Program.{program_of}
 use Rattle.rv_program.specs.Text.{Edit, Insert, Delete, Replace}
 use Rattle.rv_program.specs.internal.Rows.{in_row, AreConstants}
 use Rattle.rv_program.specs.lemmas.KeptShapes.{shape-on}
-use Rattle.rv_store.specs.internal.FormerShapes.{former_shapes}
+use Rattle.rv_store.specs.internal.EditedRows.{edited_row}
 use Rattle.rv_store.proofs.EndLaws.{take-AreLimited}
 
 pub limited-push : (ms : List Measured) (m : Measured) → AreLimited ms → IsLimited m → AreLimited (ms ++ m ∷ [])
@@ -32,7 +32,7 @@ limited-set (n ∷ ms) zero m are is = (is, are.1)
 limited-set (n ∷ ms) (suc i) m are is = (are.0, limited-set ms i m are.1 is)
 
 -- shapes with an edit made in them
-pub limited-former : (ms : List Measured) (edit : Edit) (m : Measured) → AreLimited ms → IsLimited m → AreLimited (former_shapes ms edit m)
+pub limited-former : (ms : List Measured) (edit : Edit) (m : Measured) → AreLimited ms → IsLimited m → AreLimited (edited_row ms edit m)
 limited-former ms (Insert place line) m all one =
     limited-append (take (place - 1) ms) (m ∷ drop (place - 1) ms) (take-AreLimited (place - 1) ms all) (one, limited-drop (place - 1) ms all)
 limited-former ms (Delete place) m all one =

@@ -5,12 +5,13 @@ pub mod Appended
 pub mod Assembled
 pub mod Column
 pub mod ConstantPairs
+pub mod EditedRows
 pub mod Ends
 pub mod Forgetting
-pub mod FormerShapes
 pub mod Passed
 pub mod Renewed
 pub mod Still
 pub mod StillLines
 pub mod Stored
 pub mod Surveys
+pub mod Unmoved

@@ -6,6 +6,7 @@ mod apart;
 mod assembly;
 mod changed;
 mod column;
+mod edited_row;
 mod ending;
 mod ends;
 mod forgetting;

@@ -1,17 +1,19 @@
 //! Where the lines of a text lie.
 
-ghost use Rattle.std.specs.Prelude.{◌≡◌, ◌≤◌, ◌<◌, ◌+◌, ◌^◌, ℕ, suc, List, [], ◌∷◌, ◌++◌, length, slice_index, true, IfOk, IsTrue};
+ghost use Rattle.std.specs.Prelude.{◌≡◌, ◌≤◌, ◌<◌, ◌+◌, ◌-◌, ◌^◌, ℕ, suc, List, [], ◌∷◌, ◌++◌, length, get_or, slice_index, true, IfOk, IsTrue};
 ghost use Rattle.rv_layout.specs.declared.measured.Measured.{Measured};
 ghost use Rattle.rv_layout.specs.Places.{size_at, sum_below, is_base, IsLimited, AreLimited};
 ghost use Rattle.rv_layout.specs.Sections.{sections, section_number};
 ghost use Rattle.rv_store.specs.internal.Ends.{ends_of, ends_after, ends_at, end_in, base_by_ends, next_offset, next_place, place_by_shapes, AreBases, IsBehind};
+ghost use Rattle.rv_program.specs.Edits.{edit_of, place_of_edit};
 ghost use Rattle.rv_program.specs.Program.{for_lines};
+ghost use Rattle.rv_store.specs.internal.Unmoved.{place_put_in};
 
 use crate::ends::Ends;
 use crate::section_bases::bases;
 use rv_layout::{Measured, SECTIONS, section_number};
 use rv_list::LinePlace;
-use rv_program::row_for;
+use rv_program::{LineEdit, row_for};
 use std::alloc::{AllocError, Global};
 
 // The place of the next line.
@@ -134,6 +136,19 @@ pub fn last_place(base: u32, before: &Ends, after: &Ends, shape: &Measured) -> L
     ensures { (ms : List Measured) → IsBehind shape.now before.now after.now ms → result ≡ place_by_shapes base (ms ++ shape.now ∷ []) (suc (length ms)) }
 {
     next_place(&bases(after, base), before, shape)
+}
+
+/// Where the line lies that an edit puts in that moves no line.
+pub fn place_put_in(edit: &LineEdit<'_>, places: &[LinePlace]) -> LinePlace
+    requires first { 1 ≤ place_of_edit (edit_of edit.now) }
+    requires within { place_of_edit (edit_of edit.now) ≤ length places.now }
+    ensures { result ≡ place_put_in (edit_of edit.now) (get_or places.now (place_of_edit (edit_of edit.now) - 1) result) }
+{
+    let there = places[edit.place() as usize - 1];
+    match edit {
+        LineEdit::Insert(_, _) => LinePlace { size: 0, ..there },
+        LineEdit::Delete(_) | LineEdit::Replace(_, _) => there,
+    }
 }
 
 /// Where the sections of a text end, and where each of its lines lies.

@@ -15,6 +15,7 @@ ghost use Rattle.rv_program.specs.internal.Revisions.{edited_text, IsRevised};
 ghost use Rattle.rv_program.specs.internal.ValueRows.{base_of};
 ghost use Rattle.rv_store.specs.internal.Renewed.{edited_by, AreItemsLeft, ArePut};
 ghost use Rattle.rv_store.specs.internal.Surveys.{IsSurvey};
+ghost use Rattle.rv_store.specs.internal.Unmoved.{AreUnmoved};
 
 use crate::changed::Changed;
 use crate::survey::Survey;
@@ -93,7 +94,7 @@ pub fn items_passed<C: Count>(
 }
 
 /// It is as for `items_passed`, by the survey of the text before the edit, `old`, whose lines are `old_lines`, and by that of the text after
-/// it, whose lines are `lines`, in these groups: those that are due are looked for. `still` tells that all shapes stayed. For each jump to
+/// it, whose lines are `lines`, in these groups: those that are due are looked for. `still` tells that the edit moved none of these lines. For each jump to
 /// a local label among the invalidated lines, one expression more may be computed.
 pub fn items_edited<'a, C: Count>(
     alloc: Global,
@@ -115,7 +116,7 @@ pub fn items_edited<'a, C: Count>(
     requires survey { IsSurvey base (program_of lines.now) names.now survey.now }
     requires edited { lines.now ≡ lines_after old_lines.now (edit_of edit.now) }
     requires groups { groups.now ≡ map groups_on lines.now }
-    requires still { still ≡ true → survey.now.shapes.items ≡ old.now.shapes.items }
+    requires still { still ≡ true → AreUnmoved old.now.shapes.items (edit_of edit.now) survey.now.shapes.items }
     requires few { length lines.now ≤ MAX_LINES }
     requires count { length items.now.items ≡ length lines.now }
     requires former { AreFormer base old_lines.now (edit_of edit.now) 0 items.now.items }

@@ -9,7 +9,7 @@ ghost use Rattle.rv_program.specs.declared.limits.TheConstants.{MAX_LINES};
 ghost use Rattle.rv_program.specs.internal.Briefs.{groups_on};
 ghost use Rattle.rv_program.specs.internal.Before.{IsBefore, base_before, lines_before, edit_on};
 ghost use Rattle.rv_store.specs.internal.ConstantPairs.{IsConstantPair, differs_in_constant};
-ghost use Rattle.rv_store.specs.internal.FormerShapes.{former_shape, former_shapes};
+ghost use Rattle.rv_store.specs.internal.EditedRows.{former_shape};
 ghost use Rattle.rv_program.specs.Layout.{shape_at};
 ghost use Rattle.rv_program.specs.internal.NewShapes.{IsNewShape, shape_operands, shape_operands_through};
 ghost use Rattle.rv_program.specs.Program.{program_of, body_at};
@@ -18,13 +18,15 @@ ghost use Rattle.rv_program.specs.Text.{lines_after};
 ghost use Rattle.rv_program.specs.internal.TextRows.{program_in};
 ghost use Rattle.rv_program.specs.Uses.{is_sized, is_equ, names_used, uses_symbols};
 ghost use Rattle.rv_program.specs.internal.Work.{constant_operands, equ_operands, work};
+ghost use Rattle.rv_store.specs.internal.Unmoved.{bare, MovesNone, AreUnmoved};
 
+use crate::edited_row::edited_row;
 use rv_layout::{Consts, Measured, measure, shapes_are_limited, size_operands_are_few};
 use rv_list::DefinitionPlace;
 use rv_program::lines_of_kind::lines_up_to;
 use rv_program::{
     Before, Groups, Kind, Line, LineConstants, LineEdit, NameTest, SymbolRows, any_name, entry_at,
-    room_for, settle_constant,
+    settle_constant,
 };
 use rv_text::Count;
 use std::alloc::{AllocError, Global};
@@ -34,8 +36,8 @@ use std::alloc::{AllocError, Global};
 pub struct ShapeRows {
     pub shapes: Vec<Measured>,
     pub constants: Vec<Option<i64>>,
-    /// The shapes are known to be those before an edit.
-    pub same: bool,
+    /// It is known that an edit moved none of the lines that stood before it.
+    pub still: bool,
 }
 
 // The constants on a line of a text after an edit, and the line that it was before it.
@@ -128,45 +130,27 @@ fn shape_after<C: Count>(
     shape_of_line(&lines[i], given, counter)
 }
 
-// The shapes that the lines of the text after an edit had before it, and the shape of the line that the edit puts in, in a row with
-// room for so many.
-fn former_shapes(
-    alloc: Global,
-    before: &Before<'_, '_>,
-    count: usize,
-    shape: Measured,
-) -> Result<Vec<Measured>, AllocError>
-    requires { IsBefore before.now }
-    ensures { IfOk result (λ row. row.items ≡ former_shapes before.now.shapes.now (edit_on before.now) shape) }
+// A shape without its fault, which takes no room.
+fn bare(shape: &Measured) -> Measured
+    ensures { result ≡ bare shape.now }
 {
-    let mut row = Vec::with_capacity(alloc, room_for(count))?;
-    match before.edit {
-        LineEdit::Insert(k, _) => {
-            let (above, below) = before.shapes.split_at(k as usize - 1);
-            row.extend_from_slice(above)?;
-            row.push(shape)?;
-            row.extend_from_slice(below)?;
-        }
-        LineEdit::Delete(k) => {
-            row.extend_from_slice(before.shapes)?;
-            let _ = row.remove(k as usize - 1);
-        }
-        LineEdit::Replace(k, _) => {
-            row.extend_from_slice(before.shapes)?;
-            row[k as usize - 1] = shape;
-        }
+    match shape {
+        Measured::Faulty(_) => Measured::Nothing,
+        _ => *shape,
     }
-    Ok(row)
 }
 
-// Whether an edit puts a line in the place of another one of its shape, so that the shapes stay.
-fn keeps_shape(before: &Before<'_, '_>, shape: &Measured) -> bool
+// Whether all other lines stay where they are where an edit puts in a line of this shape.
+fn moves_none(before: &Before<'_, '_>, shape: &Measured) -> bool
     requires { IsBefore before.now }
-    ensures { IsTrue result → former_shapes before.now.shapes.now (edit_on before.now) shape.now ≡ before.now.shapes.now }
+    ensures { IsTrue result → MovesNone before.now.shapes.now (edit_on before.now) shape.now }
 {
     match before.edit {
-        LineEdit::Replace(k, _) => before.shapes[k as usize - 1] == *shape,
-        LineEdit::Insert(_, _) | LineEdit::Delete(_) => false,
+        LineEdit::Insert(k, _) => {
+            k as usize <= before.shapes.len() && bare(shape) == Measured::Nothing
+        }
+        LineEdit::Delete(k) => bare(&before.shapes[k as usize - 1]) == Measured::Nothing,
+        LineEdit::Replace(k, _) => bare(&before.shapes[k as usize - 1]) == bare(shape),
     }
 }
 
@@ -176,9 +160,9 @@ impl ShapeRows {
         requires { i < length self.old.shapes.items }
         ensures shapes { self.new.shapes.items ≡ set self.old.shapes.items i shape }
         ensures constants { self.new.constants ≡ self.old.constants }
-        ensures same { self.new.same ≡ true → (self.old.same ≡ true) × (self.new.shapes.items ≡ self.old.shapes.items) }
+        ensures still { self.new.still ≡ true → (self.old.still ≡ true) × (self.new.shapes.items ≡ self.old.shapes.items) }
     {
-        self.same &= self.shapes[i] == shape;
+        self.still &= self.shapes[i] == shape;
         self.shapes[i] = shape;
     }
 }
@@ -206,7 +190,7 @@ fn settle_line<C: Count>(
     ensures limited { IsLimited (shape_at (program_of lines.now) (i + 1)) }
     ensures constants { AreConstants (program_of lines.now) (i + 1) before.now.symbols.text.names.now rows.new.constants.items }
     ensures as_many { length rows.new.constants.items ≡ length definitions.now }
-    ensures same { rows.new.same ≡ true → (rows.old.same ≡ true) × (rows.new.shapes.items ≡ rows.old.shapes.items) }
+    ensures still { rows.new.still ≡ true → (rows.old.still ≡ true) × (rows.new.shapes.items ≡ rows.old.shapes.items) }
     ensures least { C.valued_count counter.old ≤ C.valued_count counter.new }
     ensures two { C.valued_count counter.new ≤ C.valued_count counter.old + 2 }
     ensures work { C.valued_count counter.new + work size_operands (base_before before.now) (lines_before before.now) (edit_on before.now) i + shape_operands_through (edit_on before.now) (i + 1)
@@ -250,7 +234,7 @@ pub fn shapes<C: Count>(
     requires valued { C.valued_count counter.old ≤ 2 ^ 63 + 1 }
     ensures shapes { IfOk result (λ r. AreShapes (program_of lines.now) r.shapes.items) }
     ensures limited { IfOk result (λ r. AreLimited r.shapes.items) }
-    ensures same { IfOk result (λ r. r.same ≡ true → r.shapes.items ≡ before.now.shapes.now) }
+    ensures still { IfOk result (λ r. r.still ≡ true → AreUnmoved before.now.shapes.now (edit_on before.now) r.shapes.items) }
     ensures constants { IfOk result (λ r. AreConstants (program_of lines.now) (length lines.now) before.now.symbols.text.names.now r.constants.items) }
     ensures least { C.valued_count counter.old ≤ C.valued_count counter.new }
     ensures most { C.valued_count counter.new ≤ C.valued_count counter.old + 2 * length lines.now }
@@ -259,11 +243,12 @@ pub fn shapes<C: Count>(
     ensures encoded { C.encoded_count counter.new ≡ C.encoded_count counter.old }
 {
     let constants = vec![in alloc; None; definitions.len()]?;
-    let shapes = former_shapes(alloc, before, lines.len(), shape)?;
+    let still = moves_none(before, &shape);
+    let shapes = edited_row(alloc, before.shapes, &before.edit, shape)?;
     let mut rows = ShapeRows {
         shapes,
         constants,
-        same: keeps_shape(before, &shape),
+        still,
     };
     let mut i = lines_up_to(groups, 0, Kind::Shaped);
     while i < lines.len() {

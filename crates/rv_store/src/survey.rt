@@ -6,7 +6,9 @@ ghost use Rattle.rv_layout.specs.Sections.{sections};
 ghost use Rattle.rv_program.specs.internal.Briefs.{groups_on};
 ghost use Rattle.rv_program.specs.internal.Before.{IsBefore, base_before, lines_before, edit_on};
 ghost use Rattle.rv_program.specs.Edits.{edit_of};
+ghost use Rattle.rv_store.specs.internal.Column.{HasPlace};
 ghost use Rattle.rv_store.specs.internal.Ends.{ends_of, end_in, place_by_shapes};
+ghost use Rattle.rv_store.specs.internal.Unmoved.{AreUnmoved};
 ghost use Rattle.rv_program.specs.internal.NewShapes.{IsNewShape, shape_operands};
 ghost use Rattle.rv_program.specs.Program.{program_of, for_lines};
 ghost use Rattle.rv_program.specs.internal.Rows.{Grows, AreDefinitions, AreConstants, AreShapes, AreLocals};
@@ -17,8 +19,9 @@ ghost use Rattle.rv_program.specs.internal.ValueRows.{AreValueRows, base_of};
 ghost use Rattle.rv_program.specs.internal.Work.{equ_operands, high_operands, survey_operands, operands_through, work};
 
 use crate::column::Column;
+use crate::edited_row::edited_row;
 use crate::ends::Ends;
-use crate::places::Placed;
+use crate::places::{Placed, place_put_in};
 use crate::section_bases::bases;
 use crate::shapes::{ShapeRows, shapes};
 use rv_fix::Entry;
@@ -34,32 +37,6 @@ use rv_program::{
 };
 use rv_text::Count;
 use std::alloc::{AllocError, Global};
-
-// Where the lines of a text after an edit lie, by the ends and the places before it: where no shape changed, they lie where they lay.
-fn placed(
-    alloc: Global,
-    base: u32,
-    sized: &ShapeRows,
-    ends: &Ends,
-    places: &[LinePlace],
-) -> Result<Placed, AllocError>
-    requires base { is_base base ≡ true }
-    requires few { length sized.now.shapes.items ≤ MAX_LINES }
-    requires limited { AreLimited sized.now.shapes.items }
-    requires guess { sum_below (end_in ends.now) sections ≤ 2 ^ 30 }
-    requires ends { sized.now.same ≡ true → ends.now ≡ ends_of sized.now.shapes.items }
-    requires places { sized.now.same ≡ true → places.now ≡ for_lines (place_by_shapes base sized.now.shapes.items) (length sized.now.shapes.items) }
-    ensures ends { IfOk result (λ p. p.ends ≡ ends_of sized.now.shapes.items) }
-    ensures places { IfOk result (λ p. p.places.items ≡ for_lines (place_by_shapes base sized.now.shapes.items) (length sized.now.shapes.items)) }
-{
-    if !sized.same {
-        return Placed::of(alloc, base, ends, &sized.shapes);
-    }
-    Ok(Placed {
-        ends: *ends,
-        places: Vec::from_slice(alloc, places)?,
-    })
-}
 
 /// What the lines of a text say, in rows: one value for each name, by its number, or one for each line. An edit that goes over the
 /// lines makes them anew from the first line on. But definitions and local labels move with the lines, and a line keeps its shape where no
@@ -125,9 +102,38 @@ impl Survey {
         }
     }
 
+    // Where the lines of the text after an edit lie, which have these shapes: where they lay, if it moved none of them.
+    fn placed(
+        &self,
+        alloc: Global,
+        base: u32,
+        edit: &LineEdit<'_>,
+        sized: &ShapeRows,
+    ) -> Result<Placed, AllocError>
+        requires base { is_base base ≡ true }
+        requires few { length sized.now.shapes.items ≤ MAX_LINES }
+        requires limited { AreLimited sized.now.shapes.items }
+        requires guess { sum_below (end_in self.now.ends) sections ≤ 2 ^ 30 }
+        requires place { HasPlace self.now.shapes.items (edit_of edit.now) }
+        requires ends { self.now.ends ≡ ends_of self.now.shapes.items }
+        requires places { self.now.places.items ≡ for_lines (place_by_shapes base self.now.shapes.items) (length self.now.shapes.items) }
+        requires still { sized.now.still ≡ true → AreUnmoved self.now.shapes.items (edit_of edit.now) sized.now.shapes.items }
+        ensures ends { IfOk result (λ p. p.ends ≡ ends_of sized.now.shapes.items) }
+        ensures places { IfOk result (λ p. p.places.items ≡ for_lines (place_by_shapes base sized.now.shapes.items) (length sized.now.shapes.items)) }
+    {
+        if !sized.still {
+            return Placed::of(alloc, base, &self.ends, &sized.shapes);
+        }
+        let place = place_put_in(edit, &self.places);
+        Ok(Placed {
+            ends: self.ends,
+            places: edited_row(alloc, &self.places, edit, place)?,
+        })
+    }
+
     /// That of a text after an edit, the first line of which is at `base`, by the rows of the text before it, which has the
     /// lines `old`. `self` holds these rows, and the lines after the edit already. `shape` is that of the line that the edit puts in.
-    /// The answer does not get the lines. With it comes whether all shapes stayed: then each line is where it was. Names that the lines
+    /// The answer does not get the lines. With it comes whether each line that stood is known to be where it was. Names that the lines
     /// define get numbers, also where there is no memory for the rest.
     ///
     /// The counter's number of expressions computed rises by at most four for each line, and by at most what the edit
@@ -152,7 +158,7 @@ impl Survey {
         requires few { length self.now.lines.items ≤ MAX_LINES }
         requires valued { C.valued_count counter.old ≤ 2 ^ 63 + 1 }
         ensures survey { IfOk result (λ r. IsSurvey base (program_of self.now.lines.items) names.new r.0) }
-        ensures still { IfOk result (λ r. r.1 ≡ true → r.0.shapes.items ≡ self.now.shapes.items) }
+        ensures still { IfOk result (λ r. r.1 ≡ true → AreUnmoved self.now.shapes.items (edit_of edit.now) r.0.shapes.items) }
         ensures names { Grows names.old names.new }
         ensures least { C.valued_count counter.old ≤ C.valued_count counter.new }
         ensures most { C.valued_count counter.new ≤ C.valued_count counter.old + 4 * length self.now.lines.items }
@@ -165,9 +171,9 @@ impl Survey {
         let definitions = definitions_after(alloc, &self.definitions, old, lines, edit, names)?;
         let before = self.before(old, base, names, edit);
         let sized = shapes(alloc, &before, lines, groups, &definitions, shape, counter)?;
-        let placed = placed(alloc, base, &sized, &self.ends, &self.places)?;
+        let placed = self.placed(alloc, base, edit, &sized)?;
         let locals = locals_after(alloc, &before, lines)?;
-        let still = sized.same;
+        let still = sized.still;
         let survey = Survey::by_rows(
             alloc,
             &before,

@@ -10,7 +10,7 @@ use Rattle.rv_program.specs.internal.Groups.{no_groups, with_group, has_group}
 
 -- the bucket of a name, by its bytes from the first to the last
 abbrev pub next_bucket : (bucket byte : ℕ) → ℕ
-next_bucket bucket byte = (bucket * 37 + byte) % 16384
+next_bucket bucket byte = (bucket * 439 + byte) % 16384
 
 abbrev pub bucket_of : (name : List ℕ) → ℕ
 bucket_of name = fold next_bucket 0 name

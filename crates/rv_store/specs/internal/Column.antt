@@ -9,10 +9,10 @@ pub record Listed : Type 0 where
   pub group_room : ℕ
 
 -- there are so many lines that the edit has its place
-abbrev pub HasPlace : List (List ℕ) → Edit → Type 0
-HasPlace lines (Insert place line) = (1 ≤ place) × (place ≤ length lines + 1)
-HasPlace lines (Delete place) = (1 ≤ place) × (place ≤ length lines)
-HasPlace lines (Replace place line) = (1 ≤ place) × (place ≤ length lines)
+abbrev pub HasPlace : {A : Type 0} → List A → Edit → Type 0
+HasPlace row (Insert place line) = (1 ≤ place) × (place ≤ length row + 1)
+HasPlace row (Delete place) = (1 ≤ place) × (place ≤ length row)
+HasPlace row (Replace place line) = (1 ≤ place) × (place ≤ length row)
 
 -- the edit takes no memory
 abbrev pub HasRoom : Listed → Edit → Type 0

@@ -3,7 +3,7 @@ use Rattle.rv_program.specs.Changes.{differs_in_place}
 use Rattle.rv_program.specs.Edits.{edit_of, line_before_edit}
 use Rattle.rv_program.specs.Program.{program_of}
 use Rattle.rv_store.specs.internal.Renewed.{AreItemsLeft}
-use Rattle.rv_store.proofs.StillShapes.{still-by_shapes}
+use Rattle.rv_store.proofs.StillShapes.{still-unmoved}
 use Rattle.rv_store.proofs.renewal.items_edited.Goals as goal
 
 pub items_passed-requires-clause-left : goal.items_passed-requires-clause-left
@@ -25,10 +25,10 @@ items_passed-requires-clause-left g c =
     })
 
 pub due_lines-requires-clause-still : goal.due_lines-requires-clause-still
-due_lines-requires-clause-still g c = λ same line stood first last stands.
+due_lines-requires-clause-still g c = λ still line stood first last stands.
     let before = c.before-before.ensures in
     let rows = c.rows-rows.ensures in
     let lines = rows.lines ∙ c.in_column-column.ensures in
     (λ i. differs_in_place (before.base i) (program_of (before.lines i)) (program_of (lines i)) line stood)
-    ∙ still-by_shapes c.args.base c.args.old_lines.now c.args.lines.now (edit_of c.args.edit.now) c.args.old.now.shapes.items line stood c.requires.allowed c.requires.edited
-    c.requires.old.shapes (sym (c.requires.still same) ∙ c.requires.survey.shapes) (ap (λ e. line_before_edit e line) (sym before.edit) ∙ stands)
+    ∙ still-unmoved c.args.base c.args.old_lines.now c.args.lines.now (edit_of c.args.edit.now) c.args.old.now.shapes.items c.args.survey.now.shapes.items
+    c.requires.old.shapes c.requires.survey.shapes line stood c.requires.allowed (c.requires.still still) first (ap (λ e. line_before_edit e line) (sym before.edit) ∙ stands)

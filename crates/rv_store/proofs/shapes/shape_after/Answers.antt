@@ -3,7 +3,7 @@ use Rattle.rv_stmt.specs.Statement.{statement_of}
 use Rattle.rv_layout.specs.Places.{IsLimited}
 use Rattle.rv_layout.specs.Shapes.{size_operands}
 use Rattle.rv_program.specs.internal.Before.{base_before, lines_before, edit_on}
-use Rattle.rv_store.specs.internal.FormerShapes.{shape_or}
+use Rattle.rv_store.specs.internal.EditedRows.{shape_or}
 use Rattle.rv_program.specs.Layout.{shape_at}
 use Rattle.rv_program.specs.Program.{program_of}
 use Rattle.rv_program.specs.internal.Rows.{in_row}

@@ -14,7 +14,13 @@ use Rattle.rv_program.specs.lemmas.ShapeWork.{constant-work, nothing-shaped}
 use Rattle.rv_store.proofs.FormerShapes.{former, former-length, former-is, through-length, through-here, through-set, through-all}
 use Rattle.rv_store.proofs.SettledShapes.{operands-through, settled-past}
 use Rattle.rv_store.proofs.ShapeRows.{limited-set, limited-former}
+use Rattle.rv_store.proofs.StillShapes.{shapes-place}
 use Rattle.rv_store.proofs.shapes.shapes.Goals as goal
+
+pub edited_row-requires : goal.edited_row-requires
+edited_row-requires g c =
+    let before = c.args.before.now in
+    shapes-place (lines_before before) (edit_on before) before.shapes.now c.requires.before.allowed c.requires.before.shapes
 
 pub loop-i-init : goal.loop-i-init
 loop-i-init g c =
@@ -35,7 +41,7 @@ loop-i-init g c =
           });
       limited = subst AreLimited (sym c.in_ok-shapes.ensures) (limited-former before.shapes.now (edit_on before) c.args.shape c.requires.before.limited c.requires.limited);
       as_many = rw none (length-replicate (length c.args.definitions.now) None);
-      same = λ same. c.in_ok-shapes.ensures ∙ c.keeps_shape.ensures same;
+      still = λ still. record { shape = c.args.shape; none = c.moves_none-still.ensures still; shapes = c.in_ok-shapes.ensures };
       least = omega arith;
       parsed = refl;
       encoded = refl;
@@ -99,9 +105,10 @@ loop-i-preserved g c =
           });
       limited = subst AreLimited (sym settled.shapes) (limited-set c.loop-i.rows.shapes.items i (shape_at program (i + 1)) so_far.limited settled.limited);
       as_many = settled.as_many;
-      same = λ is.
-          let stays = settled.same is in
-          stays.1 ∙ so_far.same stays.0;
+      still = λ is.
+          let stays = settled.still is in
+          let unmoved = so_far.still stays.0 in
+          record { shape = unmoved.shape; none = unmoved.none; shapes = stays.1 ∙ unmoved.shapes };
       least = omega (arith, so_far.least, settled.least);
       parsed = settled.parsed ∙ so_far.parsed;
       encoded = settled.encoded ∙ so_far.encoded;

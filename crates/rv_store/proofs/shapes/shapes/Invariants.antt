@@ -1,5 +1,7 @@
 use Rattle.std.proofs.Common.{◌≡◌, ◌-◌, ◌≤◌, true, length}
 use Rattle.rv_layout.specs.Places.{AreLimited}
+use Rattle.rv_program.specs.internal.Before.{edit_on}
+use Rattle.rv_store.specs.internal.Unmoved.{AreUnmoved}
 use Rattle.rv_store.proofs.SettledShapes.{AreSettled}
 use Rattle.rv_store.proofs.shapes.shapes.Given as goal
 
@@ -10,7 +12,7 @@ invariant-loop-i g l = record {
   settled : AreSettled l.before l.lines l.fn.shape (g.C.Count.valued_count l.initial.counter) l.i l.rows.shapes.items l.rows.constants.items (g.C.Count.valued_count l.counter);
   limited : AreLimited l.rows.shapes.items;
   as_many : length l.rows.constants.items ≡ length l.definitions;
-  same : l.rows.same ≡ true → l.rows.shapes.items ≡ l.before.shapes.now;
+  still : l.rows.still ≡ true → AreUnmoved l.before.shapes.now (edit_on l.before) l.rows.shapes.items;
   least : g.C.Count.valued_count l.initial.counter ≤ g.C.Count.valued_count l.counter;
   parsed : g.C.Count.parsed_count l.counter ≡ g.C.Count.parsed_count l.initial.counter;
   encoded : g.C.Count.encoded_count l.counter ≡ g.C.Count.encoded_count l.initial.counter;

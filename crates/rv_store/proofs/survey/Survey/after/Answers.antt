@@ -5,11 +5,13 @@ use Rattle.rv_program.specs.declared.before.Before.{Before}
 use Rattle.rv_program.specs.Text.{Edit, lines_after}
 use Rattle.rv_program.specs.internal.Before.{base_before, lines_before, edit_on}
 use Rattle.rv_program.specs.Edits.{edit_of}
-use Rattle.rv_store.specs.internal.Ends.{ends_of, end_in, place_by_shapes}
+use Rattle.rv_store.specs.internal.Ends.{end_in, place_by_shapes}
 use Rattle.rv_program.specs.internal.NewShapes.{IsNewShape, shape_operands}
 use Rattle.rv_program.specs.Program.{program_of, for_lines}
 use Rattle.rv_program.specs.internal.Work.{equ_operands, constant_operands, high_operands, survey_operands, operands_through, work}
 use Rattle.rv_store.proofs.EndBases.{ends-together}
+use Rattle.rv_store.specs.internal.Unmoved.{AreUnmoved}
+use Rattle.rv_store.proofs.StillShapes.{shapes-place}
 use Rattle.rv_store.proofs.Stores.{survey_grown}
 use Rattle.rv_program.specs.lemmas.SurveyWork.{survey_counted}
 use Rattle.rv_program.specs.lemmas.ShapeWork.{nothing-surveyed}
@@ -54,15 +56,20 @@ placed-requires-clause-guess g c =
     let count = length_of_shapes c.args.old.now c.args.self.now.shapes.items c.requires.old.shapes in
     subst (λ e. sum_below (end_in e) sections ≤ 2 ^ 30) (sym c.requires.old.ends) (ends-together c.args.self.now.shapes.items c.requires.old.limited (omega (arith, count, c.requires.old_few)))
 
-pub placed-requires-clause-ends : goal.placed-requires-clause-ends
-placed-requires-clause-ends g c = λ same.
-    c.requires.old.ends ∙ ap ends_of (sym (c.in_ok-sized.ensures.same same ∙ c.before-before.ensures.shapes))
+pub placed-requires-clause-place : goal.placed-requires-clause-place
+placed-requires-clause-place g c = shapes-place c.args.old.now (edit_of c.args.edit.now) c.args.self.now.shapes.items c.requires.allowed c.requires.old.shapes
 
 pub placed-requires-clause-places : goal.placed-requires-clause-places
-placed-requires-clause-places g c = λ same.
-    c.deref-3.ensures.value
-    ∙ unplaced c.args.base (program_of c.args.old.now) c.args.self.now.shapes.items c.args.self.now.places.items c.requires.old.shapes c.requires.old.places
-    ∙ ap (λ ms. for_lines (place_by_shapes c.args.base ms) (length ms)) (sym (c.in_ok-sized.ensures.same same ∙ c.before-before.ensures.shapes))
+placed-requires-clause-places g c =
+    unplaced c.args.base (program_of c.args.old.now) c.args.self.now.shapes.items c.args.self.now.places.items c.requires.old.shapes c.requires.old.places
+
+-- what is so of the shapes before an edit is so of those of the survey
+pub placed-requires-clause-still : goal.placed-requires-clause-still
+placed-requires-clause-still g c = λ still.
+    let before = c.before-before.ensures in
+    let unmoved = c.in_ok-sized.ensures.still still in
+    subst (λ e. AreUnmoved c.args.self.now.shapes.items e c.in_ok-sized.sized.shapes.items) before.edit
+    (subst (λ ms. AreUnmoved ms (edit_on c.before-before.result) c.in_ok-sized.sized.shapes.items) before.shapes unmoved)
 
 pub by_rows-requires-clause-ends : goal.by_rows-requires-clause-ends
 by_rows-requires-clause-ends g c = c.in_ok-placed.ensures.ends
@@ -125,11 +132,12 @@ shapes-requires-clause-shape g c =
     (subst (λ e. IsNewShape c.args.old.now e c.args.shape) (sym before.edit) c.requires.shape)
 
 pub returns-clause-still : goal.returns-clause-still
-returns-clause-still g c = λ same.
-    c.in_ok-survey.ensures.survey.shapes
-    ∙ sym c.in_ok-sized.ensures.shapes
-    ∙ c.in_ok-sized.ensures.same same
-    ∙ c.before-before.ensures.shapes
+returns-clause-still g c = λ still.
+    let before = c.before-before.ensures in
+    let unmoved = c.in_ok-sized.ensures.still still in
+    subst (AreUnmoved c.args.self.now.shapes.items (edit_of c.args.edit.now)) (c.in_ok-sized.ensures.shapes ∙ sym c.in_ok-survey.ensures.survey.shapes)
+    (subst (λ e. AreUnmoved c.args.self.now.shapes.items e c.in_ok-sized.sized.shapes.items) before.edit
+    (subst (λ ms. AreUnmoved ms (edit_on c.before-before.result) c.in_ok-sized.sized.shapes.items) before.shapes unmoved))
 
 pub returns-in_err-survey-clause-parsed : goal.returns-in_err-survey-clause-parsed
 returns-in_err-survey-clause-parsed g c = c.by_rows.ensures.parsed ∙ c.shapes.ensures.parsed

@@ -1,4 +1,4 @@
--- The shapes of the lines of a text after an edit, from those before it.
+-- The rows of a text after an edit, from those before it.
 use Rattle.std.specs.Prelude.{ℕ, ◌-◌, List, ◌++◌, drop, set, insert, remove, Option, Some, None}
 use Rattle.rv_layout.specs.declared.measured.Measured.{Measured}
 use Rattle.rv_program.specs.Edits.{line_before_edit}
@@ -6,11 +6,11 @@ use Rattle.rv_program.specs.Layout.{shape_at}
 use Rattle.rv_program.specs.Program.{Program, for_lines}
 use Rattle.rv_program.specs.Text.{Edit, Insert, Delete, Replace}
 
--- what each line was before the edit, and what this line is that it puts in
-abbrev pub former_shapes : List Measured → Edit → (shape : Measured) → List Measured
-former_shapes ms (Insert place line) shape = insert ms (place - 1) shape
-former_shapes ms (Delete place) shape = remove ms (place - 1)
-former_shapes ms (Replace place line) shape = set ms (place - 1) shape
+-- what each line had before the edit, and this for the line that it puts in
+abbrev pub edited_row : {A : Type 0} → List A → Edit → (new : A) → List A
+edited_row row (Insert place line) new = insert row (place - 1) new
+edited_row row (Delete place) new = remove row (place - 1)
+edited_row row (Replace place line) new = set row (place - 1) new
 
 abbrev pub shape_or : (here : Measured) → (stood : ℕ → Measured) → Option ℕ → Measured
 shape_or here stood None = here

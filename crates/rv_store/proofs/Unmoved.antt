@@ -1,0 +1,352 @@
+-- An edit that moves no line leaves each where it lies.
+use Rattle.std.proofs.Common.{◌≡◌, ℕ, zero, suc, ◌+◌, ◌-◌, ◌<◌, ◌≤◌, ◌==◌, ◌⊎◌, inl, inr, Bool, true, false, List, [], ◌∷◌, length, take, get_or, set, Option, Some, None, if◌then◌else◌, arith, ap, sym, subst, ◌∙◌, refl}
+use Rattle.std.specs.Prelude.{insert, remove}
+use Rattle.std.proofs.lemmas.List.{ext_get_or, get_or_default, length-set}
+use Rattle.std.proofs.lemmas.List.Edits.{length-insert, length-remove, get_or-insert_below, get_or-insert_at, get_or-insert_above}
+use Rattle.rv_stmt.specs.declared.section.Sect.{Sect}
+use Rattle.rv_stmt.specs.declared.section.Sect.TheVariants.{Text}
+use Rattle.rv_layout.specs.declared.measured.Measured.{Measured}
+use Rattle.rv_layout.specs.declared.measured.Measured.TheVariants.{Bytes, Align, Switch, Nothing, Faulty}
+use Rattle.rv_layout.specs.Places.{section_after, offset_after, section_through, offset_through, size_at, section_end_of, base_from}
+use Rattle.rv_layout.specs.Sections.{section_number}
+use Rattle.rv_list.specs.declared.view.LinePlace.{LinePlace}
+use Rattle.rv_program.specs.Edits.{line_before_edit, place_of_edit}
+use Rattle.rv_program.specs.Program.{for_lines}
+use Rattle.rv_program.specs.Text.{Edit, Insert, Delete, Replace}
+use Rattle.rv_program.specs.lemmas.EarlierLines.{insert_before, delete_before, replace_before}
+use Rattle.rv_program.specs.lemmas.NewShapeLaws.{deleted-stood, new-place}
+use Rattle.rv_program.specs.lemmas.Programs.{length-for_lines, at-for_lines}
+use Rattle.rv_store.specs.internal.Column.{HasPlace}
+use Rattle.rv_store.specs.internal.EditedRows.{edited_row}
+use Rattle.rv_store.specs.internal.Ends.{by_section, ends_of, place_by_shapes}
+use Rattle.rv_store.specs.internal.Unmoved.{bare, MovesNone, place_put_in}
+use Rattle.rv_store.proofs.Columns.{inserted-removed}
+use Rattle.rv_store.proofs.FormerShapes.{former-at, former-new}
+
+-- Shapes without their faults
+
+bare-section : (s : Sect) (m : Measured) → section_after s (bare m) ≡ section_after s m
+bare-section s (Bytes n) = refl
+bare-section s (Align e) = refl
+bare-section s (Switch t) = refl
+bare-section s Nothing = refl
+bare-section s (Faulty fault) = refl
+
+bare-offset : (x : ℕ) (m : Measured) → offset_after x (bare m) ≡ offset_after x m
+bare-offset x (Bytes n) = refl
+bare-offset x (Align e) = refl
+bare-offset x (Switch t) = refl
+bare-offset x Nothing = refl
+bare-offset x (Faulty fault) = refl
+
+bare-size : (x : ℕ) (m : Measured) → size_at x (bare m) ≡ size_at x m
+bare-size x (Bytes n) = refl
+bare-size x (Align e) = refl
+bare-size x (Switch t) = refl
+bare-size x Nothing = refl
+bare-size x (Faulty fault) = refl
+
+module _ (m n : Measured) (same : bare m ≡ bare n) where
+  same-section : (s : Sect) → section_after s m ≡ section_after s n
+  same-section s = sym (bare-section s m) ∙ ap (section_after s) same ∙ bare-section s n
+
+  same-offset : (x : ℕ) → offset_after x m ≡ offset_after x n
+  same-offset x = sym (bare-offset x m) ∙ ap (offset_after x) same ∙ bare-offset x n
+
+  same-size : (x : ℕ) → size_at x m ≡ size_at x n
+  same-size x = sym (bare-size x m) ∙ ap (size_at x) same ∙ bare-size x n
+
+-- Lines behind which others lie alike
+
+record LeadAlike (xs ys : List Measured) : Type 0 where
+  section : (s : Sect) → section_through s xs ≡ section_through s ys
+  offset : (t : ℕ) (s : Sect) (x : ℕ) → offset_through t s x xs ≡ offset_through t s x ys
+
+the-same : (xs : List Measured) → LeadAlike xs xs
+the-same xs = record { section = λ s. refl; offset = λ t s x. refl }
+
+one-more : (m : Measured) (xs ys : List Measured) → LeadAlike xs ys → LeadAlike (m ∷ xs) (m ∷ ys)
+one-more m xs ys alike = record {
+  section = λ s. alike.section (section_after s m);
+  offset = λ t s x. alike.offset t (section_after s m) (if section_number s == t then offset_after x m else x);
+}
+
+one-other : (m n : Measured) (xs : List Measured) → bare m ≡ bare n → LeadAlike (m ∷ xs) (n ∷ xs)
+one-other m n xs same = record {
+  section = λ s. ap (λ t. section_through t xs) (same-section m n same s);
+  offset = λ t s x i. offset_through t (same-section m n same s i) (if section_number s == t then same-offset m n same x i else x) xs;
+}
+
+either : (b : Bool) (x : ℕ) → (if b then x else x) ≡ x
+either true x = refl
+either false x = refl
+
+one-less : (m : Measured) (xs : List Measured) → bare m ≡ Nothing → LeadAlike (m ∷ xs) xs
+one-less m xs none = record {
+  section = λ s. ap (λ t. section_through t xs) (same-section m Nothing none s);
+  offset = λ t s x.
+      (λ i. offset_through t (same-section m Nothing none s i) (if section_number s == t then same-offset m Nothing none x i else x) xs)
+      ∙ ap (λ y. offset_through t s y xs) (either (section_number s == t) x);
+}
+
+-- one that is put in
+with-one : (xs : List Measured) (p : ℕ) (m : Measured) → bare m ≡ Nothing → LeadAlike (insert xs p m) xs
+with-one xs zero m none = one-less m xs none
+with-one [] (suc p) m none = one-less m [] none
+with-one (x ∷ xs) (suc p) m none = one-more x (insert xs p m) xs (with-one xs p m none)
+
+up-to : (xs : List Measured) (p n : ℕ) (m : Measured) → n ≤ p → p ≤ length xs → take n (insert xs p m) ≡ take n xs
+up-to xs p zero m up within = refl
+up-to xs zero (suc n) m up within = absurd (omega (arith, up))
+up-to [] (suc p) (suc n) m up within = absurd (let no : suc p ≤ 0 = within in omega (arith, no))
+up-to (x ∷ xs) (suc p) (suc n) m up within = ap (λ ys. x ∷ ys) (up-to xs p n m (omega (arith, up)) (let w : suc p ≤ suc (length xs) = within in omega (arith, w)))
+
+behind : (xs : List Measured) (p n : ℕ) (m : Measured) → bare m ≡ Nothing → p ≤ n → p ≤ length xs → LeadAlike (take (suc n) (insert xs p m)) (take n xs)
+behind xs zero n m none up within = one-less m (take n xs) none
+behind [] (suc p) n m none up within = absurd (let no : suc p ≤ 0 = within in omega (arith, no))
+behind (x ∷ xs) (suc p) zero m none up within = absurd (omega (arith, up))
+behind (x ∷ xs) (suc p) (suc n) m none up within =
+    one-more x (take (suc n) (insert xs p m)) (take n xs) (behind xs p n m none (omega (arith, up)) (let w : suc p ≤ suc (length xs) = within in omega (arith, w)))
+
+-- one that is taken out, and put back
+put-back : (xs : List Measured) (p : ℕ) → p < length xs → insert (remove xs p) p (get_or xs p Nothing) ≡ xs
+put-back xs p within = inserted-removed xs p (get_or xs p Nothing) within (get_or_default xs p Nothing (get_or xs p Nothing) within)
+
+-- one that takes the place of another
+with-other : (xs : List Measured) (p n : ℕ) (m : Measured) → bare (get_or xs p Nothing) ≡ bare m → LeadAlike (take n (set xs p m)) (take n xs)
+with-other xs p zero m same = the-same []
+with-other [] p (suc n) m same = the-same []
+with-other (x ∷ xs) zero (suc n) m same = one-other m x (take n xs) (sym same)
+with-other (x ∷ xs) (suc p) (suc n) m same = one-more x (take n (set xs p m)) (take n xs) (with-other xs p n m same)
+
+all-with-other : (xs : List Measured) (p : ℕ) (m : Measured) → bare (get_or xs p Nothing) ≡ bare m → LeadAlike (set xs p m) xs
+all-with-other [] p m same = the-same []
+all-with-other (x ∷ xs) zero m same = one-other m x xs (sym same)
+all-with-other (x ∷ xs) (suc p) m same = one-more x (set xs p m) xs (all-with-other xs p m same)
+
+other-there : (xs : List Measured) (p n : ℕ) (m : Measured) → bare (get_or xs p Nothing) ≡ bare m → bare (get_or (set xs p m) n Nothing) ≡ bare (get_or xs n Nothing)
+other-there [] p n m same = refl
+other-there (x ∷ xs) zero zero m same = sym same
+other-there (x ∷ xs) zero (suc n) m same = refl
+other-there (x ∷ xs) (suc p) zero m same = refl
+other-there (x ∷ xs) (suc p) (suc n) m same = other-there xs p n m same
+
+-- Where lines lie
+
+-- in this section at this offset
+at : (base : ℕ) (ends : ℕ → ℕ) → Sect → (x : ℕ) → Measured → LinePlace
+at base ends s x m = record { section = s; address = base_from base ends (section_number s) + x; size = size_at x m }
+
+-- behind these lines
+lying : (base : ℕ) (ends : ℕ → ℕ) → (lead : List Measured) → Measured → LinePlace
+lying base ends lead m =
+    let s = section_through Text lead in
+    at base ends s (offset_through (section_number s) Text 0 lead) m
+
+ends-alike : (xs ys : List Measured) → LeadAlike xs ys → section_end_of xs ≡ section_end_of ys
+ends-alike xs ys alike = λ i t. alike.offset t Text 0 i
+
+all-ends-alike : (xs ys : List Measured) → LeadAlike xs ys → ends_of xs ≡ ends_of ys
+all-ends-alike xs ys alike = λ i. record { section = alike.section Text i; offsets = by_section (ends-alike xs ys alike i) }
+
+module _ (base : ℕ) where
+  lies : (ms : List Measured) (n : ℕ) → place_by_shapes base ms (suc n) ≡ lying base (section_end_of ms) (take n ms) (get_or ms n Nothing)
+  unfolding at lying
+  lies ms n =
+      let back : suc n - 1 ≡ n = omega arith in
+      ap (λ k. lying base (section_end_of ms) (take k ms) (get_or ms k Nothing)) back
+
+  lying-alike : (xs ys first second : List Measured) (m n : Measured) → LeadAlike xs ys → LeadAlike first second → bare m ≡ bare n → lying base (section_end_of xs) first m ≡ lying base (section_end_of ys) second n
+  unfolding at lying
+  lying-alike xs ys first second m n all lead same =
+      let s = section_through Text first in
+      let t = section_through Text second in
+      let y = offset_through (section_number t) Text 0 second in
+      ap (λ ends. lying base ends first m) (ends-alike xs ys all)
+      ∙ ap (λ x. at base (section_end_of ys) s x m) (lead.offset (section_number s) Text 0)
+      ∙ ap (λ r. at base (section_end_of ys) r (offset_through (section_number r) Text 0 second) m) (lead.section Text)
+      ∙ (λ i. record { section = t; address = base_from base (section_end_of ys) (section_number t) + y; size = same-size m n same y i })
+
+  -- with one more that has no bytes
+  module _ (ms : List Measured) (p : ℕ) (m : Measured) (none : bare m ≡ Nothing) (within : p ≤ length ms) where
+    inserted-above : (n : ℕ) → n < p → place_by_shapes base (insert ms p m) (suc n) ≡ place_by_shapes base ms (suc n)
+    inserted-above n below =
+        let lead : take n (insert ms p m) ≡ take n ms = up-to ms p n m (omega (arith, below)) within in
+        lies (insert ms p m) n
+        ∙ ap (λ xs. lying base (section_end_of (insert ms p m)) xs (get_or (insert ms p m) n Nothing)) lead
+        ∙ ap (lying base (section_end_of (insert ms p m)) (take n ms)) (get_or-insert_below ms p m Nothing n below within)
+        ∙ lying-alike (insert ms p m) ms (take n ms) (take n ms) (get_or ms n Nothing) (get_or ms n Nothing) (with-one ms p m none) (the-same (take n ms)) refl
+        ∙ sym (lies ms n)
+
+    inserted-below : (n : ℕ) → p ≤ n → place_by_shapes base (insert ms p m) (suc (suc n)) ≡ place_by_shapes base ms (suc n)
+    inserted-below n up =
+        let next : suc n ≡ n + 1 = omega arith in
+        lies (insert ms p m) (suc n)
+        ∙ ap (λ k. lying base (section_end_of (insert ms p m)) (take (suc n) (insert ms p m)) (get_or (insert ms p m) k Nothing)) next
+        ∙ ap (lying base (section_end_of (insert ms p m)) (take (suc n) (insert ms p m))) (get_or-insert_above ms p m Nothing n up within)
+        ∙ lying-alike (insert ms p m) ms (take (suc n) (insert ms p m)) (take n ms) (get_or ms n Nothing) (get_or ms n Nothing) (with-one ms p m none) (behind ms p n m none up within) refl
+        ∙ sym (lies ms n)
+
+    -- where that lies
+    inserted-here : (line : List ℕ) (q : ℕ) → place_by_shapes base (insert ms p m) (suc p) ≡ place_put_in (Insert q line) (place_by_shapes base ms (suc p))
+    unfolding at lying
+    inserted-here line q =
+        let lead : take p (insert ms p m) ≡ take p ms = up-to ms p p m (omega arith) within in
+        lies (insert ms p m) p
+        ∙ ap (λ xs. lying base (section_end_of (insert ms p m)) xs (get_or (insert ms p m) p Nothing)) lead
+        ∙ ap (lying base (section_end_of (insert ms p m)) (take p ms)) (get_or-insert_at ms p m Nothing within)
+        ∙ lying-alike (insert ms p m) ms (take p ms) (take p ms) m Nothing (with-one ms p m none) (the-same (take p ms)) none
+        ∙ sym (ap (place_put_in (Insert q line)) (lies ms p))
+
+  set-each : (ms : List Measured) (p n : ℕ) (m : Measured) → bare (get_or ms p Nothing) ≡ bare m → place_by_shapes base (set ms p m) (suc n) ≡ place_by_shapes base ms (suc n)
+  set-each ms p n m same =
+      lies (set ms p m) n
+      ∙ lying-alike (set ms p m) ms (take n (set ms p m)) (take n ms) (get_or (set ms p m) n Nothing) (get_or ms n Nothing) (all-with-other ms p m same) (with-other ms p n m same) (other-there ms p n m same)
+      ∙ sym (lies ms n)
+
+  -- Edits
+
+  module _ (ms : List Measured) where
+    -- a line that stood
+    pub place-stood : (edit : Edit) (shape : Measured) (n j : ℕ) → MovesNone ms edit shape → HasPlace ms edit → line_before_edit edit (suc n) ≡ Some j → place_by_shapes base (edited_row ms edit shape) (suc n) ≡ place_by_shapes base ms j
+    place-stood (Insert place line) shape n j none has stood = from (insert_before place line (suc n) j stood)
+      where
+        from : ((suc n < place) × (j ≡ suc n)) ⊎ ((place < suc n) × (j ≡ suc n - 1)) → place_by_shapes base (insert ms (place - 1) shape) (suc n) ≡ place_by_shapes base ms j
+        from (inl (less, is)) =
+            inserted-above ms (place - 1) shape none.1 (omega (arith, none.0)) n (omega (arith, less))
+            ∙ ap (place_by_shapes base ms) (sym is)
+        from (inr (more, is)) =
+            let next : suc n ≡ suc (suc (n - 1)) = omega (arith, more, has.0) in
+            let here : suc (n - 1) ≡ j = omega (arith, more, has.0, is) in
+            ap (place_by_shapes base (insert ms (place - 1) shape)) next
+            ∙ inserted-below ms (place - 1) shape none.1 (omega (arith, none.0)) (n - 1) (omega (arith, more))
+            ∙ ap (place_by_shapes base ms) here
+    place-stood (Delete place) shape n j none has stood = from (delete_before place (suc n) j stood)
+      where
+        there : place - 1 < length ms
+        there = omega (arith, has.0, has.1)
+
+        gone : Measured
+        gone = get_or ms (place - 1) Nothing
+
+        left : List Measured
+        left = remove ms (place - 1)
+
+        room : place - 1 ≤ length left
+        room = omega (arith, there, length-remove ms (place - 1) there)
+
+        from : ((suc n < place) × (j ≡ suc n)) ⊎ ((place ≤ suc n) × (j ≡ suc n + 1)) → place_by_shapes base left (suc n) ≡ place_by_shapes base ms j
+        from (inl (less, is)) =
+            sym (inserted-above left (place - 1) gone none room n (omega (arith, less)))
+            ∙ ap (λ xs. place_by_shapes base xs (suc n)) (put-back ms (place - 1) there)
+            ∙ ap (place_by_shapes base ms) (sym is)
+        from (inr (more, is)) =
+            let next : suc (suc n) ≡ j = omega (arith, is) in
+            sym (inserted-below left (place - 1) gone none room n (omega (arith, more)))
+            ∙ ap (λ xs. place_by_shapes base xs (suc (suc n))) (put-back ms (place - 1) there)
+            ∙ ap (place_by_shapes base ms) next
+    place-stood (Replace place line) shape n j none has stood =
+        set-each ms (place - 1) n shape none ∙ ap (place_by_shapes base ms) (sym (replace_before place line (suc n) j stood).1)
+
+    -- the line that it puts in
+    pub place-new : (edit : Edit) (shape : Measured) (n : ℕ) → MovesNone ms edit shape → HasPlace ms edit → suc n ≡ place_of_edit edit → line_before_edit edit (suc n) ≡ None → place_by_shapes base (edited_row ms edit shape) (suc n) ≡ place_put_in edit (place_by_shapes base ms (suc n))
+    place-new (Insert place line) shape n none has here new =
+        let at : place - 1 ≡ n = omega (arith, here) in
+        rw (sym at) (inserted-here ms (place - 1) shape none.1 (omega (arith, none.0)) line place)
+    place-new (Delete place) shape n none has here new = absurd (deleted-stood place (ap (line_before_edit (Delete place)) (sym here) ∙ new))
+    place-new (Replace place line) shape n none has here new = set-each ms (place - 1) n shape none
+
+    -- the ends of the sections
+    pub ends-stay : (edit : Edit) (shape : Measured) → MovesNone ms edit shape → HasPlace ms edit → ends_of ms ≡ ends_of (edited_row ms edit shape)
+    ends-stay (Insert place line) shape none has = sym (all-ends-alike (insert ms (place - 1) shape) ms (with-one ms (place - 1) shape none.1))
+    ends-stay (Delete place) shape none has =
+        let gone = get_or ms (place - 1) Nothing in
+        sym (ap ends_of (put-back ms (place - 1) (omega (arith, has.0, has.1))))
+        ∙ all-ends-alike (insert (remove ms (place - 1)) (place - 1) gone) (remove ms (place - 1)) (with-one (remove ms (place - 1)) (place - 1) gone none)
+    ends-stay (Replace place line) shape none has = sym (all-ends-alike (set ms (place - 1) shape) ms (all-with-other ms (place - 1) shape none))
+
+    -- How many lines there are, and where each stood
+
+    abbrev edited_count : Edit → ℕ
+    edited_count (Insert place line) = length ms + 1
+    edited_count (Delete place) = length ms - 1
+    edited_count (Replace place line) = length ms
+
+    length-edited : {A : Type 0} (row : List A) (edit : Edit) (new : A) → length row ≡ length ms → HasPlace ms edit → length (edited_row row edit new) ≡ edited_count edit
+    length-edited row (Insert place line) new count has =
+        length-insert row (place - 1) new (omega (arith, count, has.0, has.1)) ∙ ap (λ n. n + 1) count
+    length-edited row (Delete place) new count has = let gone = length-remove row (place - 1) (omega (arith, count, has.0, has.1)) in omega (arith, gone, count)
+    length-edited row (Replace place line) new count has = length-set row (place - 1) new ∙ count
+
+    record Within (j : ℕ) : Type 0 where
+      first : 1 ≤ j
+      last : j ≤ length ms
+
+    stood-within : (edit : Edit) (i j : ℕ) → HasPlace ms edit → i < edited_count edit → line_before_edit edit (suc i) ≡ Some j → Within j
+    stood-within (Insert place line) i j has below stood = from (insert_before place line (suc i) j stood)
+      where
+        from : ((suc i < place) × (j ≡ suc i)) ⊎ ((place < suc i) × (j ≡ suc i - 1)) → Within j
+        from (inl (less, is)) = record { first = omega (arith, is); last = omega (arith, is, less, has.1) }
+        from (inr (more, is)) = let room : i < length ms + 1 = below in record { first = omega (arith, is, more, has.0); last = omega (arith, is, room) }
+    stood-within (Delete place) i j has below stood = from (delete_before place (suc i) j stood)
+      where
+        from : ((suc i < place) × (j ≡ suc i)) ⊎ ((place ≤ suc i) × (j ≡ suc i + 1)) → Within j
+        from (inl (less, is)) = record { first = omega (arith, is); last = omega (arith, is, less, has.1) }
+        from (inr (more, is)) = let room : i < length ms - 1 = below in record { first = omega (arith, is); last = omega (arith, is, room) }
+    stood-within (Replace place line) i j has below stood =
+        let is = (replace_before place line (suc i) j stood).1 in
+        let room : i < length ms = below in
+        record { first = omega (arith, is); last = omega (arith, is, room) }
+
+    pub place-within : (edit : Edit) (shape : Measured) → MovesNone ms edit shape → HasPlace ms edit → (1 ≤ place_of_edit edit) × (place_of_edit edit ≤ length ms)
+    place-within (Insert place line) shape none has = (has.0, none.0)
+    place-within (Delete place) shape none has = has
+    place-within (Replace place line) shape none has = has
+
+    -- The places of all lines
+
+    module _ (edit : Edit) (shape : Measured) (none : MovesNone ms edit shape) (has : HasPlace ms edit) where
+      abbrev pub lay : List LinePlace
+      lay = for_lines (place_by_shapes base ms) (length ms)
+
+      as_many : length lay ≡ length ms
+      as_many = length-for_lines (place_by_shapes base ms) (length ms)
+
+      lay-at : (i : ℕ) (other : LinePlace) → i < length ms → get_or lay i other ≡ place_by_shapes base ms (suc i)
+      lay-at i other within = at-for_lines (place_by_shapes base ms) (length ms) i other within
+
+      module _ (new : LinePlace) (is : new ≡ place_put_in edit (get_or lay (place_of_edit edit - 1) new)) where
+        place-each : (i : ℕ) → i < edited_count edit → get_or (edited_row lay edit new) i new ≡ place_by_shapes base (edited_row ms edit shape) (suc i)
+        place-each i below = from (line_before_edit edit (suc i)) refl
+          where
+            from : (stood : Option ℕ) → line_before_edit edit (suc i) ≡ stood → get_or (edited_row lay edit new) i new ≡ place_by_shapes base (edited_row ms edit shape) (suc i)
+            from None e =
+                let here : suc i ≡ place_of_edit edit = new-place edit (suc i) e in
+                let there : i ≡ place_of_edit edit - 1 = omega (arith, here) in
+                let back : suc (place_of_edit edit - 1) ≡ suc i = omega (arith, here) in
+                let stands = ap (line_before_edit edit) (sym here) ∙ e in
+                ap (λ n. get_or (edited_row lay edit new) n new) there
+                ∙ former-new lay ms edit new new as_many has stands
+                ∙ is
+                ∙ ap (place_put_in edit) (lay-at (place_of_edit edit - 1) new (let within = place-within edit shape none has in omega (arith, within.0, within.1)) ∙ ap (place_by_shapes base ms) back)
+                ∙ sym (place-new edit shape i none has here e)
+            from (Some j) e =
+                let within = stood-within edit i j has below e in
+                let there : i ≡ suc i - 1 = omega arith in
+                let back : suc (j - 1) ≡ j = omega (arith, within.first) in
+                ap (λ n. get_or (edited_row lay edit new) n new) there
+                ∙ former-at lay ms edit new (suc i) j new as_many has (omega arith) e
+                ∙ lay-at (j - 1) new (omega (arith, within.first, within.last))
+                ∙ ap (place_by_shapes base ms) back
+                ∙ sym (place-stood edit shape i j none has e)
+
+        pub places-stay : edited_row lay edit new ≡ for_lines (place_by_shapes base (edited_row ms edit shape)) (length (edited_row ms edit shape))
+        places-stay =
+            let after = edited_row ms edit shape in
+            let count = length-edited lay edit new as_many has in
+            let total = length-edited ms edit shape refl has in
+            ext_get_or new (edited_row lay edit new) (for_lines (place_by_shapes base after) (length after))
+            (count ∙ sym (length-for_lines (place_by_shapes base after) (length after) ∙ total))
+            (λ i below.
+            place-each i (subst (λ n. i < n) count below)
+            ∙ sym (at-for_lines (place_by_shapes base after) (length after) i new (subst (λ n. i < n) (count ∙ sym total) below)))
