@@ -1,18 +1,11 @@
 -- Lists in which other items stand in the place of some, item by item.
-use Rattle.std.proofs.Common.{◌≡◌, ℕ, zero, suc, ◌+◌, ◌-◌, ◌<◌, ◌≤◌, Bool, true, false, List, [], ◌∷◌, ◌++◌, length, take, drop, min, refl, ap, sym, ◌∙◌, arith, append_assoc, length-append, length-drop, add-one, add-zero, subst, true≢false, Option, Some, None, slice_get}
+use Rattle.std.proofs.Common.{◌≡◌, ℕ, zero, suc, ◌+◌, ◌-◌, ◌<◌, ◌≤◌, Bool, true, false, List, [], ◌∷◌, ◌++◌, length, take, drop, refl, ap, sym, ◌∙◌, arith, add-one, add-zero, subst, true≢false, Option, Some, None, slice_get}
 use Rattle.std.proofs.lemmas.Bool.Decides.{nat_tests}
-use Rattle.std.specs.Prelude.{insert, remove, set, map, ◌==◌, if◌then◌else◌}
-use Rattle.std.proofs.lemmas.List.{take-append-drop, append-nil, drop-drop, map-append, take-map, drop-map, length-take-le, take_all}
-use Rattle.rv_program.specs.Text.{Text}
+use Rattle.std.specs.Prelude.{insert, remove, set, ◌==◌, if◌then◌else◌}
+use Rattle.std.proofs.lemmas.List.{drop-drop}
 use Rattle.rv_doc.specs.Edits.{spliced}
-use Rattle.rv_doc.specs.Positions.{lines_of}
-use Rattle.rv_changes.specs.Assembled.{assembled, assembled_line, assembled_lines}
 
 -- One item after another
-
--- none are left
-pub spliced_none : {A : Type 0} (xs : List A) (first : ℕ) → spliced xs first 0 [] ≡ xs
-spliced_none xs first = rw (add-zero first) (take-append-drop first xs)
 
 removed : {A : Type 0} (xs : List A) (first n : ℕ) → first < length xs → take first (remove xs first) ++ drop n (drop first (remove xs first)) ≡ take first xs ++ drop (suc n) (drop first xs)
 removed [] first n lt = absurd (omega arith)

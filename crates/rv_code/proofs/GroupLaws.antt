@@ -111,17 +111,6 @@ pub record IsCodeFor (w : ℕ) (c : Code) : Type 0 where
   pub mask : c.2 ≡ mask_of c.0
   pub size : is_full c.0 ≡ false → w < 2 ^ 16
 
-pub is_code_for-true : (w : ℕ) (c : Code) → is_code_for w c ≡ true → IsCodeFor w c
-is_code_for-true w c e =
-    let size = is_full c.0 || ltb w (2 ^ 16) in
-    let parts = and_parts (nat_eq c.1 (fixed_of c.0)) (nat_eq c.2 (mask_of c.0) && size) e in
-    let more = and_parts (nat_eq c.2 (mask_of c.0)) size parts.1 in
-    record {
-      fixed = eqb-true _ _ parts.0;
-      mask = eqb-true _ _ more.0;
-      size = λ half. ltb-true w (2 ^ 16) (ap (λ full. full || ltb w (2 ^ 16)) (sym half) ∙ more.1);
-    }
-
 of_size : (fixed mask full v w : Bool) → (v ≡ true → w ≡ true) → (fixed && (mask && (full || v))) ≡ true → (fixed && (mask && (full || w))) ≡ true
 of_size true true true v w h e = refl
 of_size true true false v w h e = h e

@@ -1,5 +1,5 @@
 -- How great the number of a line can be.
-use Rattle.std.proofs.Common.{◌≡◌, ℕ, ◌^◌, ◌<◌, ◌≤◌, true, false, Bool, nat_lt, List, [], ◌∷◌, length, arith, refl, Some, None, ℤ, pos}
+use Rattle.std.proofs.Common.{◌≡◌, ℕ, ◌^◌, ◌<◌, ◌≤◌, true, false, Bool, nat_lt, List, [], ◌∷◌, length, arith, refl, Some, ℤ, pos}
 use Rattle.std.specs.Option.{option_map}
 use Rattle.std.specs.Char.{is_digit}
 use Rattle.std.specs.List.{list_all}
@@ -30,8 +30,3 @@ place_spelled (c ∷ cs) z few e = by_test (list_all (λ b. is_digit b 10) (c �
   by_test false low a b = absurd (grind (arith, common_steps, e, a, b))
   by_test true false a b = absurd (grind (arith, common_steps, e, a, b))
   by_test true true a b = (digits_value 10 (c ∷ cs), grind (arith, common_steps, e, a, b), place_fits (c ∷ cs) a few, grind (arith, common_steps, nat_tests, a, b, few))
-
--- where it spells none, there is none
-pub place_none : (cs : List ℕ) → option_map pos (digits_number 10 cs) ≡ None → place_of cs ≡ None
-place_none [] e = grind (arith, common_steps)
-place_none (c ∷ cs) e = grind (arith, common_steps, e)

@@ -1,9 +1,9 @@
 -- Rows of lines that are counted.
-use Rattle.std.proofs.Common.{◌≡◌, ℕ, suc, ◌+◌, ◌-◌, ◌<◌, ◌==◌, nat_lt, Bool, true, false, not, List, [], ◌∷◌, length, take, drop, min, filter, if◌then◌else◌, refl, ap, sym, ◌∙◌, arith}
+use Rattle.std.proofs.Common.{◌≡◌, ℕ, suc, ◌+◌, ◌-◌, ◌<◌, nat_lt, Bool, true, false, List, [], ◌∷◌, length, take, drop, min, filter, if◌then◌else◌, refl, ap, sym, ◌∙◌, arith}
 use Rattle.std.proofs.lemmas.Bool.Decides.{nat_tests}
 use Rattle.rv_list.specs.Joined.{joined}
 use Rattle.rv_list.specs.JoinedLaws.{length_of_more}
-use Rattle.rv_diagnostics.specs.Published.{are_lines, is_long, long_count}
+use Rattle.rv_diagnostics.specs.Published.{is_long, long_count}
 
 -- Rows before a line
 
@@ -72,9 +72,3 @@ dropped_one limit k line later lines all lt is was =
 -- all of them are
 pub dropped_all : {A : Type 0} (n : ℕ) (lines all : List A) → n ≡ 0 → drop n lines ≡ all → lines ≡ all
 dropped_all n lines all none was = sym (ap (λ i. drop i lines) none) ∙ was
-
-pub last_line : (line : List ℕ) (later lines : List (List ℕ)) → lines ≡ line ∷ later → later ≡ [] → are_lines lines ≡ not (length line == 0)
-last_line line later lines is none = ap are_lines (is ∙ ap (λ l. line ∷ l) none)
-
-pub other_line : (line next : List ℕ) (later lines rest : List (List ℕ)) → lines ≡ line ∷ later → later ≡ next ∷ rest → are_lines lines ≡ true
-other_line line next later lines rest is more = ap are_lines (is ∙ ap (λ l. line ∷ l) more)

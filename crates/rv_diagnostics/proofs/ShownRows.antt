@@ -1,5 +1,5 @@
 -- Diagnostics that a window shows, written one after another.
-use Rattle.std.proofs.Common.{◌≡◌, ℕ, zero, suc, ◌+◌, ◌-◌, ◌<◌, ◌≤◌, Bool, true, false, List, [], ◌∷◌, ◌++◌, length, take, drop, map, if◌then◌else◌, refl, ap, sym, ◌∙◌, arith}
+use Rattle.std.proofs.Common.{◌≡◌, ℕ, suc, ◌+◌, ◌-◌, ◌<◌, ◌≤◌, Bool, true, false, List, [], ◌∷◌, ◌++◌, length, take, drop, map, if◌then◌else◌, ap, sym, ◌∙◌, arith}
 use Rattle.std.specs.Prelude.{Option, Some, None}
 use Rattle.std.specs.List.{flat_map}
 use Rattle.std.proofs.lemmas.List.{append-nil, drop-map, length-map, take-map}
@@ -19,7 +19,7 @@ use Rattle.rv_diagnostics.specs.Diagnostics.{fault_diagnostic, long_line, warnin
 use Rattle.rv_doc.specs.declared.window.Window.{Window}
 use Rattle.rv_diagnostics.specs.Published.{is_long, line_diagnostic, line_diagnostics, long_lines, optional, shown_in, warning_diagnostics}
 use Rattle.rv_doc.specs.Windows.{passed, shows, windowed}
-use Rattle.rv_diagnostics.proofs.WindowLaws.{alike, passed_more, passed_none, windowed_both, windowed_nil, windowed_one, written_both}
+use Rattle.rv_diagnostics.proofs.WindowLaws.{passed_more, passed_none, windowed_both, windowed_nil, windowed_one, written_both}
 
 -- No rows, and one row
 
@@ -76,31 +76,7 @@ shown_all rows w v k n within rest none =
     ∙ ap (shown_in w) more.whole
     ∙ ap (flat_map (λ tokens. tokens)) (windowed_both w (joined rows k) more.later ∙ ap (λ l. windowed w (joined rows k) ++ l) nothing ∙ append-nil (windowed w (joined rows k))))
 
-drop_all : {A : Type 0} (n : ℕ) (xs : List A) → length xs ≤ n → drop n xs ≡ []
-drop_all zero [] few = refl
-drop_all (suc n) [] few = refl
-drop_all zero (x ∷ xs) few = absurd (omega (arith, few))
-drop_all (suc n) (x ∷ xs) few = drop_all n xs (omega (arith, few))
-
-take_nothing : {A : Type 0} (n : ℕ) (xs : List A) → xs ≡ [] → take n xs ≡ []
-take_nothing zero xs none = refl
-take_nothing (suc n) xs none = ap (take (suc n)) none
-
--- rows that a window skips
-pub all_skipped : (w : Window) (rows : List (List Token)) (old : List Token) → length rows ≤ w.skipped → old ≡ old ++ shown_in w rows
-all_skipped w rows old few =
-    sym (ap (λ (l : List (List Token)). old ++ flat_map (λ tokens. tokens) l) (take_nothing w.most (drop w.skipped rows) (drop_all w.skipped rows few)) ∙ append-nil old)
-
-pub skipped_passed : (w v : Window) (count : ℕ) → count ≤ w.skipped → v.skipped ≡ w.skipped - count → v.most ≡ w.most → v ≡ passed w count
-skipped_passed w v count few less same = alike v (passed w count) less (same ∙ (let none : w.most ≡ w.most - (count - w.skipped) = omega (arith, few) in none))
-
 -- Lines that are too long
-
-pub long_here : (encoding : Encoding) (number : ℕ) (line : List ℕ) → true ≡ is_long line → long_lines encoding number (line ∷ []) ≡ long_line encoding number line ∷ []
-long_here encoding number line is = ap (λ b. (if b then long_line encoding number line ∷ [] else []) ++ []) (sym is)
-
-pub none_long : (encoding : Encoding) (number : ℕ) (line : List ℕ) → false ≡ is_long line → long_lines encoding number (line ∷ []) ≡ []
-none_long encoding number line is = ap (λ b. (if b then long_line encoding number line ∷ [] else []) ++ []) (sym is)
 
 long_both : (encoding : Encoding) (k : ℕ) (line : List ℕ) (later : List (List ℕ)) → long_lines encoding k (line ∷ []) ++ long_lines encoding (k + 1) later ≡ long_lines encoding k (line ∷ later)
 long_both encoding k line later = ap (λ l. l ++ long_lines encoding (k + 1) later) (append-nil (if is_long line then long_line encoding k line ∷ [] else []))
@@ -114,11 +90,6 @@ long_written encoding limit k w v line later lines old new all lt is now rest wa
     ∙ ap (λ l. old ++ shown_in w l) (long_both encoding k line (take n later))
     ∙ sym (ap (λ i. old ++ shown_in w (long_lines encoding k (take i lines))) more ∙ ap (λ l. old ++ shown_in w (long_lines encoding k (take (suc n) l))) is)
     ∙ was
-
--- no line is left
-pub long_last : (encoding : Encoding) (n k : ℕ) (w : Window) (lines : List (List ℕ)) (old all : List Token) → lines ≡ [] → old ++ shown_in w (long_lines encoding k (take n lines)) ≡ all → old ≡ all
-long_last encoding n k w lines old all none was =
-    shown_none w old ∙ sym (ap (λ l. old ++ shown_in w (long_lines encoding k l)) (take_nothing n lines none)) ∙ was
 
 pub long_end : (encoding : Encoding) (n k : ℕ) (w : Window) (lines : List (List ℕ)) (old all : List Token) → n ≡ 0 → old ++ shown_in w (long_lines encoding k (take n lines)) ≡ all → old ≡ all
 long_end encoding n k w lines old all none was =

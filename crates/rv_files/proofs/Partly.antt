@@ -1,6 +1,5 @@
 -- A text that is written piece by piece.
 use Rattle.std.proofs.Common.{◌≡◌, ℕ, List, [], ◌++◌, refl, sym, ◌∙◌, append_assoc}
-use Rattle.std.proofs.lemmas.List.{append-nil}
 use Rattle.std.specs.Prelude.{Option}
 use Rattle.rv_text.specs.Streams.{after, WritesPrefix}
 use Rattle.rv_text.specs.StreamLaws.{after_after, after_none, prefix_within, prefix_last}
@@ -30,7 +29,3 @@ partly_lost old now new text piece rest p w =
 -- a write fails within what is left
 pub partly_lost_last : (old now new : Option (List ℕ)) (text piece : List ℕ) → Partly old text now piece → WritesPrefix now piece new → WritesPrefix old text new
 partly_lost_last old now new text piece p w = prefix_last old now new p.done piece text p.whole p.taken w
-
--- nothing is left
-pub partly_end : (old now : Option (List ℕ)) (text : List ℕ) → Partly old text now [] → now ≡ after old text
-partly_end old now text p = rw (p.whole, append-nil p.done) p.taken

@@ -1,6 +1,6 @@
 -- The reports of a text: those of the faults of all lines, and then those of the warnings about them. The first ones are shown, and how
 -- many there are.
-use Rattle.std.specs.Prelude.{ℕ, ◌+◌, ◌/◌, min, max, Bool, List, [], ◌∷◌, ◌++◌, length, map, take, Option, Some, None, Result, Ok, Err, if◌then◌else◌}
+use Rattle.std.specs.Prelude.{ℕ, ◌+◌, min, Bool, List, [], ◌∷◌, ◌++◌, length, map, take, Option, Some, None, Result, Ok, Err, if◌then◌else◌}
 use Rattle.std.specs.List.{concat}
 use Rattle.rv_fix.specs.Values.{operand_values_of}
 use Rattle.rv_list.specs.Faults.{fault_rows}

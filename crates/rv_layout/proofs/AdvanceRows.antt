@@ -26,12 +26,6 @@ both_to-zero [] ys = refl
 both_to-zero (x ∷ xs) [] = refl
 both_to-zero (x ∷ xs) (y ∷ ys) = refl
 
-pub both_to-here : (i : ℕ) (xs ys : List Advance) (d : Advance) → get_or (both_to i xs ys) i d ≡ get_or xs i d
-both_to-here i [] ys d = refl
-both_to-here i (x ∷ xs) [] d = refl
-both_to-here zero (x ∷ xs) (y ∷ ys) d = refl
-both_to-here (suc i) (x ∷ xs) (y ∷ ys) d = both_to-here i xs ys d
-
 both_to-suc : (i : ℕ) (xs ys : List Advance) (d : Advance) → length xs ≡ length ys → set (both_to i xs ys) i (then_advance (get_or xs i d) (get_or ys i d)) ≡ both_to (suc i) xs ys
 both_to-suc i [] ys d e = refl
 both_to-suc i (x ∷ xs) [] d e = absurd (omega (arith, e))

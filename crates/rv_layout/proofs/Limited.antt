@@ -1,6 +1,6 @@
 -- Shapes are within the limits, and a size operand is an operand.
 use Rattle.std.proofs.Common.{◌≡◌, ℕ, ℤ, ◌≤◌, ◌^◌, Bool, true, false, List, [], ◌∷◌, suc, length, Option, Some, None, Result, Ok, Err, leb, if◌then◌else◌, arith, refl}
-use Rattle.std.specs.Prelude.{pos, negsuc, ◌&&◌, int_le}
+use Rattle.std.specs.Prelude.{pos, negsuc, ◌&&◌}
 use Rattle.std.specs.Ordering.{int_eq}
 use Rattle.std.proofs.lemmas.Bool.{leb-true, and_parts}
 use Rattle.rv_text.specs.declared.faults.Fault.{Fault}

@@ -1,5 +1,5 @@
 -- Where the lines of a text lie, by their shapes. (docs/LANGUAGE.md, Layout)
-use Rattle.std.specs.Prelude.{◌≡◌, ◌%◌, ℕ, zero, suc, ◌+◌, ◌-◌, ◌^◌, ◌≤◌, ◌==◌, ◌&&◌, nat_le, Bool, List, [], ◌∷◌, take, get_or, if◌then◌else◌}
+use Rattle.std.specs.Prelude.{◌%◌, ℕ, zero, suc, ◌+◌, ◌-◌, ◌^◌, ◌≤◌, ◌==◌, ◌&&◌, nat_le, Bool, List, [], ◌∷◌, take, get_or, if◌then◌else◌}
 use Rattle.rv_stmt.specs.declared.section.Sect.{Sect}
 use Rattle.rv_stmt.specs.declared.section.Sect.TheVariants.{Text}
 use Rattle.rv_layout.specs.declared.measured.Measured.{Measured}

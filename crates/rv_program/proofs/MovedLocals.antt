@@ -33,9 +33,6 @@ pub beyond-numbers : (k : ℕ) (labels : List Label) → numbers_end labels ≤ 
 beyond-numbers k [] behind = refl
 beyond-numbers k (l ∷ ls) behind = or_from _ _ (local-below k l.name (omega (arith, behind))) (beyond-numbers k ls (omega (arith, behind)))
 
-nothing-after : (edit : Edit) → row_after edit false [] ≡ []
-nothing-after edit = refl
-
 pub row-of-none : (edit : Edit) (k : ℕ) (labels : List Label) (rows : List (List ℕ)) → length rows ≤ k → among_local k labels ≡ false → row_after edit (among_local k labels) (get_or rows k []) ≡ []
 row-of-none edit k labels rows past none =
     ap (λ b. row_after edit b (get_or rows k [])) none ∙ ap (row_after edit false) (get_or_past rows k [] past)

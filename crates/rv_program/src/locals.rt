@@ -211,7 +211,9 @@ impl Locals {
     /// From which line on `f` may name the line `end`, which is behind all others and has these labels: each line before that finds each
     /// local one of them before the end. It is the end itself where none of them is local.
     pub fn reach(&self, mut labels: LabelSlice<'_>, end: u32) -> u32
-        ensures { (number i : ℕ) → among_local number labels.entry ≡ true → i < result → is_some (local_line_in self.now i number Forward) ≡ true }
+        ensures found { (number i : ℕ) → among_local number labels.entry ≡ true → i < result → is_some (local_line_in self.now i number Forward) ≡ true }
+        ensures within { result ≤ end }
+        ensures none { ((number : ℕ) → among_local number labels.entry ≡ false) → result ≡ end }
     {
         let mut first = end;
         'labels: while let Some((label, rest)) = labels.split_first() {

@@ -1,9 +1,8 @@
 -- One step along a line.
-use Rattle.std.proofs.Common.{◌≡◌, ℕ, ◌+◌, ◌-◌, ◌<◌, ◌≤◌, List, [], ◌∷◌, length, drop, Some, None, refl, ◌∙◌, arith, length-drop}
+use Rattle.std.proofs.Common.{◌≡◌, ℕ, ◌+◌, ◌-◌, ◌<◌, ◌≤◌, List, ◌∷◌, length, drop, refl, ◌∙◌, arith, length-drop}
 use Rattle.std.proofs.lemmas.List.{drop_more, drop-drop}
-use Rattle.rv_text.specs.declared.faults.FaultNumber.{FaultNumber}
 use Rattle.rv_text.specs.declared.lexeme.TokenKind.{TokenKind}
-use Rattle.rv_text.specs.declared.lexeme.Prefix.TheVariants.{Whitespace, Comment, Lexeme, Wrong}
+use Rattle.rv_text.specs.declared.lexeme.Prefix.TheVariants.{Whitespace, Lexeme}
 use Rattle.rv_text.specs.Lexing.{tokens_from, with_rest, prefix}
 use Rattle.rv_text.specs.TokenLaws.{tokens_from-taken}
 
@@ -18,15 +17,9 @@ module _ (line : List ℕ) (at : ℕ) (within : at < length line) where
   pub at_whitespace : prefix (drop at line) ≡ Whitespace → tokens_from at 0 (drop at line) ≡ tokens_from (at + 1) 0 (drop (at + 1) line)
   at_whitespace e = lexed_at ∙ rw e refl
 
-  pub at_comment : prefix (drop at line) ≡ Comment → tokens_from at 0 (drop at line) ≡ record { tokens = []; fault = None }
-  at_comment e = lexed_at ∙ rw e refl
-
   pub at_lexeme : (kind : TokenKind) (n : ℕ) → prefix (drop at line) ≡ Lexeme kind n → 1 ≤ n → at + n ≤ length line → tokens_from at 0 (drop at line) ≡ record { tokens = record { kind = kind; span = record { from = at; to = at + n } } ∷ (tokens_from (at + n) 0 (drop (at + n) line)).tokens; fault = (tokens_from (at + n) 0 (drop (at + n) line)).fault }
   at_lexeme kind n e one fits =
       let place : at + 1 + (n - 1) ≡ at + n = omega arith in
       let taken = tokens_from-taken (at + 1) (n - 1) (drop (at + 1) line) (rw length-drop (omega arith)) in
       let rest = rw (place, drop-drop (n - 1) (at + 1) line, place) at taken in
       lexed_at ∙ rw (e, rest) refl
-
-  pub at_wrong : (number : FaultNumber) (n : ℕ) → prefix (drop at line) ≡ Wrong number n → tokens_from at 0 (drop at line) ≡ record { tokens = []; fault = Some (record { number = number; span = record { from = at; to = at + n } }) }
-  at_wrong number n e = lexed_at ∙ rw e refl

@@ -1,5 +1,5 @@
 -- The row of local labels: how it grows by a line, and that it tells the line of a local label.
-use Rattle.std.proofs.Common.{◌≡◌, ℕ, zero, suc, ◌+◌, ◌-◌, nat_le, nat_lt, ◌||◌, is_some, ◌<◌, ◌≤◌, Bool, true, false, List, [], ◌∷◌, ◌++◌, length, length-append, take, drop, get_or, slice_get, Option, Some, None, if◌then◌else◌, ◌⊎◌, inl, inr, arith, ap, sym, ◌∙◌, refl, subst}
+use Rattle.std.proofs.Common.{◌≡◌, ℕ, zero, suc, ◌+◌, ◌-◌, nat_le, nat_lt, is_some, ◌<◌, ◌≤◌, Bool, true, false, List, [], ◌∷◌, ◌++◌, length, length-append, take, drop, get_or, slice_get, Option, Some, None, if◌then◌else◌, ◌⊎◌, inl, inr, arith, ap, sym, ◌∙◌, refl, subst}
 use Rattle.std.specs.List.{AllWithin}
 use Rattle.std.specs.List.Sorted.{IsNonDecreasing, IsPartitionPoint}
 use Rattle.std.specs.Option.{option_or, unwrap_or}
@@ -85,12 +85,6 @@ below-each line (x ∷ xs) k d within = at (nat_lt x line) refl k within (below-
 pub rising-pushed : (line : ℕ) (xs : List ℕ) → IsNonDecreasing (lines_below line xs) → IsNonDecreasing (lines_below line xs ++ line ∷ [])
 rising-pushed line xs up =
     IsNonDecreasingBy-push (λ x. x) (lines_below line xs) line up (λ d some. let last = below-each line xs (length (lines_below line xs) - 1) d (omega (arith, some)) in omega (arith, last))
-
--- put behind them twice it stands there once
-pub last-again : (line : ℕ) (here again : Bool) (xs : List ℕ) → with_last line again (with_last line here xs) ≡ with_last line (here || again) xs
-last-again line true true xs = ap (λ ls. ls ++ line ∷ []) (below-last line true xs)
-last-again line true false xs = refl
-last-again line false again xs = refl
 
 below-kept : (b : Bool) (line l : ℕ) → l < line → lines_below line (if b then l ∷ [] else []) ≡ (if b then l ∷ [] else [])
 below-kept true line l before = ap (λ c. if c then l ∷ [] else []) (lt-ltb l line before)

@@ -1,9 +1,8 @@
-use Rattle.std.proofs.Common.{◌≡◌, map, Some, ap, ◌∙◌}
-use Rattle.std.specs.List.{flat_map}
+use Rattle.std.proofs.Common.{◌≡◌, ap, ◌∙◌}
 use Rattle.rv_list.specs.Faults.{faults_of, found}
 use Rattle.rv_list.specs.FoundFaults.{all_found}
 use Rattle.rv_list.specs.Shown.{shown_line}
-use Rattle.rv_files.specs.OddAddresses.{own_report, reported_faults}
+use Rattle.rv_files.specs.OddAddresses.{reported_faults}
 use Rattle.rv_files.proofs.odd_addresses.find_reported.Goals as goal
 
 pub returns-clause-faults : goal.returns-clause-faults

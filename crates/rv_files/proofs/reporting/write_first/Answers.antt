@@ -1,4 +1,4 @@
-use Rattle.std.proofs.Common.{◌≡◌, ◌-◌, List, ℕ, [], map, take, true, if◌then◌else◌, arith}
+use Rattle.std.proofs.Common.{◌≡◌, ◌-◌, [], map, take, true, if◌then◌else◌, arith}
 use Rattle.std.specs.List.{concat}
 use Rattle.std.proofs.lemmas.Result.{err_from_is_err_and}
 use Rattle.rv_text.specs.StreamLaws.{prefix_first, writes_then}

@@ -67,7 +67,7 @@ pub adds_apart-requires-clause-locals : goal.adds_apart-requires-clause-locals
 adds_apart-requires-clause-locals c = subst (λ ls. FindsLocals (program_of ls) (statement_of c.args.line.now) c.reach-from.result) (sym c.as_slice-2.ensures) (λ number i has within before.
     let lines = c.args.survey.now.lines.items in
     subst (λ o. is_some o ≡ true) (local_line-row (program_of lines) c.args.survey.now.locals i number Forward c.requires.locals within)
-    (c.reach-from.ensures number i (ap (among_local number) (c.as_slice.ensures ∙ ap (λ t. t.labels) c.stmt.ensures) ∙ has) before))
+    (c.reach-from.ensures.found number i (ap (among_local number) (c.as_slice.ensures ∙ ap (λ t. t.labels) c.stmt.ensures) ∙ has) before))
 
 pub returns : goal.returns
 returns c =
