@@ -2,7 +2,7 @@
 use Rattle.std.proofs.Common.{◌≡◌, ℕ, zero, suc, ◌+◌, ◌-◌, ◌^◌, ◌<◌, ◌≤◌, ◌==◌, true, List, [], ◌∷◌, ◌++◌, length, take, get_or, set, slice_index, if◌then◌else◌, arith, ap, sym, ◌∙◌, refl, subst, ◌⊎◌, inl, inr}
 use Rattle.std.proofs.lemmas.Bool.{cases_eq, eq-eqb, ne_eqb}
 use Rattle.std.proofs.lemmas.Grind.{same_number_lists}
-use Rattle.std.proofs.lemmas.List.{take_more, get_or_default, get_or-set_same, get_or-set_other, length-set}
+use Rattle.std.proofs.lemmas.List.{take_more, get_or_default, get_or-set_same, get_or-set_other, length-append, length-set}
 use Rattle.std.proofs.lemmas.List.FromFn.{length-map-range_with_len}
 use Rattle.rv_text.specs.declared.faults.Fault.{Fault}
 use Rattle.rv_stmt.specs.declared.section.Sect.{Sect}
@@ -17,7 +17,8 @@ use Rattle.rv_layout.specs.PlaceLaws.{part_within, ends_together, number_below}
 use Rattle.rv_store.specs.declared.ends.Ends.{Ends}
 use Rattle.rv_store.specs.declared.places.Reached.{Reached}
 use Rattle.rv_list.specs.declared.view.LinePlace.{LinePlace}
-use Rattle.rv_store.specs.internal.Ends.{by_section, ends_of, ends_at, base_by_ends, next_offset, ends_after, next_place, place_by_shapes, AreBases}
+use Rattle.rv_store.specs.internal.Ends.{by_section, ends_of, ends_at, base_by_ends, next_offset, ends_after, next_place, place_by_shapes, AreBases, IsReached, ArePlaced}
+use Rattle.rv_program.specs.Program.{for_lines}
 use Rattle.rv_store.proofs.EndBases.{at-number, base-ends}
 
 -- Limits
@@ -171,3 +172,46 @@ next_place-fits base ms i bases based few limited are =
     let fits = base_from-fits base (section_end_of ms) t sections (number_below s) (omega arith) (base-bound base based) enough in
     let begins = are t (number_below s) in
     record { address = omega (arith, x, part, fits, begins); short = next-short ms i few limited }
+
+-- One line more
+
+module _ (ms : List Measured) (r q : Reached) (i : ℕ) (m : Measured) (row row' : List LinePlace) (size : ℕ) (is : m ≡ get_or ms i m) (within : i < length ms) (few : length ms ≤ 16384) (limited : AreLimited ms) (reached : IsReached ms i r) (count : length row ≡ i) where
+  pub reached-next : ends_at q ≡ ends_after (ends_at r) m → IsReached ms (i + 1) q
+  reached-next after =
+      after ∙ ap (λ e. ends_after e m) reached ∙ sym (ap ends_of (take-next ms i m within is) ∙ ends_of-push (take i ms) m)
+
+  pub placed-next : (base : ℕ) (bases : List ℕ) → r.base ≡ slice_index bases (section_number r.ends.section) → length r.ends.offsets ≡ sections → size ≡ size_at (next_offset (ends_at r)) m → row' ≡ row ++ record { section = r.ends.section; address = wrap (r.base + r.offset); size = size } ∷ [] → ArePlaced base bases ms row → ArePlaced base bases ms row'
+  placed-next base bases begins many sized pushed placed = λ based are.
+      let next : suc i ≡ i + 1 = omega arith in
+      let fits = subst (PlaceFits bases) (sym reached) (next_place-fits base ms i bases based few limited are) in
+      let more : length row' ≡ suc i = ap length pushed ∙ length-append row (record { section = r.ends.section; address = wrap (r.base + r.offset); size = size } ∷ []) ∙ omega (arith, count) in
+      pushed
+      ∙ ap (λ row. row ++ record { section = r.ends.section; address = wrap (r.base + r.offset); size = size } ∷ []) (placed based are ∙ ap (for_lines (place_by_shapes base ms)) count)
+      ∙ ap (λ p. for_lines (place_by_shapes base ms) i ++ p ∷ [])
+      (place-apart r many bases m size begins fits.address sized
+      ∙ ap (λ e. next_place bases e m) reached
+      ∙ next_place-is base ms i m bases are (next-is ms i m within is))
+      ∙ ap (for_lines (place_by_shapes base ms)) (sym more)
+
+-- A line of so many bytes, or none, that switches no section
+
+abbrev pub IsPlain : (m : Measured) → (size : ℕ) → Type 0
+IsPlain m size = (m ≡ Bytes size) ⊎ (((m ≡ Nothing) ⊎ ((fault : Fault) × (m ≡ Faulty fault))) × (size ≡ 0))
+
+no-size : (x : ℕ) (m : Measured) → (m ≡ Nothing) ⊎ ((fault : Fault) × (m ≡ Faulty fault)) → size_at x m ≡ 0
+no-size x m (inl is) = ap (size_at x) is
+no-size x m (inr (fault, is)) = ap (size_at x) is
+
+pub plain-size : (x : ℕ) (m : Measured) (size : ℕ) → IsPlain m size → size ≡ size_at x m
+plain-size x m size (inl is) = sym (ap (size_at x) is)
+plain-size x m size (inr (is, none)) = none ∙ sym (no-size x m is)
+
+pub plain-few : (m : Measured) (size : ℕ) → IsPlain m size → IsLimited m → size ≤ 65536
+plain-few m size (inl is) limited = subst IsLimited is limited
+plain-few m size (inr (is, none)) limited = omega (arith, none)
+
+pub plain-on : (r : Reached) → length r.ends.offsets ≡ sections → (m : Measured) (size : ℕ) → IsPlain m size → ends_at (record { ends = r.ends; base = r.base; offset = r.offset + size }) ≡ ends_after (ends_at r) m
+plain-on r count m size (inl is) = bytes-on r count size ∙ ap (ends_after (ends_at r)) (sym is)
+plain-on r count m size (inr (is, none)) =
+    let same : r.offset + size ≡ r.offset = omega (arith, none) in
+    ap (λ x. ends_at (record { ends = r.ends; base = r.base; offset = x })) same ∙ no-bytes-on r count m is

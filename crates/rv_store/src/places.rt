@@ -1,10 +1,10 @@
 //! Where the lines of a text lie.
 
-ghost use Rattle.std.specs.Prelude.{◌≡◌, ◌≤◌, ◌<◌, ◌+◌, ◌-◌, ◌^◌, ℕ, suc, List, [], ◌∷◌, ◌++◌, length, get_or, slice_index, true, IfOk, IsTrue};
+ghost use Rattle.std.specs.Prelude.{vec_capacity, ◌≡◌, ◌≤◌, ◌<◌, ◌+◌, ◌-◌, ◌^◌, ℕ, suc, List, [], ◌∷◌, ◌++◌, length, get_or, slice_index, true, IfOk, IsTrue};
 ghost use Rattle.rv_layout.specs.declared.measured.Measured.{Measured};
 ghost use Rattle.rv_layout.specs.Places.{size_at, sum_below, is_base, IsLimited, AreLimited};
 ghost use Rattle.rv_layout.specs.Sections.{sections, section_number};
-ghost use Rattle.rv_store.specs.internal.Ends.{ends_of, ends_after, ends_at, end_in, base_by_ends, next_offset, next_place, place_by_shapes, AreBases, IsBehind};
+ghost use Rattle.rv_store.specs.internal.Ends.{ends_of, ends_after, ends_at, end_in, base_by_ends, next_offset, next_place, place_by_shapes, AreBases, ArePlaced, IsReached, IsBehind};
 ghost use Rattle.rv_program.specs.Edits.{edit_of, place_of_edit};
 ghost use Rattle.rv_program.specs.Program.{for_lines};
 ghost use Rattle.rv_store.specs.internal.Unmoved.{place_put_in};
@@ -94,6 +94,73 @@ impl Reached {
     }
 }
 
+// Adds the place of the next line to those of the lines before it.
+fn place_next(
+    bases: &[u32; SECTIONS],
+    shapes: &[Measured],
+    reached: &mut Reached,
+    row: &mut Vec<LinePlace>,
+)
+    requires few { length shapes.now ≤ 16384 }
+    requires limited { AreLimited shapes.now }
+    requires left { length row.old.items < length shapes.now }
+    requires reached { IsReached shapes.now (length row.old.items) reached.old }
+    requires base { reached.old.base ≡ slice_index bases.now (section_number reached.old.ends.section) }
+    requires room { length shapes.now ≤ vec_capacity row.old }
+    ensures next { length row.new.items ≡ length row.old.items + 1 }
+    ensures reached { IsReached shapes.now (length row.new.items) reached.new }
+    ensures base { reached.new.base ≡ slice_index bases.now (section_number reached.new.ends.section) }
+    ensures room { vec_capacity row.new ≡ vec_capacity row.old }
+    ensures places { (base : ℕ) → ArePlaced base bases.now shapes.now row.old.items → ArePlaced base bases.now shapes.now row.new.items }
+{
+    let shape = &shapes[row.len()];
+    let section = reached.ends.section;
+    let address = reached.base.wrapping_add(reached.offset);
+    let size = reached.advance(bases, shape);
+    row.push_reserved(LinePlace {
+        section,
+        address,
+        size,
+    });
+}
+
+// Adds the places of the next lines up to an alignment or a switch of sections. It stays a call, so that a line takes few instructions.
+#[inline(never)]
+fn place_run(shapes: &[Measured], reached: &mut Reached, row: &mut Vec<LinePlace>)
+    requires few { length shapes.now ≤ 16384 }
+    requires limited { AreLimited shapes.now }
+    requires within { length row.old.items ≤ length shapes.now }
+    requires reached { IsReached shapes.now (length row.old.items) reached.old }
+    requires room { length shapes.now ≤ vec_capacity row.old }
+    ensures up { length row.old.items ≤ length row.new.items }
+    ensures within { length row.new.items ≤ length shapes.now }
+    ensures reached { IsReached shapes.now (length row.new.items) reached.new }
+    ensures section { reached.new.ends.section ≡ reached.old.ends.section }
+    ensures base { reached.new.base ≡ reached.old.base }
+    ensures room { vec_capacity row.new ≡ vec_capacity row.old }
+    ensures places { (base : ℕ) → (bases : List ℕ) → reached.old.base ≡ slice_index bases (section_number reached.old.ends.section)
+        → ArePlaced base bases shapes.now row.old.items → ArePlaced base bases shapes.now row.new.items }
+{
+    let section = reached.ends.section;
+    let base = reached.base;
+    let mut offset = reached.offset;
+    'lines: while row.len() < shapes.len() {
+        let size = match &shapes[row.len()] {
+            Measured::Bytes(count) => *count,
+            Measured::Nothing | Measured::Faulty(_) => 0,
+            Measured::Align(_) | Measured::Switch(_) => break 'lines,
+        };
+        let address = base.wrapping_add(offset);
+        offset += size;
+        row.push_reserved(LinePlace {
+            section,
+            address,
+            size,
+        });
+    }
+    reached.offset = offset;
+}
+
 // Where lines of these shapes lie if the sections begin at these addresses, and where the sections end. Addresses count modulo 2 ^ 32.
 fn places(alloc: Global, bases: &[u32; SECTIONS], shapes: &[Measured]) -> Result<Placed, AllocError>
     requires few { length shapes.now ≤ 16384 }
@@ -103,15 +170,10 @@ fn places(alloc: Global, bases: &[u32; SECTIONS], shapes: &[Measured]) -> Result
 {
     let mut reached = Reached::of(Ends::start(), bases);
     let mut row = row_for(alloc, shapes.len())?;
-    for shape in shapes {
-        let section = reached.ends.section;
-        let address = reached.base.wrapping_add(reached.offset);
-        let size = reached.advance(bases, shape);
-        row.push_reserved(LinePlace {
-            section,
-            address,
-            size,
-        });
+    place_run(shapes, &mut reached, &mut row);
+    'lines: while row.len() < shapes.len() {
+        place_next(bases, shapes, &mut reached, &mut row);
+        place_run(shapes, &mut reached, &mut row);
     }
     Ok(Placed {
         ends: reached.ends(),

@@ -1,13 +1,14 @@
 -- Where the sections end after some lines, line by line. (docs/LANGUAGE.md, Layout)
-use Rattle.std.specs.Prelude.{◌≡◌, ℕ, ◌+◌, ◌-◌, ◌<◌, List, [], ◌∷◌, ◌++◌, length, map, set, slice_index}
+use Rattle.std.specs.Prelude.{◌≡◌, ℕ, ◌+◌, ◌-◌, ◌<◌, true, List, [], ◌∷◌, ◌++◌, length, map, set, slice_index, take}
 use Rattle.std.specs.List.{range_with_len}
 use Rattle.rv_stmt.specs.declared.section.Sect.TheVariants.{Text}
 use Rattle.rv_layout.specs.declared.measured.Measured.{Measured}
-use Rattle.rv_layout.specs.Places.{section_after, section_through, size_at, section_of, line_size_of, section_end_of, section_base_of, base_from, address_of, AreLimited}
+use Rattle.rv_layout.specs.Places.{section_after, section_through, size_at, section_of, line_size_of, section_end_of, section_base_of, base_from, address_of, is_base, AreLimited}
 use Rattle.rv_layout.specs.Sections.{sections, section_number}
 use Rattle.rv_store.specs.declared.ends.Ends.{Ends}
 use Rattle.rv_store.specs.declared.places.Reached.{Reached}
 use Rattle.rv_list.specs.declared.view.LinePlace.{LinePlace}
+use Rattle.rv_program.specs.Program.{for_lines}
 
 -- a number for each section, in their order
 abbrev pub by_section : (ℕ → ℕ) → List ℕ
@@ -69,3 +70,12 @@ pub record IsBehind (m : Measured) (before total : Ends) (ms : List Measured) : 
   pub limited : AreLimited (ms ++ m ∷ [])
   pub first : before ≡ ends_of ms
   pub all : total ≡ ends_of (ms ++ m ∷ [])
+
+-- the first i lines of these shapes were gone past
+abbrev pub IsReached : List Measured → (i : ℕ) → Reached → Type 0
+IsReached ms i r = ends_at r ≡ ends_of (take i ms)
+
+-- where the first of these lines lie, where the sections begin at these addresses
+abbrev pub ArePlaced : (base : ℕ) → (bases : List ℕ) → List Measured → List LinePlace → Type 0
+ArePlaced base bases ms row =
+    is_base base ≡ true → AreBases base ms bases → row ≡ for_lines (place_by_shapes base ms) (length row)
