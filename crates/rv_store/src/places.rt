@@ -59,8 +59,8 @@ impl Reached {
         ends
     }
 
-    // Goes on by a line for which something has to be looked up, and answers how many bytes it has.
-    fn turn(&mut self, bases: &[u32; SECTIONS], shape: &Measured) -> u32
+    // Goes on by a line, and answers how many bytes it has.
+    fn advance(&mut self, bases: &[u32; SECTIONS], shape: &Measured) -> u32
         requires short { next_offset (ends_at self.old) ≤ 2 ^ 30 }
         requires limited { IsLimited shape.now }
         ensures size { result ≡ size_at (next_offset (ends_at self.old)) shape.now }
@@ -72,25 +72,6 @@ impl Reached {
         ends.advance(shape);
         *self = Reached::of(ends, bases);
         size
-    }
-
-    // Goes on by a line, and answers how many bytes it has.
-    fn advance(&mut self, bases: &[u32; SECTIONS], shape: &Measured) -> u32
-        requires base { self.old.base ≡ slice_index bases.now (section_number self.old.ends.section) }
-        requires short { next_offset (ends_at self.old) ≤ 2 ^ 30 }
-        requires limited { IsLimited shape.now }
-        ensures size { result ≡ size_at (next_offset (ends_at self.old)) shape.now }
-        ensures ends { ends_at self.new ≡ ends_after (ends_at self.old) shape.now }
-        ensures base { self.new.base ≡ slice_index bases.now (section_number self.new.ends.section) }
-    {
-        match shape {
-            Measured::Bytes(count) => {
-                self.offset += *count;
-                *count
-            }
-            Measured::Nothing | Measured::Faulty(_) => 0,
-            Measured::Align(_) | Measured::Switch(_) => self.turn(bases, shape),
-        }
     }
 }
 
