@@ -105,8 +105,8 @@ fn place_next(
     });
 }
 
-// Adds the places of the next lines up to an alignment or a switch of sections. It stays a call, so that a line takes few instructions.
-#[inline(never)]
+// Adds the places of the next lines up to an alignment or a switch of sections. Its loop reads nothing but shapes.
+#[inline(always)]
 fn place_run(shapes: &[Measured], reached: &mut Reached, row: &mut Vec<LinePlace>)
     requires few { length shapes.now ≤ 16384 }
     requires limited { AreLimited shapes.now }
@@ -151,10 +151,11 @@ fn places(alloc: Global, bases: &[u32; SECTIONS], shapes: &[Measured]) -> Result
 {
     let mut reached = Reached::of(Ends::start(), bases);
     let mut row = row_for(alloc, shapes.len())?;
-    place_run(shapes, &mut reached, &mut row);
     'lines: while row.len() < shapes.len() {
-        place_next(bases, shapes, &mut reached, &mut row);
         place_run(shapes, &mut reached, &mut row);
+        if row.len() < shapes.len() {
+            place_next(bases, shapes, &mut reached, &mut row);
+        }
     }
     Ok(Placed {
         ends: reached.ends(),
