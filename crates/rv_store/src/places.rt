@@ -1,6 +1,6 @@
 //! Where the lines of a text lie.
 
-ghost use Rattle.std.specs.Prelude.{vec_capacity, ◌≡◌, ◌≤◌, ◌<◌, ◌+◌, ◌-◌, ◌^◌, ℕ, suc, List, [], ◌∷◌, ◌++◌, length, get_or, slice_index, true, IfOk, IsTrue};
+ghost use Rattle.std.specs.Prelude.{◌≡◌, ◌≤◌, ◌<◌, ◌+◌, ◌-◌, ◌^◌, ℕ, suc, List, [], ◌∷◌, ◌++◌, length, get_or, slice_index, vec_capacity, true, IfOk, IsTrue};
 ghost use Rattle.rv_layout.specs.declared.measured.Measured.{Measured};
 ghost use Rattle.rv_layout.specs.Places.{size_at, sum_below, is_base, IsLimited, AreLimited};
 ghost use Rattle.rv_layout.specs.Sections.{sections, section_number};
@@ -76,7 +76,7 @@ impl Reached {
 }
 
 // Adds the place of the next line to those of the lines before it.
-fn place_next(
+fn push_next(
     bases: &[u32; SECTIONS],
     shapes: &[Measured],
     reached: &mut Reached,
@@ -107,7 +107,7 @@ fn place_next(
 
 // Adds the places of the next lines up to an alignment or a switch of sections. Its loop reads nothing but shapes.
 #[inline(always)]
-fn place_run(shapes: &[Measured], reached: &mut Reached, row: &mut Vec<LinePlace>)
+fn push_run(shapes: &[Measured], reached: &mut Reached, row: &mut Vec<LinePlace>)
     requires few { length shapes.now ≤ 16384 }
     requires limited { AreLimited shapes.now }
     requires within { length row.old.items ≤ length shapes.now }
@@ -152,9 +152,9 @@ fn places(alloc: Global, bases: &[u32; SECTIONS], shapes: &[Measured]) -> Result
     let mut reached = Reached::of(Ends::start(), bases);
     let mut row = row_for(alloc, shapes.len())?;
     'lines: while row.len() < shapes.len() {
-        place_run(shapes, &mut reached, &mut row);
+        push_run(shapes, &mut reached, &mut row);
         if row.len() < shapes.len() {
-            place_next(bases, shapes, &mut reached, &mut row);
+            push_next(bases, shapes, &mut reached, &mut row);
         }
     }
     Ok(Placed {

@@ -94,8 +94,8 @@ pub fn items_passed<C: Count>(
 }
 
 /// It is as for `items_passed`, by the survey of the text before the edit, `old`, whose lines are `old_lines`, and by that of the text after
-/// it, whose lines are `lines`, in these groups: those that are due are looked for. `still` tells that the edit moved none of these lines. For each jump to
-/// a local label among the invalidated lines, one expression more may be computed.
+/// it, whose lines are `lines`, in these groups: those that are due are looked for. `still` tells that the edit moved none of them. For each jump
+/// to a local label among the invalidated lines, one expression more may be computed.
 pub fn items_edited<'a, C: Count>(
     alloc: Global,
     base: u32,

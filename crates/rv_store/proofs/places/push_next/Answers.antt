@@ -3,7 +3,7 @@ use Rattle.std.proofs.lemmas.List.{length-append}
 use Rattle.rv_layout.specs.Sections.{sections}
 use Rattle.rv_store.specs.internal.Ends.{next_offset, IsReached}
 use Rattle.rv_store.proofs.EndLaws.{next-short, next-IsLimited, reached-next, placed-next}
-use Rattle.rv_store.proofs.places.place_next.Goals as goal
+use Rattle.rv_store.proofs.places.push_next.Goals as goal
 
 pub advance-size-requires-clause-short : goal.advance-size-requires-clause-short
 advance-size-requires-clause-short c =

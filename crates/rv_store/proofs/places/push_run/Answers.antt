@@ -5,8 +5,8 @@ use Rattle.rv_layout.specs.Sections.{sections}
 use Rattle.rv_store.specs.declared.places.Reached.{Reached}
 use Rattle.rv_store.specs.internal.Ends.{next_offset, ends_at, IsReached}
 use Rattle.rv_store.proofs.EndLaws.{IsPlain, at-offset, next-short, next-IsLimited, plain-size, plain-few, plain-on, reached-next, placed-next}
-use Rattle.rv_store.proofs.places.place_run.Goals.{in-Bytes, in-Nothing, in-Nothing-2}
-use Rattle.rv_store.proofs.places.place_run.Goals as goal
+use Rattle.rv_store.proofs.places.push_run.Goals.{in-Bytes, in-Nothing, in-Nothing-2}
+use Rattle.rv_store.proofs.places.push_run.Goals as goal
 
 pub overflow_add-offset : goal.overflow_add-offset
 overflow_add-offset c =

@@ -2,7 +2,7 @@ use Rattle.std.proofs.Common.{◌≡◌, ◌≤◌, ◌-◌, ℕ, List, length}
 use Rattle.std.specs.Prelude.{slice_index, vec_capacity}
 use Rattle.rv_layout.specs.Sections.{section_number}
 use Rattle.rv_store.specs.internal.Ends.{IsReached, ArePlaced}
-use Rattle.rv_store.proofs.places.place_run.Given as goal
+use Rattle.rv_store.proofs.places.push_run.Given as goal
 
 abbrev pub invariant-lines : goal.invariant-lines
 invariant-lines l = record {
