@@ -3,6 +3,7 @@ use Rattle.std.proofs.Common.{◌≡◌, ℕ, zero, suc, ◌+◌, ◌-◌, ◌<�
 use Rattle.std.specs.Prelude.{insert, remove}
 use Rattle.std.proofs.lemmas.List.{ext_get_or, get_or_default, length-set}
 use Rattle.std.proofs.lemmas.List.Edits.{length-insert, length-remove, get_or-insert_below, get_or-insert_at, get_or-insert_above}
+use Rattle.rv_text.specs.declared.faults.Fault.{Fault}
 use Rattle.rv_stmt.specs.declared.section.Sect.{Sect}
 use Rattle.rv_stmt.specs.declared.section.Sect.TheVariants.{Text}
 use Rattle.rv_layout.specs.declared.measured.Measured.{Measured}
@@ -25,36 +26,26 @@ use Rattle.rv_store.proofs.FormerShapes.{former-at, former-new}
 
 -- Shapes without their faults
 
-bare-section : (s : Sect) (m : Measured) → section_after s (bare m) ≡ section_after s m
-bare-section s (Bytes n) = refl
-bare-section s (Align e) = refl
-bare-section s (Switch t) = refl
-bare-section s Nothing = refl
-bare-section s (Faulty fault) = refl
-
-bare-offset : (x : ℕ) (m : Measured) → offset_after x (bare m) ≡ offset_after x m
-bare-offset x (Bytes n) = refl
-bare-offset x (Align e) = refl
-bare-offset x (Switch t) = refl
-bare-offset x Nothing = refl
-bare-offset x (Faulty fault) = refl
-
-bare-size : (x : ℕ) (m : Measured) → size_at x (bare m) ≡ size_at x m
-bare-size x (Bytes n) = refl
-bare-size x (Align e) = refl
-bare-size x (Switch t) = refl
-bare-size x Nothing = refl
-bare-size x (Faulty fault) = refl
+-- what takes a fault for nothing tells apart no shapes that differ by faults
+by-bare : {A : Type 0} (f : Measured → A) → ((fault : Fault) → f (Faulty fault) ≡ f Nothing) → (m : Measured) → f m ≡ f (bare m)
+by-bare f none (Bytes n) = refl
+by-bare f none (Align e) = refl
+by-bare f none (Switch t) = refl
+by-bare f none Nothing = refl
+by-bare f none (Faulty fault) = none fault
 
 module _ (m n : Measured) (same : bare m ≡ bare n) where
+  same-by : {A : Type 0} (f : Measured → A) → ((fault : Fault) → f (Faulty fault) ≡ f Nothing) → f m ≡ f n
+  same-by f none = by-bare f none m ∙ ap f same ∙ sym (by-bare f none n)
+
   same-section : (s : Sect) → section_after s m ≡ section_after s n
-  same-section s = sym (bare-section s m) ∙ ap (section_after s) same ∙ bare-section s n
+  same-section s = same-by (section_after s) (λ fault. refl)
 
   same-offset : (x : ℕ) → offset_after x m ≡ offset_after x n
-  same-offset x = sym (bare-offset x m) ∙ ap (offset_after x) same ∙ bare-offset x n
+  same-offset x = same-by (offset_after x) (λ fault. refl)
 
   same-size : (x : ℕ) → size_at x m ≡ size_at x n
-  same-size x = sym (bare-size x m) ∙ ap (size_at x) same ∙ bare-size x n
+  same-size x = same-by (size_at x) (λ fault. refl)
 
 -- Lines behind which others lie alike
 

@@ -1,6 +1,6 @@
 use Rattle.std.proofs.Common.{◌≡◌, ℕ, ◌||◌, ◌<◌, [], get_or, Bool, true, false, arith, ap, sym, subst, ◌∙◌, refl}
 use Rattle.std.specs.Option.{is_some}
-use Rattle.std.proofs.lemmas.Bool.{eq-eqb, eqb-true, false≢true}
+use Rattle.std.proofs.lemmas.Bool.{eq-eqb, eqb-true, false≢true, or_left, or_right}
 use Rattle.rv_expr.specs.declared.tree.Direction.TheVariants.{Forward}
 use Rattle.rv_stmt.specs.LabelNames.{LabelName}
 use Rattle.rv_stmt.specs.LabelNames as label
@@ -12,19 +12,11 @@ use Rattle.rv_program.proofs.locals.Locals.reach.Goals as goal
 number-of : (number : ℕ) (name : LabelName) (local : ℕ) → name ≡ label.Local local → is_local number name ≡ true → local ≡ number
 number-of number name local is h = eqb-true local number (ap (is_local number) (sym is) ∙ h)
 
--- one of the labels that are left is one of all
-first-left : (x y : Bool) → x ≡ true → (x || y) ≡ true
-first-left x y is = ap (λ b. b || y) is
-
-later-left : (x y : Bool) → y ≡ true → (x || y) ≡ true
-later-left true y is = refl
-later-left false y is = is
-
 pub labels-preserved-in-Local : goal.labels-preserved-in-Local
 labels-preserved-in-Local c = record {
   found = found;
   within = omega (arith, c.labels.invariant.within, c.min-first.ensures);
-  left = λ number some. c.labels.invariant.left number (ap (among_local number) c.in-Some.ensures.some ∙ later-left (is_local number (name_lent c.in-Some.label.name)) (among_local number c.in-Some.rest) some);
+  left = λ number some. c.labels.invariant.left number (ap (among_local number) c.in-Some.ensures.some ∙ or_right (is_local number (name_lent c.in-Some.label.name)) (among_local number c.in-Some.rest) some);
   none = λ none. absurd (false≢true (sym (none c.in-Local.number) ∙ here));
 }
   where
@@ -41,7 +33,7 @@ labels-preserved-in-Local c = record {
     here =
         let number = c.in-Local.number in
         let is : is_local number (name_lent c.in-Some.label.name) ≡ true = ap (λ n. is_local number (name_lent n)) c.in-Local.is ∙ eq-eqb number number refl in
-        c.labels.invariant.left number (ap (among_local number) c.in-Some.ensures.some ∙ first-left (is_local number (name_lent c.in-Some.label.name)) (among_local number c.in-Some.rest) is)
+        c.labels.invariant.left number (ap (among_local number) c.in-Some.ensures.some ∙ or_left (is_local number (name_lent c.in-Some.label.name)) (among_local number c.in-Some.rest) is)
 
 pub returns-clause-found : goal.returns-clause-found
 returns-clause-found c number i all below = c.labels.invariant.found number i (ap (among_local number) c.in_default.ensures.none) all below
