@@ -12,8 +12,7 @@ use Rattle.rv_stmt.specs.declared.operand.Role.{Role}
 use Rattle.rv_stmt.specs.declared.operand.Role.TheVariants.{Immediate, SourceImmediate, Target, PairTarget, Constant}
 use Rattle.rv_stmt.specs.Draft.{fields}
 use Rattle.rv_stmt.specs.Readings.{Reading, and_then}
-use Rattle.rv_stmt.specs.ValueParts.{signed_word}
-use Rattle.rv_layout.specs.Shapes.{is_loadable}
+use Rattle.rv_layout.specs.Shapes.{is_loadable, with_value}
 use Rattle.rv_fix.specs.Reports.{ranged, made_of}
 use Rattle.rv_fix.specs.Values.{Entry}
 
@@ -26,10 +25,6 @@ unless_fault (Some Multiple) v = Err fault.Multiple
 -- a value within the limits of an operation: first its range, and then of what it is a multiple
 abbrev pub limited : Limits → ℤ → Reading ℤ
 limited l v = unless_fault (limit_fault l v) v
-
--- the field holds 32 bits with a sign
-abbrev pub with_value : ℤ → Fields → Fields
-with_value v f = fields f.rd f.rs1 f.rs2 (signed_word v)
 
 abbrev pub with_source : ℤ → Fields → Fields
 with_source v f = fields f.rd (unsigned_abs v) f.rs2 f.value

@@ -4,16 +4,16 @@ ghost use Rattle.std.specs.Prelude.{◌≡◌, ◌<◌, pos, Ok, Err, if◌then�
 ghost use Rattle.rv_text.specs.declared.faults.FaultNumber.TheVariants as fault;
 ghost use Rattle.rv_ops.specs.Limits.{limit_fault};
 ghost use Rattle.rv_stmt.specs.Readings.{and_then};
-ghost use Rattle.rv_layout.specs.Shapes.{is_loadable};
-ghost use Rattle.rv_fix.specs.Filling.{unless_fault, limited, with_value, with_source, with_number, filled};
+ghost use Rattle.rv_layout.specs.Shapes.{is_loadable, with_value};
+ghost use Rattle.rv_fix.specs.Filling.{unless_fault, limited, with_source, with_number, filled};
 ghost use Rattle.rv_fix.specs.Reports.{ranged, made_of};
 
 use crate::reports::at_span;
 use crate::values::Entry;
 use rv_code::Fields;
-use rv_layout::{is_loadable, value_at};
+use rv_layout::{is_loadable, value_at, with_value};
 use rv_ops::{LimitFault, Limits, Reg};
-use rv_stmt::{Operand, Role, signed_word};
+use rv_stmt::{Operand, Role};
 use rv_text::{Fault, FaultNumber};
 
 // A value within the limits of an operation.
@@ -24,18 +24,6 @@ fn limited(limits: &Limits, value: i64) -> Result<i64, FaultNumber>
         None => Ok(value),
         Some(LimitFault::Range) => Err(FaultNumber::Range),
         Some(LimitFault::Multiple) => Err(FaultNumber::Multiple),
-    }
-}
-
-// The fields with this value, of which they hold 32 bits with a sign.
-fn with_value(value: i64, fields: &Fields) -> Fields
-    ensures { result ≡ with_value value fields.now }
-{
-    Fields {
-        rd: fields.rd,
-        rs1: fields.rs1,
-        rs2: fields.rs2,
-        value: signed_word(value),
     }
 }
 

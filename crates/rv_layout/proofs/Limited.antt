@@ -21,7 +21,6 @@ use Rattle.rv_stmt.specs.declared.statement.Body.TheVariants as body
 use Rattle.rv_stmt.specs.declared.statement.Instruction.{Instruction}
 use Rattle.rv_stmt.specs.Expansion.{instructions_of, size_of_instructions}
 use Rattle.rv_stmt.specs.Statement.{operands_of, data_size_of}
-use Rattle.rv_stmt.specs.ValueParts.{signed_word}
 use Rattle.rv_layout.specs.declared.measured.Measured.{Measured}
 use Rattle.rv_layout.specs.Places.{IsLimited}
 use Rattle.rv_layout.specs.Shapes.{constants, is_size, size_operand, constant_of_operand, is_loadable, with_value, load_size, fill_size, exponents, exponent_among, alignment_exponent, exponent_by_role, bytes_or_range, align_or_range, shape_by, shape_of_instructions, shape_of_fill, shape_of_alignment, shape_of, count_of_value, count_of_operand, size_operands}
@@ -48,8 +47,8 @@ instructions_small (Two i j) = omega (arith, word_small (is_full i.op), word_sma
 load_small : (i : Instruction) (z : ℤ) → AtMost 65536 (load_size i z)
 load_small i z =
     guarded (is_loadable z) 65536
-    (size_of_instructions (instructions_of i (with_value i.fields (signed_word z))))
-    (λ h. instructions_small (instructions_of i (with_value i.fields (signed_word z))))
+    (size_of_instructions (instructions_of i (with_value z i.fields)))
+    (λ h. instructions_small (instructions_of i (with_value z i.fields)))
 
 -- what fills and alignments take
 

@@ -72,14 +72,15 @@ constant_of_operand given o = value_at o.span (value_of_constant given o.value)
 abbrev pub is_loadable : ℤ → Bool
 is_loadable z = int_le (negsuc 0x7FFFFFFF) z && int_le z (pos 0xFFFFFFFF)
 
-abbrev pub with_value : Fields → ℤ → Fields
-with_value f v = fields f.rd f.rs1 f.rs2 v
+-- the fields of an instruction with a value, of which they hold 32 bits with a sign
+abbrev pub with_value : ℤ → Fields → Fields
+with_value v f = fields f.rd f.rs1 f.rs2 (signed_word v)
 
 -- how many bytes load a constant
 abbrev pub load_size : Instruction → ℤ → Option ℕ
 load_size i z =
     if is_loadable z
-    then Some (size_of_instructions (instructions_of i (with_value i.fields (signed_word z))))
+    then Some (size_of_instructions (instructions_of i (with_value z i.fields)))
     else None
 
 -- how many bytes are filled: 0 to 65,536

@@ -25,4 +25,4 @@ pub use measured::Measured;
 pub use places::{bases, place};
 pub use sections::{CODE_SECTIONS, SECTIONS, is_code, section_number};
 pub use shapes::measure;
-pub use sizes::{alignment_by_role, fill_size, is_loadable};
+pub use sizes::{alignment_by_role, fill_size, is_loadable, with_value};

@@ -1,7 +1,7 @@
 //! The sizes that constants give.
 
 ghost use Rattle.std.specs.Prelude.{◌≡◌, ◌≤◌};
-ghost use Rattle.rv_layout.specs.Shapes.{is_loadable, load_size, fill_size, exponents, exponent_among, alignment_exponent, exponent_by_role};
+ghost use Rattle.rv_layout.specs.Shapes.{is_loadable, with_value, load_size, fill_size, exponents, exponent_among, alignment_exponent, exponent_by_role};
 
 use crate::alignment::Alignment;
 use rv_code::Fields;
@@ -14,6 +14,18 @@ pub fn is_loadable(value: i64) -> bool
     -0x8000_0000 <= value && value <= 0xFFFF_FFFF
 }
 
+/// The fields of an instruction with a value, of which they hold 32 bits with a sign.
+pub fn with_value(value: i64, fields: &Fields) -> Fields
+    ensures { result ≡ with_value value fields.now }
+{
+    Fields {
+        rd: fields.rd,
+        rs1: fields.rs1,
+        rs2: fields.rs2,
+        value: signed_word(value),
+    }
+}
+
 /// How many bytes load a constant, if a register can be loaded with it.
 pub(crate) fn load_size(instruction: &Instruction, value: i64) -> Option<u32>
     ensures { result ≡ load_size instruction.now value }
@@ -21,12 +33,7 @@ pub(crate) fn load_size(instruction: &Instruction, value: i64) -> Option<u32>
     if !is_loadable(value) {
         return None;
     }
-    let fields = Fields {
-        rd: instruction.fields.rd,
-        rs1: instruction.fields.rs1,
-        rs2: instruction.fields.rs2,
-        value: signed_word(value),
-    };
+    let fields = with_value(value, &instruction.fields);
     Some(instructions_of(instruction, &fields).size())
 }
 

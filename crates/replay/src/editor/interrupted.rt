@@ -3,9 +3,8 @@
 ghost use Rattle.std.specs.Prelude.{◌≡◌, true};
 ghost use Rattle.rv_layout.specs.Places.{is_base};
 
-use crate::editor::running::{ALL, end_text, sink_of};
+use crate::editor::running::{ALL, end_text, session_base, sink_of};
 use rv_commands::run;
-use rv_store::base_ok;
 use rv_text::StdSource;
 use std::alloc::Global;
 use std::io;
@@ -49,9 +48,7 @@ pub fn end_where_interrupted(
     count: u32,
     answers: &[u8],
 ) -> Result<String, Fail> {
-    if !base_ok(base) {
-        return Err(Fail::new("a session with a wrong base"));
-    }
+    let base = session_base(base)?;
     let (bytes, _) = input.split_at(input.len().min(count as usize));
     interrupted_run(alloc, base, bytes, answers)
 }

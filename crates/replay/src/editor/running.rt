@@ -70,6 +70,16 @@ fn run_over(
     Ok(Ended { done, sink })
 }
 
+/// The base of a session, where it is one.
+pub fn session_base(base: u32) -> Result<u32, Fail>
+    ensures { IfOk result (λ b. is_base b ≡ true) }
+{
+    if !base_ok(base) {
+        return Err(Fail::new("a session with a wrong base"));
+    }
+    Ok(base)
+}
+
 /// Runs over the bytes.
 pub fn run_of(
     alloc: Global,
@@ -78,9 +88,7 @@ pub fn run_of(
     reads: Calls,
     writes: Calls,
 ) -> Result<Ended, Fail> {
-    if !base_ok(base) {
-        return Err(Fail::new("a session with a wrong base"));
-    }
+    let base = session_base(base)?;
     Ok(run_over(alloc, base, input, reads, writes)?)
 }
 
