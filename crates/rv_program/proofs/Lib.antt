@@ -11,6 +11,7 @@ pub mod LinePairLaws
 pub mod LinesWithout
 pub mod ListedLines
 pub mod MovedLocals
+pub mod NumberedNames
 pub mod PairedHighs
 pub mod RenewalRuns
 pub mod StayingItems

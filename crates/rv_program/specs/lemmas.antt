@@ -4,7 +4,6 @@ pub mod ConstantLaws
 pub mod ConstantRows
 pub mod CountedLines
 pub mod DefinitionLaws
-pub mod DefinitionParts
 pub mod DefinitionRows
 pub mod EarlierConstants
 pub mod EarlierLines

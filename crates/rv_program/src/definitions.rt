@@ -1,14 +1,14 @@
 //! Where the names of a text are defined, in a row by their numbers.
 
-ghost use Rattle.std.specs.Prelude.{◌≡◌, ◌≤◌, ◌<◌, ◌==◌, not, ◌||◌, true, false, Some, None, length, IfSome, IfOk};
+ghost use Rattle.std.specs.Prelude.{◌≡◌, ◌≤◌, ◌<◌, ◌==◌, not, ◌||◌, true, false, Some, None, length, IfSome, OnOk};
 ghost use Rattle.rv_stmt.specs.declared.directive.Definition.{Definition};
 ghost use Rattle.rv_stmt.specs.declared.statement.Body.TheVariants.{Equ as EquBody};
-ghost use Rattle.rv_stmt.specs.LentLabels.{label_lent};
+ghost use Rattle.rv_stmt.specs.LentLabels.{label_lent, name_lent};
 ghost use Rattle.rv_stmt.specs.Statement.{statement_of};
 ghost use Rattle.rv_list.specs.declared.view.DefinitionPlace.TheVariants.{Nowhere};
-ghost use Rattle.rv_program.specs.internal.Defining.{only, of_label, is_up_to, IsOn, also_on, Holds, HoldsPart};
+ghost use Rattle.rv_program.specs.internal.Defining.{only, of_label, is_up_to, also_on, IsLabelNumbered, AreLabelsNumbered, IsBodyNumbered, IsNumbered};
 ghost use Rattle.rv_program.specs.Definitions.{place_among_labels, place_in_body, place_in_statement, is_defined, is_equ_on};
-ghost use Rattle.rv_program.specs.internal.Rows.{number_of, in_row, Grows};
+ghost use Rattle.rv_program.specs.internal.Rows.{number_of, has_number, in_row, Grows};
 ghost use Rattle.rv_program.specs.Uses.{is_equ};
 
 use crate::line::Line;
@@ -83,24 +83,36 @@ pub fn defining_equ_on<'a>(
     defining_equ(line.stmt(), number, names, definitions)
 }
 
-// The number of a name, which gets one if it has none, and a place in the row.
-fn number_with_place(
+// Gives numbers to the symbols among some labels.
+fn number_labels(
     alloc: Global,
-    name: &[u8],
+    mut labels: LabelSlice<'_>,
     names: &mut NameTable,
-    row: &mut Vec<DefinitionPlace>,
-) -> Result<usize, AllocError>
-    requires { length row.old.items ≤ length names.old }
-    ensures number { IfOk result (λ n. number_of names.new name.now ≡ Some n) }
-    ensures below { IfOk result (λ n. n < length row.new.items) }
-    ensures row { Holds names.new row.new.items (in_row names.old row.old.items Nowhere) }
+) -> Result<(), AllocError>
+    ensures numbered { OnOk result (AreLabelsNumbered names.new labels.entry) }
     ensures names { Grows names.old names.new }
 {
-    let number = names.intern(alloc, name)?;
-    if number >= row.len() {
-        row.resize(names.len(), DefinitionPlace::Nowhere)?;
+    'labels: while let Some((label, later)) = labels.split_first() {
+        match label.name {
+            LabelName::Symbol(symbol) => {
+                names.intern(alloc, symbol)?;
+            }
+            LabelName::Local(_) => {}
+        }
+        labels = later;
     }
-    Ok(number)
+    Ok(())
+}
+
+// Gives the symbol of an `.equ` a number.
+fn number_equ(alloc: Global, body: &Body, names: &mut NameTable) -> Result<(), AllocError>
+    ensures numbered { OnOk result (IsBodyNumbered names.new body.now) }
+    ensures names { Grows names.old names.new }
+{
+    if let Body::Equ(definition) = body {
+        names.intern(alloc, definition.symbol.bytes())?;
+    }
+    Ok(())
 }
 
 // Whether a definition stands on a line or before it.
@@ -115,110 +127,81 @@ fn is_up_to(line: u32, place: DefinitionPlace) -> bool
 
 // Writes where a name is defined on a line, unless the row has a definition of it there or before it.
 fn define(
-    alloc: Global,
     name: &[u8],
     line: u32,
     place: DefinitionPlace,
-    names: &mut NameTable,
+    names: &NameTable,
     row: &mut Vec<DefinitionPlace>,
-) -> Result<(), AllocError>
+)
+    requires numbered { has_number names.now name.now ≡ true }
     requires here { is_up_to line place ≡ true }
-    requires on_line { IsOn line place }
-    requires within { length row.old.items ≤ length names.old }
-    ensures row { IfOk result (λ _. Holds names.new row.new.items (also_on line (in_row names.old row.old.items Nowhere) (only name.now place))) }
-    ensures part { HoldsPart names.new row.new.items line (in_row names.old row.old.items Nowhere) }
-    ensures names { Grows names.old names.new }
+    requires as_many { length row.old.items ≡ length names.now }
+    ensures row { in_row names.now row.new.items Nowhere ≡ also_on line (in_row names.now row.old.items Nowhere) (only name.now place) }
+    ensures as_many { length row.new.items ≡ length names.now }
 {
-    let number = number_with_place(alloc, name, names, row)?;
+    let Some(number) = names.number(name) else {
+        unreachable!()
+    };
     if !is_up_to(line, row[number]) {
         row[number] = place;
     }
-    Ok(())
 }
 
 // Writes what a label defines. Local labels define no symbol.
 fn define_label(
-    alloc: Global,
     label: Label<'_>,
     line: u32,
     index: u32,
-    names: &mut NameTable,
+    names: &NameTable,
     row: &mut Vec<DefinitionPlace>,
-) -> Result<(), AllocError>
-    requires { length row.old.items ≤ length names.old }
-    ensures row { IfOk result (λ _. Holds names.new row.new.items (also_on line (in_row names.old row.old.items Nowhere) (of_label line index (label_lent label.entry)))) }
-    ensures part { HoldsPart names.new row.new.items line (in_row names.old row.old.items Nowhere) }
-    ensures names { Grows names.old names.new }
+)
+    requires numbered { IsLabelNumbered names.now (name_lent label.name) }
+    requires as_many { length row.old.items ≡ length names.now }
+    ensures row { in_row names.now row.new.items Nowhere ≡ also_on line (in_row names.now row.old.items Nowhere) (of_label line index (label_lent label.entry)) }
+    ensures as_many { length row.new.items ≡ length names.now }
 {
     let place = DefinitionPlace::Label(line, index);
     match label.name {
-        LabelName::Symbol(symbol) => define(alloc, symbol, line, place, names, row),
-        LabelName::Local(_) => Ok(()),
+        LabelName::Symbol(symbol) => define(symbol, line, place, names, row),
+        LabelName::Local(_) => {}
     }
 }
 
 // Writes what the labels of a line define.
 fn define_labels(
-    alloc: Global,
     mut labels: LabelSlice<'_>,
     line: u32,
-    names: &mut NameTable,
+    names: &NameTable,
     row: &mut Vec<DefinitionPlace>,
-) -> Result<(), AllocError>
+)
     requires few { length labels ≤ 1000 }
-    requires within { length row.old.items ≤ length names.old }
-    ensures row { IfOk result (λ _. Holds names.new row.new.items (also_on line (in_row names.old row.old.items Nowhere) (place_among_labels line 0 labels.entry))) }
-    ensures part { HoldsPart names.new row.new.items line (in_row names.old row.old.items Nowhere) }
-    ensures names { Grows names.old names.new }
+    requires numbered { AreLabelsNumbered names.now labels }
+    requires as_many { length row.old.items ≡ length names.now }
+    ensures row { in_row names.now row.new.items Nowhere ≡ also_on line (in_row names.now row.old.items Nowhere) (place_among_labels line 0 labels.entry) }
+    ensures as_many { length row.new.items ≡ length names.now }
 {
     let mut index = 0;
     while let Some((label, later)) = labels.split_first() {
-        define_label(alloc, label, line, index, names, row)?;
+        define_label(label, line, index, names, row);
         index += 1;
         labels = later;
     }
-    Ok(())
 }
 
 // Writes what the `.equ` of a line defines, if it has one.
-fn define_equ(
-    alloc: Global,
-    body: &Body,
-    line: u32,
-    names: &mut NameTable,
-    row: &mut Vec<DefinitionPlace>,
-) -> Result<(), AllocError>
-    requires { length row.old.items ≤ length names.old }
-    ensures row { IfOk result (λ _. Holds names.new row.new.items (also_on line (in_row names.old row.old.items Nowhere) (place_in_body line body.now))) }
-    ensures part { HoldsPart names.new row.new.items line (in_row names.old row.old.items Nowhere) }
-    ensures names { Grows names.old names.new }
+fn define_equ(body: &Body, line: u32, names: &NameTable, row: &mut Vec<DefinitionPlace>)
+    requires numbered { IsBodyNumbered names.now body.now }
+    requires as_many { length row.old.items ≡ length names.now }
+    ensures row { in_row names.now row.new.items Nowhere ≡ also_on line (in_row names.now row.old.items Nowhere) (place_in_body line body.now) }
+    ensures as_many { length row.new.items ≡ length names.now }
 {
     match body {
         Body::Equ(definition) => {
             let place = DefinitionPlace::Equ(line);
-            define(alloc, definition.symbol.bytes(), line, place, names, row)
+            define(definition.symbol.bytes(), line, place, names, row)
         }
-        _ => Ok(()),
+        _ => {}
     }
-}
-
-// Writes what a statement defines.
-fn define_statement(
-    alloc: Global,
-    stmt: &Stmt,
-    line: u32,
-    names: &mut NameTable,
-    row: &mut Vec<DefinitionPlace>,
-) -> Result<(), AllocError>
-    requires few { length stmt.now.labels ≤ 1000 }
-    requires within { length row.old.items ≤ length names.old }
-    ensures row { IfOk result (λ _. Holds names.new row.new.items (also_on line (in_row names.old row.old.items Nowhere) (place_in_statement line stmt.now))) }
-    ensures part { HoldsPart names.new row.new.items line (in_row names.old row.old.items Nowhere) }
-    ensures names { Grows names.old names.new }
-{
-    define_labels(alloc, stmt.labels.as_slice(), line, names, row)?;
-    define_equ(alloc, &stmt.body, line, names, row)?;
-    Ok(())
 }
 
 /// Whether a line has labels or an `.equ`. Other lines define nothing.
@@ -229,27 +212,30 @@ pub fn may_define(line: &Line) -> bool
     brief.labels || brief.equ
 }
 
-/// Writes what a line defines into a row of what the lines before it and behind it define. Names that it defines get numbers if they
-/// have none, also where there is no memory for the rest. A line that defines nothing is gone past without a look at its statement.
-///
-/// # Errors
-///
-/// Fails only where there is no memory. The row may then hold a part of what the line defines.
-pub fn define_line(
-    alloc: Global,
-    line: &Line,
-    number: u32,
-    names: &mut NameTable,
-    row: &mut Vec<DefinitionPlace>,
-) -> Result<(), AllocError>
-    requires { length row.old.items ≤ length names.old }
-    ensures row { IfOk result (λ _. Holds names.new row.new.items (also_on number (in_row names.old row.old.items Nowhere) (place_in_statement number (statement_of line.now)))) }
-    ensures part { HoldsPart names.new row.new.items number (in_row names.old row.old.items Nowhere) }
+/// Gives numbers to the names that a line defines, if they have none, also where there is no memory for all of them.
+pub fn number_line(alloc: Global, line: &Line, names: &mut NameTable) -> Result<(), AllocError>
+    ensures numbered { OnOk result (IsNumbered names.new (statement_of line.now)) }
     ensures names { Grows names.old names.new }
 {
+    let stmt = line.stmt();
+    number_labels(alloc, stmt.labels.as_slice(), names)?;
+    number_equ(alloc, &stmt.body, names)?;
+    Ok(())
+}
+
+/// Writes what a line defines into a row of what the lines before it and behind it define. Its names have numbers, and each name has its
+/// place in the row. A line that defines nothing is gone past without a look at its statement.
+pub fn define_line(line: &Line, number: u32, names: &NameTable, row: &mut Vec<DefinitionPlace>)
+    requires numbered { IsNumbered names.now (statement_of line.now) }
+    requires as_many { length row.old.items ≡ length names.now }
+    ensures row { in_row names.now row.new.items Nowhere ≡ also_on number (in_row names.now row.old.items Nowhere) (place_in_statement number (statement_of line.now)) }
+    ensures as_many { length row.new.items ≡ length names.now }
+{
     if !may_define(line) {
-        return Ok(());
+        return;
     }
     line.labels_are_few();
-    define_statement(alloc, line.stmt(), number, names, row)
+    let stmt = line.stmt();
+    define_labels(stmt.labels.as_slice(), number, names, row);
+    define_equ(&stmt.body, number, names, row);
 }

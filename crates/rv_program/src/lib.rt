@@ -48,7 +48,7 @@ mod value_rows;
 
 pub use before::Before;
 pub use constants::{LineConstants, settle_constant};
-pub use definitions::{define_line, defining_equ_on, is_defined};
+pub use definitions::{define_line, defining_equ_on, is_defined, number_line};
 pub use due::due_lines;
 pub use edit::{LineEdit, ReadEdit};
 pub use edit_error::EditError;

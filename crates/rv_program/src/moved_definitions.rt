@@ -2,16 +2,17 @@
 //! on a line that the edit takes out or puts in.
 
 ghost use Rattle.std.specs.Prelude.{◌≡◌, ◌≤◌, ◌<◌, ◌-◌, ℕ, List, Some, None, length, IfOk};
+ghost use Rattle.rv_stmt.specs.Statement.{statement_of};
 ghost use Rattle.rv_list.specs.declared.view.DefinitionPlace.TheVariants.{Nowhere};
 ghost use Rattle.rv_program.specs.internal.Defining.{also_on, Holds};
-ghost use Rattle.rv_program.specs.Definitions.{definition_of};
+ghost use Rattle.rv_program.specs.Definitions.{place_in_statement, definition_of};
 ghost use Rattle.rv_program.specs.Edits.{edit_of, place_of_edit};
 ghost use Rattle.rv_program.specs.internal.MovedDefinitions.{is_on, takes_out, line_after_edit, moved_place, place_after, found_after, kept_after, put_in};
 ghost use Rattle.rv_program.specs.Program.{program_of};
 ghost use Rattle.rv_program.specs.internal.Rows.{number_of, in_row, Grows, AreDefinitions};
 ghost use Rattle.rv_program.specs.Text.{refusal_of, lines_after};
 
-use crate::definitions::define_line;
+use crate::definitions::{define_line, number_line};
 use crate::edit::LineEdit;
 use crate::first_definition::first_place;
 use crate::limits::MAX_LINES;
@@ -119,6 +120,24 @@ pub fn keep_places(
     }
 }
 
+// Writes what a line defines into a row of what the others define. Its names get numbers.
+fn define_with_numbers(
+    alloc: Global,
+    line: &Line,
+    number: u32,
+    names: &mut NameTable,
+    row: &mut Vec<DefinitionPlace>,
+) -> Result<(), AllocError>
+    requires { length row.old.items ≤ length names.old }
+    ensures row { IfOk result (λ _. Holds names.new row.new.items (also_on number (in_row names.old row.old.items Nowhere) (place_in_statement number (statement_of line.now)))) }
+    ensures names { Grows names.old names.new }
+{
+    number_line(alloc, line, names)?;
+    row.resize(names.len(), DefinitionPlace::Nowhere)?;
+    define_line(line, number, names, row);
+    Ok(())
+}
+
 // Writes what the line defines that an edit puts in.
 fn define_put_in(
     alloc: Global,
@@ -135,9 +154,13 @@ fn define_put_in(
     ensures names { Grows names.old names.new }
 {
     match *edit {
-        LineEdit::Insert(k, _) => define_line(alloc, &lines[k as usize - 1], k, names, row),
+        LineEdit::Insert(k, _) => {
+            define_with_numbers(alloc, &lines[k as usize - 1], k, names, row)
+        }
         LineEdit::Delete(_) => Ok(()),
-        LineEdit::Replace(k, _) => define_line(alloc, &lines[k as usize - 1], k, names, row),
+        LineEdit::Replace(k, _) => {
+            define_with_numbers(alloc, &lines[k as usize - 1], k, names, row)
+        }
     }
 }
 

@@ -28,8 +28,7 @@ use Rattle.rv_program.specs.internal.Rows.{in_row, AreDefinitions}
 use Rattle.rv_program.specs.Uses.{names_used, uses_local_label, uses_paired_high, is_equ}
 use Rattle.rv_store.specs.internal.Still.{Touched, uses_any}
 use Rattle.rv_store.proofs.LongerTexts.{definitions-longer}
-use Rattle.rv_program.specs.lemmas.DefinitionLaws.{IsWithin, statement-within, definition-within}
-use Rattle.rv_program.specs.lemmas.DefinitionParts.{within-on}
+use Rattle.rv_program.specs.lemmas.DefinitionLaws.{IsWithin, within-on, statement-within, definition-within}
 use Rattle.rv_program.specs.lemmas.GroupLaws.{kind-below}
 use Rattle.rv_program.specs.lemmas.LineGroups.{count-groups, kind-on, unused-group}
 use Rattle.rv_program.specs.lemmas.NameSetLaws.{none-passes}

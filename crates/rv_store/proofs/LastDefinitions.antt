@@ -1,9 +1,8 @@
--- A line at the end of a text that has nothing to do with it: the rows by names with what the line defines, with a part of it, and
--- without it.
-use Rattle.std.proofs.Common.{◌≡◌, ℕ, ℤ, zero, suc, ◌+◌, ◌-◌, ◌<◌, ◌≤◌, ◌==◌, nat_lt, Bool, true, false, ◌&&◌, List, [], ◌∷◌, ◌++◌, length, set, bytes_eq, Option, Some, None, Err, if◌then◌else◌, true≢false, arith, ap, sym, subst, ◌∙◌, refl, ◌⊎◌, inl, inr}
+-- A line at the end of a text that has nothing to do with it: the rows by names with what the line defines, and without it.
+use Rattle.std.proofs.Common.{◌≡◌, ℕ, ℤ, zero, suc, ◌+◌, ◌-◌, ◌<◌, ◌≤◌, ◌==◌, nat_lt, Bool, true, false, List, [], ◌∷◌, ◌++◌, length, set, bytes_eq, Option, Some, None, Err, if◌then◌else◌, true≢false, arith, ap, sym, subst, ◌∙◌, refl, ◌⊎◌, inl, inr}
 use Rattle.std.proofs.Math.ListN.{drop_of_length-le}
 use Rattle.std.proofs.Math.Path.{fun_ext}
-use Rattle.std.proofs.lemmas.Bool.{cases_lt, ne_eqb, eq-eqb, lt-ltb, and_right}
+use Rattle.std.proofs.lemmas.Bool.{cases_lt, ne_eqb, eq-eqb, lt-ltb}
 use Rattle.std.proofs.lemmas.List.{length-set, set_past, get_or_past}
 use Rattle.std.proofs.lemmas.Slice.Eq.{bytes_eq-Decides}
 use Rattle.rv_expr.specs.declared.faults.ValueFault.TheVariants.{LaterEqu}
@@ -17,9 +16,9 @@ use Rattle.rv_fix.specs.Values.{Entry}
 use Rattle.rv_list.specs.declared.view.DefinitionPlace.{DefinitionPlace}
 use Rattle.rv_list.specs.declared.view.DefinitionPlace.TheVariants.{Nowhere, Label as ByLabel, Equ}
 use Rattle.rv_store.specs.declared.survey.Survey.{Survey}
-use Rattle.rv_store.specs.internal.Appended.{StayEqus, AreSymbols, is_equ_behind, AreInPart, AreDefinitionsInPart}
+use Rattle.rv_store.specs.internal.Appended.{StayEqus, AreSymbols, AreHalfForgotten}
 use Rattle.rv_program.specs.Constants.{constant_through}
-use Rattle.rv_program.specs.internal.Defining.{Definitions, or_here, also_on, IsOn, Holds, HoldsPart}
+use Rattle.rv_program.specs.internal.Defining.{or_here, also_on, IsOn}
 use Rattle.rv_program.specs.Definitions.{defines_symbol, place_among_labels, place_in_body, or_place, place_in_statement, first_place, definition_of, is_defined, is_equ_on}
 use Rattle.rv_program.specs.internal.MovedDefinitions.{line_after_edit, place_after, found_after, kept_after}
 use Rattle.rv_program.specs.Program.{Program, program_of}
@@ -29,8 +28,7 @@ use Rattle.rv_program.specs.Text.{Delete}
 use Rattle.rv_program.specs.Uses.{is_equ}
 use Rattle.rv_program.specs.lemmas.ConstantLaws.{constant-none}
 use Rattle.rv_program.specs.lemmas.ConstantRows.{constant-kept}
-use Rattle.rv_program.specs.lemmas.DefinitionLaws.{IsWithin, statement-within, definition-within}
-use Rattle.rv_program.specs.lemmas.DefinitionParts.{within-on}
+use Rattle.rv_program.specs.lemmas.DefinitionLaws.{IsWithin, within-on, statement-within, definition-within}
 use Rattle.rv_program.specs.lemmas.DefinitionRows.{or_place-nowhere, here-kept, within-up, nowhere}
 use Rattle.rv_program.specs.lemmas.EquLaws.{equ_value-kept}
 use Rattle.rv_store.proofs.LongerPrograms.{constants-same}
@@ -119,6 +117,26 @@ taken-back n (Equ l) here found within on none =
     ap (place_after (Delete (suc n)) found) (behind n (Equ l) here within)
     ∙ (λ i. if other i then found else Equ (if before i then l else l - 1))
 
+-- a body that defines a name is the `.equ` of that name
+equ-names : (line : ℕ) (b : Body) (name : List ℕ) → is_defined (place_in_body line b name) ≡ true → (d : Definition) × (b ≡ EquBody d) × (d.symbol ≡ name)
+equ-names line (EquBody d) name h = at (bytes_eq d.symbol name) refl h
+  where
+    at : (b : Bool) → bytes_eq d.symbol name ≡ b → is_defined (if b then Equ line else Nowhere) ≡ true → (e : Definition) × (EquBody d ≡ EquBody e) × (e.symbol ≡ name)
+    at true e g = (d, refl, (bytes_eq-Decides d.symbol name).0 e)
+    at false e g = absurd (true≢false (sym g))
+equ-names line b name h = absurd (true≢false (sym h))
+
+-- Rows that hold the same by more names
+
+pub symbols-grown : (base : ℕ) (p : Program) (k : ℕ) (names names' : List (List ℕ)) (s : Survey) → Grows names names' → AreSymbols base p k names s → AreSymbols base p k names' s
+symbols-grown base p k names names' s grows are =
+    let longer = grows-length names names' grows in
+    record {
+      definitions = record { each = row-grown names names' s.definitions.items Nowhere grows are.definitions.within ∙ are.definitions.each; within = omega (arith, longer, are.definitions.within) };
+      constants = record { each = row-grown names names' s.constants.items None grows are.constants.within ∙ are.constants.each; within = omega (arith, longer, are.constants.within) };
+      equ_values = record { each = row-grown names names' s.equ_values.items (Err LaterEqu) grows are.equ_values.within ∙ are.equ_values.each; within = omega (arith, longer, are.equ_values.within) };
+    }
+
 -- The text with the line and without it
 
 module _ (base : ℕ) (lines : List (List ℕ)) (line : List ℕ) (earlier : StayEqus base lines line) where
@@ -154,17 +172,17 @@ module _ (base : ℕ) (lines : List (List ℕ)) (line : List ℕ) (earlier : Sta
       let last = second-equ (suc n) (definition_of p name) (place_in_statement (suc n) s name) (no_equ_after n (suc n) (definition_of p name) (omega arith) (within name)) here in
       defined-equ (suc n) (place_in_body (suc n) s.body name) (second-equ (suc n) (place_among_labels (suc n) 0 s.labels name) (place_in_body (suc n) s.body name) (labels-no_equ (suc n) (suc n) 0 s.labels name) last)
 
-  earlier-constants : constant_through q n ≡ constant_through p n
-  earlier-constants =
-      ap (λ r. constant_through r n) (program-longer lines line) ∙ constants-same p s n (omega (arith, count))
-
-  -- what is no `.equ` of the line has the constant and the value that it had
-  no_equ-behind : (name : List ℕ) → is_equ_behind lines s name (definition_of q name) ≡ false → is_equ_on (suc n) (definition_of q name) ≡ false
-  no_equ-behind name none = at (is_equ_on (suc n) (definition_of q name)) refl
+  -- a name that is none of it
+  no_equ-unless : (name : List ℕ) → (is_defined (place_in_body (suc n) s.body name) ≡ true → is_equ_on (suc n) (definition_of q name) ≡ false) → is_equ_on (suc n) (definition_of q name) ≡ false
+  no_equ-unless name unless = at (is_equ_on (suc n) (definition_of q name)) refl
     where
       at : (b : Bool) → is_equ_on (suc n) (definition_of q name) ≡ b → is_equ_on (suc n) (definition_of q name) ≡ false
       at false e = e
-      at true e = absurd (true≢false (sym (λ i. e i && equ-of_body name e i) ∙ none))
+      at true e = unless (equ-of_body name e)
+
+  earlier-constants : constant_through q n ≡ constant_through p n
+  earlier-constants =
+      ap (λ r. constant_through r n) (program-longer lines line) ∙ constants-same p s n (omega (arith, count))
 
   constant-behind : (name : List ℕ) → is_equ_on (suc n) (definition_of q name) ≡ false → constant_through q (suc n) name ≡ constant_through p n name
   constant-behind name none = constant-kept q n name none ∙ ap (λ f. f name) earlier-constants
@@ -172,167 +190,92 @@ module _ (base : ℕ) (lines : List (List ℕ)) (line : List ℕ) (earlier : Sta
   equ_value-behind : (name : List ℕ) → is_equ_on (suc n) (definition_of q name) ≡ false → equ_value base q (suc n) name ≡ equ_value base p n name
   equ_value-behind name none = equ_value-kept base q n name none ∙ ap (λ f. f name) earlier
 
-  -- Rows with what the line defines
-
-  module _ (names : List (List ℕ)) (t : Survey) where
-    held : AreDefinitions q names t.definitions.items → HoldsPart names t.definitions.items (suc n) (definition_of p)
-    held are = record {
-      part = place_in_statement (suc n) s;
-      on_line = λ name. within-on (suc n) (place_in_statement (suc n) s name) (statement-within (suc n) s name);
-      holds = record { each = are.each ∙ sym definitions-with; within = are.within };
-    }
-
-    here : AreDefinitions q names t.definitions.items → (name : List ℕ) → is_equ_behind lines s name (in_row names t.definitions.items Nowhere name) ≡ false → is_equ_behind lines s name (definition_of q name) ≡ false
-    here are name none = ap (λ f. is_equ_behind lines s name (f name)) (sym are.each) ∙ none
-
-    -- rows that wait for its constant and its value hold a part of it
-    pub in_part-waiting : AreSymbols base q n names t → AreInPart base lines names s t
-    in_part-waiting are = record {
-      definitions = held are.definitions;
-      constants = λ name none. ap (λ f. f name) (are.constants.each ∙ earlier-constants);
-      equ_values = λ name none. ap (λ f. f name) (are.equ_values.each ∙ earlier);
-      constants_within = are.constants.within;
-      equ_values_within = are.equ_values.within;
-    }
-
-    -- and so do the finished ones
-    pub in_part-all : AreSymbols base q (suc n) names t → AreInPart base lines names s t
-    in_part-all are = record {
-      definitions = held are.definitions;
-      constants = λ name none. ap (λ f. f name) are.constants.each ∙ constant-behind name (no_equ-behind name (here are.definitions name none));
-      equ_values = λ name none. ap (λ f. f name) are.equ_values.each ∙ equ_value-behind name (no_equ-behind name (here are.definitions name none));
-      constants_within = are.constants.within;
-      equ_values_within = are.equ_values.within;
-    }
+  module _ (names : List (List ℕ)) where
+    -- the rows with all definitions of the line
+    pub symbols-written : (old new : Survey) → AreSymbols base p n names old → in_row names new.definitions.items Nowhere ≡ also_on (suc n) (in_row names old.definitions.items Nowhere) (place_in_statement (suc n) s) → length new.definitions.items ≡ length names
+        → new.constants ≡ old.constants → new.equ_values ≡ old.equ_values → AreSymbols base q n names new
+    symbols-written old new are written places constants equ_values =
+        let same_constants = subst (λ v. AreConstants p n names v.items) (sym constants) are.constants in
+        let same_values = subst (λ v. AreEquValues base p n names v.items) (sym equ_values) are.equ_values in
+        record {
+          definitions = record { each = written ∙ ap (λ f. also_on (suc n) f (place_in_statement (suc n) s)) are.definitions.each ∙ definitions-with; within = omega (arith, places) };
+          constants = record { each = same_constants.each ∙ sym earlier-constants; within = same_constants.within };
+          equ_values = record { each = same_values.each ∙ sym earlier; within = same_values.within };
+        }
 
     -- what is no `.equ` has no constant and no value
-    pub symbols-no_equ : is_equ s.body ≡ false → AreSymbols base q n names t → AreSymbols base q (suc n) names t
-    symbols-no_equ equ are =
+    pub symbols-no_equ : (t : Survey) → is_equ s.body ≡ false → AreSymbols base q n names t → AreSymbols base q (suc n) names t
+    symbols-no_equ t equ are =
         let none : (name : List ℕ) → is_equ_on (suc n) (definition_of q name) ≡ false =
-        λ name. no_equ-behind name (ap (λ place. is_equ_on (suc n) (definition_of q name) && is_defined place) (nowhere (suc n) s.body name equ) ∙ and_right (is_equ_on (suc n) (definition_of q name)) false refl) in
+        λ name. no_equ-unless name (λ h. absurd (true≢false (sym h ∙ ap is_defined (nowhere (suc n) s.body name equ)))) in
         record {
           definitions = are.definitions;
           constants = record { each = are.constants.each ∙ sym (fun_ext (λ name. constant-kept q n name (none name))); within = are.constants.within };
           equ_values = record { each = are.equ_values.each ∙ sym (fun_ext (λ name. equ_value-kept base q n name (none name))); within = are.equ_values.within };
         }
 
-  -- Rows in which definitions are written
+    module _ (old : Survey) (are : AreSymbols base q (suc n) names old) where
+      abbrev row : List DefinitionPlace
+      row = old.definitions.items
 
-  module _ (names names' : List (List ℕ)) (old new : Survey) (grows : Grows names names') (are : AreSymbols base p n names old) (same_constants : new.constants ≡ old.constants) (same_values : new.equ_values ≡ old.equ_values) where
-    constants-grown : AreConstants p n names' new.constants.items
-    constants-grown = subst (λ v. AreConstants p n names' v.items) (sym same_constants) (record {
-      each = row-grown names names' old.constants.items None grows are.constants.within ∙ are.constants.each;
-      within = (let longer = grows-length names names' grows in omega (arith, longer, are.constants.within));
-    })
+      -- without an `.equ` that defines its symbol
+      pub equ-unwritten : ((d : Definition) → s.body ≡ EquBody d → is_equ_on (suc n) (in_row names row Nowhere d.symbol) ≡ false) → AreHalfForgotten base lines names line old
+      equ-unwritten none =
+          let nowhere_on : (name : List ℕ) → is_equ_on (suc n) (definition_of q name) ≡ false =
+          λ name. no_equ-unless name (λ h. let is = equ-names (suc n) s.body name h in ap (λ m. is_equ_on (suc n) (definition_of q m)) (sym is.2) ∙ ap (λ f. is_equ_on (suc n) (f is.0.symbol)) (sym are.definitions.each) ∙ none is.0 is.1) in
+          record {
+            definitions = are.definitions;
+            constants = record { each = are.constants.each ∙ fun_ext (λ name. constant-behind name (nowhere_on name)); within = are.constants.within };
+            equ_values = record { each = are.equ_values.each ∙ fun_ext (λ name. equ_value-behind name (nowhere_on name)); within = are.equ_values.within };
+          }
 
-    equ_values-grown : AreEquValues base p n names' new.equ_values.items
-    equ_values-grown = subst (λ v. AreEquValues base p n names' v.items) (sym same_values) (record {
-      each = row-grown names names' old.equ_values.items (Err LaterEqu) grows are.equ_values.within ∙ are.equ_values.each;
-      within = (let longer = grows-length names names' grows in omega (arith, longer, are.equ_values.within));
-    })
+      module _ (d : Definition) (number : ℕ) (body : s.body ≡ EquBody d) (numbered : number_of names d.symbol ≡ Some number) (equ : is_equ_on (suc n) (in_row names row Nowhere d.symbol) ≡ true) where
+        undefined_before : definition_of p d.symbol ≡ Nowhere
+        undefined_before =
+            equ-undefined n (definition_of p d.symbol) (place_in_statement (suc n) s d.symbol) (within d.symbol)
+            (ap (λ f. is_equ_on (suc n) (f d.symbol)) (definitions-with ∙ sym are.definitions.each) ∙ equ)
 
-    -- all of them
-    pub symbols-written : Holds names' new.definitions.items (also_on (suc n) (in_row names old.definitions.items Nowhere) (place_in_statement (suc n) s)) → AreSymbols base q n names' new
-    symbols-written holds = record {
-      definitions = record {
-        each = holds.each ∙ ap (λ f. also_on (suc n) f (place_in_statement (suc n) s)) are.definitions.each ∙ definitions-with;
-        within = holds.within;
-      };
-      constants = record { each = constants-grown.each ∙ sym earlier-constants; within = constants-grown.within };
-      equ_values = record { each = equ_values-grown.each ∙ sym earlier; within = equ_values-grown.within };
-    }
+        -- another name is no `.equ` of the line
+        other : (m : List ℕ) → (m ≡ d.symbol → ⊥) → is_equ_on (suc n) (definition_of q m) ≡ false
+        other m differs = no_equ-unless m (λ h. at (bytes_eq d.symbol m) refl (ap (λ b. is_defined (place_in_body (suc n) b m)) (sym body) ∙ h))
+          where
+            at : (b : Bool) → bytes_eq d.symbol m ≡ b → is_defined (if b then Equ (suc n) else Nowhere) ≡ true → is_equ_on (suc n) (definition_of q m) ≡ false
+            at true e h = absurd (differs (sym ((bytes_eq-Decides d.symbol m).0 e)))
+            at false e h = absurd (true≢false (sym h))
 
-    -- or a part of them
-    pub in_part-written : HoldsPart names' new.definitions.items (suc n) (in_row names old.definitions.items Nowhere) → AreInPart base lines names' s new
-    in_part-written part = record {
-      definitions = subst (HoldsPart names' new.definitions.items (suc n)) are.definitions.each part;
-      constants = λ name none. ap (λ f. f name) constants-grown.each;
-      equ_values = λ name none. ap (λ f. f name) equ_values-grown.each;
-      constants_within = constants-grown.within;
-      equ_values_within = equ_values-grown.within;
-    }
+        pub equ-forgotten : (new : Survey) → new.definitions.items ≡ row → new.constants.items ≡ set old.constants.items number None → new.equ_values.items ≡ set old.equ_values.items number (Err LaterEqu) → AreHalfForgotten base lines names line new
+        equ-forgotten new definitions constants equ_values = record {
+          definitions = subst (AreDefinitions q names) (sym definitions) are.definitions;
+          constants = record {
+            each = ap (λ r. in_row names r None) constants
+                ∙ row-forgotten names old.constants.items None d.symbol number (constant_through p n) numbered (no-constant p n d.symbol undefined_before)
+                (λ m differs. ap (λ f. f m) are.constants.each ∙ constant-behind m (other m differs));
+            within = rw (constants, length-set {A = Option ℤ}) are.constants.within;
+          };
+          equ_values = record {
+            each = ap (λ r. in_row names r (Err LaterEqu)) equ_values
+                ∙ row-forgotten names old.equ_values.items (Err LaterEqu) d.symbol number (equ_value base p n) numbered (no-equ_value base p n d.symbol undefined_before)
+                (λ m differs. ap (λ f. f m) are.equ_values.each ∙ equ_value-behind m (other m differs));
+            within = rw (equ_values, length-set {A = Entry}) are.equ_values.within;
+          };
+        }
 
--- Rows without it
-
-module _ (base : ℕ) (lines names : List (List ℕ)) (s : Stmt) (old : Survey) (part : AreInPart base lines names s old) where
-  abbrev without : Program
-  without = program_of lines
-
-  abbrev row : List DefinitionPlace
-  row = old.definitions.items
-
-  within-text : (name : List ℕ) → IsWithin 1 (1 + length lines) (definition_of without name)
-  within-text name = subst (λ k. IsWithin 1 (1 + k) (definition_of without name)) (length-program lines) (definition-within without name)
-
-  -- the line is no `.equ` that defines its symbol
-  no_equ-of : (body : Body) → ((d : Definition) → body ≡ EquBody d → is_equ_on (suc (length lines)) (in_row names row Nowhere d.symbol) ≡ false) → (name : List ℕ) → (is_equ_on (suc (length lines)) (in_row names row Nowhere name) && is_defined (place_in_body (suc (length lines)) body name)) ≡ false
-  no_equ-of (EquBody d) none name = at (bytes_eq d.symbol name) refl
-    where
-      at : (b : Bool) → bytes_eq d.symbol name ≡ b → (is_equ_on (suc (length lines)) (in_row names row Nowhere name) && is_defined (if bytes_eq d.symbol name then Equ (suc (length lines)) else Nowhere)) ≡ false
-      at true e =
-          let same : d.symbol ≡ name = (bytes_eq-Decides d.symbol name).0 e in
-          ap (λ b. b && is_defined (if bytes_eq d.symbol name then Equ (suc (length lines)) else Nowhere)) (ap (λ m. is_equ_on (suc (length lines)) (in_row names row Nowhere m)) (sym same) ∙ none d refl)
-      at false e =
-          ap (λ b. is_equ_on (suc (length lines)) (in_row names row Nowhere name) && is_defined (if b then Equ (suc (length lines)) else Nowhere)) e
-          ∙ and_right (is_equ_on (suc (length lines)) (in_row names row Nowhere name)) false refl
-  no_equ-of body none name = and_right (is_equ_on (suc (length lines)) (in_row names row Nowhere name)) false refl
-
-  pub equ-unwritten : ((d : Definition) → s.body ≡ EquBody d → is_equ_on (suc (length lines)) (in_row names row Nowhere d.symbol) ≡ false) → AreDefinitionsInPart base lines names old
-  equ-unwritten none = record {
-    definitions = part.definitions;
-    constants = record { each = fun_ext (λ name. part.constants name (no_equ-of s.body none name)); within = part.constants_within };
-    equ_values = record { each = fun_ext (λ name. part.equ_values name (no_equ-of s.body none name)); within = part.equ_values_within };
-  }
-
-  module _ (d : Definition) (number : ℕ) (body : s.body ≡ EquBody d) (numbered : number_of names d.symbol ≡ Some number) (equ : is_equ_on (suc (length lines)) (in_row names row Nowhere d.symbol) ≡ true) where
-    undefined_before : definition_of without d.symbol ≡ Nowhere
-    undefined_before =
-        equ-undefined (length lines) (definition_of without d.symbol) (part.definitions.part d.symbol) (within-text d.symbol)
-        (ap (λ f. is_equ_on (suc (length lines)) (f d.symbol)) (sym part.definitions.holds.each) ∙ equ)
-
-    -- another name is no `.equ` of the line
-    other : (m : List ℕ) → (m ≡ d.symbol → ⊥) → is_equ_behind lines s m (in_row names row Nowhere m) ≡ false
-    other m differs = ap (λ b. is_equ_on (suc (length lines)) (in_row names row Nowhere m) && is_defined (place_in_body (suc (length lines)) b m)) body ∙ at (bytes_eq d.symbol m) refl
-      where
-        at : (b : Bool) → bytes_eq d.symbol m ≡ b → (is_equ_on (suc (length lines)) (in_row names row Nowhere m) && is_defined (if b then Equ (suc (length lines)) else Nowhere)) ≡ false
-        at true e = absurd (differs (sym ((bytes_eq-Decides d.symbol m).0 e)))
-        at false e = and_right (is_equ_on (suc (length lines)) (in_row names row Nowhere m)) false refl
-
-    pub equ-forgotten : (new : Survey) → new.definitions.items ≡ row → new.constants.items ≡ set old.constants.items number None → new.equ_values.items ≡ set old.equ_values.items number (Err LaterEqu) → AreDefinitionsInPart base lines names new
-    equ-forgotten new definitions constants equ_values = record {
-      definitions = subst (λ r. HoldsPart names r (suc (length lines)) (definition_of without)) (sym definitions) part.definitions;
-      constants = record {
-        each = ap (λ r. in_row names r None) constants
-            ∙ row-forgotten names old.constants.items None d.symbol number (constant_through without (length lines)) numbered (no-constant without (length lines) d.symbol undefined_before)
-            (λ m differs. part.constants m (other m differs));
-        within = rw (constants, length-set {A = Option ℤ}) part.constants_within;
-      };
-      equ_values = record {
-        each = ap (λ r. in_row names r (Err LaterEqu)) equ_values
-            ∙ row-forgotten names old.equ_values.items (Err LaterEqu) d.symbol number (equ_value base without (length lines)) numbered (no-equ_value base without (length lines) d.symbol undefined_before)
-            (λ m differs. part.equ_values m (other m differs));
-        within = rw (equ_values, length-set {A = Entry}) part.equ_values_within;
-      };
-    }
-
--- and then without the definitions on its line
-pub symbols-forgotten : (base : ℕ) (lines names : List (List ℕ)) (old new : Survey) → AreDefinitionsInPart base lines names old → in_row names new.definitions.items Nowhere ≡ kept_after (Delete (suc (length lines))) lines (in_row names old.definitions.items Nowhere) → length new.definitions.items ≡ length old.definitions.items → new.constants ≡ old.constants → new.equ_values ≡ old.equ_values → AreSymbols base (program_of lines) (length lines) names new
-symbols-forgotten base lines names old new are kept count constants equ_values =
-    let p : Program = program_of lines in
-    let n : ℕ = length lines in
-    let part : Definitions = are.definitions.part in
-    let nothing_left : (name : List ℕ) → found_after (Delete (suc n)) lines name ≡ Nowhere =
-    λ name. ap (λ ls. first_place (suc n) (program_of ls) name) (drop_of_length-le lines (let e : length lines ≤ suc n - 1 = omega arith in e)) in
-    record {
-      definitions = record {
-        each = kept ∙ ap (kept_after (Delete (suc n)) lines) are.definitions.holds.each
-            ∙ fun_ext (λ name. taken-back n (definition_of p name) (part name) (found_after (Delete (suc n)) lines name)
-            (subst (λ k. IsWithin 1 (1 + k) (definition_of p name)) (length-program lines) (definition-within p name)) (are.definitions.on_line name) (nothing_left name));
-        within = omega (arith, count, are.definitions.holds.within);
-      };
-      constants = subst (λ v. AreConstants p n names v.items) (sym constants) are.constants;
-      equ_values = subst (λ v. AreEquValues base p n names v.items) (sym equ_values) are.equ_values;
-    }
+    -- and then without the definitions on its line
+    pub symbols-forgotten : (old new : Survey) → AreHalfForgotten base lines names line old → in_row names new.definitions.items Nowhere ≡ kept_after (Delete (suc n)) lines (in_row names old.definitions.items Nowhere) → length new.definitions.items ≡ length old.definitions.items
+        → new.constants ≡ old.constants → new.equ_values ≡ old.equ_values → AreSymbols base p n names new
+    symbols-forgotten old new are kept as_many constants equ_values =
+        let nothing_left : (name : List ℕ) → found_after (Delete (suc n)) lines name ≡ Nowhere =
+        λ name. ap (λ ls. first_place (suc n) (program_of ls) name) (drop_of_length-le lines (let e : length lines ≤ suc n - 1 = omega arith in e)) in
+        record {
+          definitions = record {
+            each = kept ∙ ap (kept_after (Delete (suc n)) lines) (are.definitions.each ∙ sym definitions-with)
+                ∙ fun_ext (λ name. taken-back n (definition_of p name) (place_in_statement (suc n) s name) (found_after (Delete (suc n)) lines name) (within name)
+                (within-on (suc n) (place_in_statement (suc n) s name) (statement-within (suc n) s name)) (nothing_left name));
+            within = omega (arith, as_many, are.definitions.within);
+          };
+          constants = subst (λ v. AreConstants p n names v.items) (sym constants) are.constants;
+          equ_values = subst (λ v. AreEquValues base p n names v.items) (sym equ_values) are.equ_values;
+        }
 
 -- The rows of all lines are those of the text with the line
 

@@ -1,9 +1,9 @@
 //! What a line at the end of a text defines, with which no other line has to do: the rows by names get it in place.
 
-ghost use Rattle.std.specs.Prelude.{◌≡◌, ℕ, true, ◌≤◌, ◌<◌, ◌+◌, ◌-◌, ◌*◌, ◌^◌, List, [], ◌∷◌, ◌++◌, false, length, set, OnOk, OnErr};
+ghost use Rattle.std.specs.Prelude.{◌≡◌, ℕ, suc, true, ◌≤◌, ◌<◌, ◌+◌, ◌-◌, ◌*◌, ◌^◌, List, [], ◌∷◌, ◌++◌, false, length, set, OnOk, OnErr};
 ghost use Rattle.rv_stmt.specs.Statement.{statement_of};
 ghost use Rattle.rv_program.specs.declared.limits.TheConstants.{MAX_LINES};
-ghost use Rattle.rv_store.specs.internal.Appended.{AreSameLines, AreSameSymbols, AreSymbols, HavePlaces, IsUnsettled, AreInPart, AreDefinitionsInPart};
+ghost use Rattle.rv_store.specs.internal.Appended.{AreSameLines, AreSameSymbols, AreSymbols, HavePlaces, StayEqus, IsUnsettled, AreHalfForgotten};
 ghost use Rattle.rv_program.specs.Program.{Program, program_of, body_at};
 ghost use Rattle.rv_program.specs.internal.Rows.{Grows, ArePlaces, AreLocals};
 ghost use Rattle.rv_store.specs.internal.StillLines.{MayWait};
@@ -15,7 +15,7 @@ use rv_list::DefinitionPlace;
 use rv_program::equ_values::settle_equ;
 use rv_program::{
     Line, LineEdit, Lines, MAX_LINES, NameTable, TextRows, define_line, defining_equ_on,
-    keep_places, settle_constant,
+    keep_places, number_line, settle_constant,
 };
 use rv_text::Count;
 use std::alloc::{AllocError, Global};
@@ -82,40 +82,10 @@ impl Survey {
         settle_equ(&text, last, &mut self.equ_values, counter);
     }
 
-    // Adds what the last line defines to the rows by names. Where there was no memory, they may hold a part of it.
-    fn write_last<C: Count>(
-        &mut self,
-        alloc: Global,
-        base: u32,
-        names: &mut NameTable,
-        line: &Line,
-        counter: &mut C,
-    ) -> Result<(), AllocError>
-        requires unsettled { (lines : List (List ℕ)) × IsUnsettled base lines names.old line.now self.old }
-        requires count { C.valued_count counter.old < 2 ^ 64 - 2 }
-        ensures symbols { OnOk result (AreSymbols base (program_of self.new.lines.items) (length self.new.lines.items) names.new self.new) }
-        ensures part { (lines : List (List ℕ)) → IsUnsettled base lines names.old line.now self.old → AreInPart base lines names.new (statement_of line.now) self.new }
-        ensures lines { AreSameLines self.old self.new }
-        ensures names { Grows names.old names.new }
-        ensures least { C.valued_count counter.old ≤ C.valued_count counter.new }
-        ensures most { C.valued_count counter.new ≤ C.valued_count counter.old + 2 }
-        ensures operands { C.valued_count counter.new ≤ C.valued_count counter.old + 2 * equ_operands (statement_of line.now).body }
-        ensures parsed { C.parsed_count counter.new ≡ C.parsed_count counter.old }
-        ensures encoded { C.encoded_count counter.new ≡ C.encoded_count counter.old }
-    {
-        let number = self.lines.len() as u32;
-        define_line(alloc, line, number, names, &mut self.definitions)?;
-        if line.brief().equ {
-            self.lengthen_rows(names)?;
-            self.settle_last(base, names, counter);
-        }
-        Ok(())
-    }
-
     // Takes the constant and the value of the `.equ` of the last line, which has this number, from the rows by names.
     fn forget_equ(&mut self, names: &NameTable, line: &Line, number: u32)
-        ensures symbols { (base : ℕ) → (lines : List (List ℕ)) → number ≡ length lines + 1 → AreInPart base lines names.now (statement_of line.now) self.old
-            → AreDefinitionsInPart base lines names.now self.new }
+        ensures symbols { (base : ℕ) → (lines : List (List ℕ)) → number ≡ length lines + 1 → StayEqus base lines line.now
+            → AreSymbols base (program_of (lines ++ line.now ∷ [])) (suc (length lines)) names.now self.old → AreHalfForgotten base lines names.now line.now self.new }
         ensures definitions { self.new.definitions ≡ self.old.definitions }
         ensures lines { AreSameLines self.old self.new }
     {
@@ -126,13 +96,13 @@ impl Survey {
         put_at(&mut self.equ_values, place, Err(ValueFault::LaterEqu));
     }
 
-    /// Takes what the last line defines from the rows by names, which may hold a part of it, if it defines any.
+    /// Takes what the last line defines from the rows by names, if it defines any.
     pub fn forget_last(&mut self, names: &NameTable, line: &Line, any: bool)
         requires some { 1 ≤ length self.old.lines.items }
         requires few { length self.old.lines.items ≤ MAX_LINES }
         requires named { length self.old.definitions.items ≤ length names.now }
-        ensures symbols { any ≡ true → (base : ℕ) → (lines : List (List ℕ)) → self.old.lines.items ≡ lines ++ line.now ∷ []
-            → AreInPart base lines names.now (statement_of line.now) self.old → AreSymbols base (program_of lines) (length lines) names.now self.new }
+        ensures symbols { any ≡ true → (base : ℕ) → (lines : List (List ℕ)) → self.old.lines.items ≡ lines ++ line.now ∷ [] → StayEqus base lines line.now
+            → AreSymbols base (program_of self.old.lines.items) (length self.old.lines.items) names.now self.old → AreSymbols base (program_of lines) (length lines) names.now self.new }
         ensures none { any ≡ false → AreSameSymbols self.old self.new }
         ensures lines { AreSameLines self.old self.new }
     {
@@ -146,7 +116,8 @@ impl Survey {
         keep_places(&back, earlier, names, &mut self.definitions);
     }
 
-    /// Adds what the last line defines to the rows by names, if it defines any, where the text before it has nothing to do with it.
+    /// Adds what the last line defines to the rows by names, if it defines any, where the text before it has nothing to do with it. Its names
+    /// have numbers and places in the rows before anything is written.
     ///
     /// The counter's number of expressions computed rises by at most two, and only for an `.equ`.
     ///
@@ -165,7 +136,6 @@ impl Survey {
         requires unsettled { MayWait base names.old line.now any self.old }
         requires count { C.valued_count counter.old < 2 ^ 64 - 2 }
         ensures symbols { OnOk result (AreSymbols base (program_of self.new.lines.items) (length self.new.lines.items) names.new self.new) }
-        ensures part { OnOk result (any ≡ true → (lines : List (List ℕ)) → IsUnsettled base lines names.old line.now self.old → AreInPart base lines names.new (statement_of line.now) self.new) }
         ensures none { any ≡ false → (names.new ≡ names.old) × AreSameSymbols self.old self.new }
         ensures defines { OnErr result (any ≡ true) }
         ensures err { OnErr result ((lines : List (List ℕ)) → IsUnsettled base lines names.old line.now self.old → AreSymbols base (program_of lines) (length lines) names.new self.new) }
@@ -180,12 +150,13 @@ impl Survey {
         if !any {
             return Ok(());
         }
-        match self.write_last(alloc, base, names, line, counter) {
-            Ok(()) => Ok(()),
-            Err(e) => {
-                self.forget_last(names, line, true);
-                Err(e)
-            }
+        number_line(alloc, line, names)?;
+        self.lengthen_rows(names)?;
+        let number = self.lines.len() as u32;
+        define_line(line, number, names, &mut self.definitions);
+        if line.brief().equ {
+            self.settle_last(base, names, counter);
         }
+        Ok(())
     }
 }

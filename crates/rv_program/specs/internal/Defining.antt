@@ -1,10 +1,13 @@
 -- Definitions of names, joined in the order of the text.
-use Rattle.std.specs.Prelude.{◌≡◌, ℕ, ◌≤◌, nat_le, Bool, false, List, length, bytes_eq, if◌then◌else◌}
-use Rattle.rv_stmt.specs.LabelNames.{Label}
+use Rattle.std.specs.Prelude.{◌≡◌, ℕ, ◌≤◌, nat_le, Bool, true, false, List, [], ◌∷◌, length, bytes_eq, if◌then◌else◌}
+use Rattle.rv_stmt.specs.declared.statement.Body.{Body}
+use Rattle.rv_stmt.specs.declared.statement.Body.TheVariants.{Equ as EquBody}
+use Rattle.rv_stmt.specs.declared.statement.Stmt.{Stmt}
+use Rattle.rv_stmt.specs.LabelNames.{Label, LabelName, Symbol, Local}
 use Rattle.rv_list.specs.declared.view.DefinitionPlace.{DefinitionPlace}
 use Rattle.rv_list.specs.declared.view.DefinitionPlace.TheVariants.{Nowhere, Label as ByLabel, Equ}
 use Rattle.rv_program.specs.Definitions.{defines_symbol, or_place}
-use Rattle.rv_program.specs.internal.Rows.{in_row}
+use Rattle.rv_program.specs.internal.Rows.{has_number, in_row}
 
 -- the definition of each name of a part of the text
 abbrev pub Definitions : Type 0
@@ -47,8 +50,20 @@ IsOn line Nowhere = Unit {0}
 IsOn line (ByLabel l index) = l ≡ line
 IsOn line (Equ l) = l ≡ line
 
--- a row that holds these, and some that are on this line
-pub record HoldsPart (names : List (List ℕ)) (row : List DefinitionPlace) (line : ℕ) (others : Definitions) : Type 0 where
-  pub part : Definitions
-  pub on_line : (name : List ℕ) → IsOn line (part name)
-  pub holds : Holds names row (also_on line others part)
+-- the symbol of a label has a number
+abbrev pub IsLabelNumbered : (names : List (List ℕ)) → LabelName → Type 0
+IsLabelNumbered names (Symbol symbol) = has_number names symbol ≡ true
+IsLabelNumbered names (Local number) = Unit {0}
+
+abbrev pub AreLabelsNumbered : (names : List (List ℕ)) → List Label → Type 0
+AreLabelsNumbered names [] = Unit {0}
+AreLabelsNumbered names (l ∷ ls) = IsLabelNumbered names l.name × AreLabelsNumbered names ls
+
+-- the symbol of an `.equ` has one
+abbrev pub IsBodyNumbered : (names : List (List ℕ)) → Body → Type 0
+IsBodyNumbered names (EquBody d) = has_number names d.symbol ≡ true
+IsBodyNumbered names body = Unit {0}
+
+-- the names that a statement defines have numbers
+abbrev pub IsNumbered : (names : List (List ℕ)) → Stmt → Type 0
+IsNumbered names s = AreLabelsNumbered names s.labels × IsBodyNumbered names s.body

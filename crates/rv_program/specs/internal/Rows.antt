@@ -1,5 +1,6 @@
 -- What the rows hold that are kept of a text: one value for each name, by the name's number, or one for each line.
-use Rattle.std.specs.Prelude.{◌≡◌, ℕ, ℤ, suc, ◌<◌, ◌≤◌, List, [], ◌++◌, length, get_or, position, bytes_eq, Option, Some, None, Err}
+use Rattle.std.specs.Prelude.{◌≡◌, ℕ, ℤ, suc, ◌<◌, ◌≤◌, Bool, List, [], ◌++◌, length, get_or, position, bytes_eq, Option, Some, None, Err}
+use Rattle.std.specs.Option.{is_some}
 use Rattle.rv_expr.specs.declared.faults.ValueFault.TheVariants.{LaterEqu, NoPartner}
 use Rattle.rv_layout.specs.declared.measured.Measured.{Measured}
 use Rattle.rv_fix.specs.Values.{Entry}
@@ -18,6 +19,10 @@ use Rattle.rv_program.specs.References.{has_local, equ_value}
 -- the number of a name among those that have one, from 0 on
 abbrev pub number_of : (names : List (List ℕ)) → (name : List ℕ) → Option ℕ
 number_of names name = position (bytes_eq name) names
+
+-- a name has a number
+abbrev pub has_number : (names : List (List ℕ)) → (name : List ℕ) → Bool
+has_number names name = is_some (number_of names name)
 
 -- the number is that of a name
 abbrev pub IsNumber : (names : List (List ℕ)) → Option ℕ → Type 0

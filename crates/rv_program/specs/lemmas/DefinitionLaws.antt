@@ -8,6 +8,7 @@ use Rattle.rv_list.specs.declared.view.DefinitionPlace.{DefinitionPlace}
 use Rattle.rv_list.specs.declared.view.DefinitionPlace.TheVariants.{Nowhere, Label as ByLabel, Equ}
 use Rattle.rv_program.specs.Definitions.{defines_symbol, place_among_labels, place_in_body, or_place, place_in_statement, first_place, definition_of, is_defined, is_equ_on}
 use Rattle.rv_program.specs.Program.{Program}
+use Rattle.rv_program.specs.internal.Defining.{IsOn}
 
 -- on one of the lines from `from` to before `to`
 abbrev pub IsWithin : (from to : ℕ) → DefinitionPlace → Type 0
@@ -58,6 +59,12 @@ within-lines line (s ∷ ss) name =
 -- a definition stands on a line of the text
 pub definition-within : (program : Program) (name : List ℕ) → IsWithin 1 (1 + length program) (definition_of program name)
 definition-within program name = within-lines 1 program name
+
+-- on the line alone
+pub within-on : (line : ℕ) (place : DefinitionPlace) → IsWithin line (line + 1) place → IsOn line place
+within-on line Nowhere within = tt
+within-on line (ByLabel l index) within = omega (arith, within.0, within.1)
+within-on line (Equ l) within = omega (arith, within.0, within.1)
 
 pub is_equ_on-true : (line : ℕ) (place : DefinitionPlace) → is_equ_on line place ≡ true → place ≡ Equ line
 is_equ_on-true line Nowhere h = absurd (let no : false ≡ true = h in cc)

@@ -7,8 +7,9 @@ use Rattle.std.proofs.lemmas.Bool.Decides.{nat_tests}
 use Rattle.std.proofs.lemmas.List.{append-nil, map-append, length-append, get_or_past, get_or-set_same, get_or-set_other, take_all, length-replicate}
 use Rattle.std.proofs.lemmas.Slice.Eq.{bytes_eq-Decides}
 use Rattle.std.specs.List.{list_any, position_or_len, AllByRecursion, IsDistinct}
+use Rattle.std.specs.Option.{is_some}
 use Rattle.rv_program.specs.internal.NameSets.{bucket_of}
-use Rattle.rv_program.specs.internal.Rows.{number_of, entry_at, in_row, Grows}
+use Rattle.rv_program.specs.internal.Rows.{number_of, has_number, entry_at, in_row, Grows}
 use Rattle.rv_program.specs.lemmas.NameSetLaws.{bucket-below}
 
 -- Places of elements
@@ -192,6 +193,14 @@ module _ (names : List (List ℕ)) (buckets : List ℕ) (is : buckets ≡ map bu
   bucket-of_number-below = subst (λ b. b < 16384) (sym of_place) (bucket-below (get_or names n []))
 
 -- Rows
+
+-- a name keeps its number when names grow
+pub number-grown : (old new : List (List ℕ)) (name : List ℕ) → Grows old new → has_number old name ≡ true → has_number new name ≡ true
+number-grown old new name grows has = at (number_of old name) refl has
+  where
+    at : (r : Option ℕ) → number_of old name ≡ r → is_some r ≡ true → has_number new name ≡ true
+    at None e h = absurd (false≢true h)
+    at (Some n) e h = ap (λ names. has_number names name) grows.1 ∙ ap is_some (position-left (bytes_eq name) old grows.0 n e)
 
 -- a row stays when names grow
 pub row-grown : {A : Type 0} (old new : List (List ℕ)) (row : List A) (other : A) → Grows old new → length row ≤ length old → in_row new row other ≡ in_row old row other

@@ -14,7 +14,6 @@ use Rattle.rv_list.specs.declared.view.DefinitionPlace.TheVariants.{Nowhere, Lab
 use Rattle.rv_program.specs.declared.limits.TheConstants.{MAX_LINES}
 use Rattle.rv_store.specs.declared.survey.Survey.{Survey}
 use Rattle.rv_program.specs.Constants.{constant_through}
-use Rattle.rv_program.specs.internal.Defining.{HoldsPart}
 use Rattle.rv_program.specs.Definitions.{place_in_body, place_in_statement, definition_of, is_defined, is_equ_on}
 use Rattle.rv_program.specs.Layout.{shapes_of}
 use Rattle.rv_program.specs.Pairs.{pcrel_high_of}
@@ -112,22 +111,8 @@ pub record IsUnsettled (base : ℕ) (lines names : List (List ℕ)) (line : List
   pub places : ArePlaces base (program_of s.lines.items) s.places.items
   pub locals : AreLocals (program_of s.lines.items) (length (program_of s.lines.items)) s.locals
 
--- a definition by the `.equ` of the line behind the text
-abbrev pub is_equ_behind : (lines : List (List ℕ)) → Stmt → (name : List ℕ) → DefinitionPlace → Bool
-is_equ_behind lines s name place = is_equ_on (suc (length lines)) place && is_defined (place_in_body (suc (length lines)) s.body name)
-
--- the rows by names hold a part of what the line defines
-pub record AreInPart (base : ℕ) (lines names : List (List ℕ)) (s : Stmt) (survey : Survey) : Type 0 where
-  pub definitions : HoldsPart names survey.definitions.items (suc (length lines)) (definition_of (program_of lines))
-  pub constants : (name : List ℕ) → is_equ_behind lines s name (in_row names survey.definitions.items Nowhere name) ≡ false
-      → in_row names survey.constants.items None name ≡ constant_through (program_of lines) (length lines) name
-  pub equ_values : (name : List ℕ) → is_equ_behind lines s name (in_row names survey.definitions.items Nowhere name) ≡ false
-      → in_row names survey.equ_values.items (Err LaterEqu) name ≡ equ_value base (program_of lines) (length lines) name
-  pub constants_within : length survey.constants.items ≤ length names
-  pub equ_values_within : length survey.equ_values.items ≤ length names
-
--- those hold a part of it that say where names are defined, and the others nothing
-pub record AreDefinitionsInPart (base : ℕ) (lines names : List (List ℕ)) (survey : Survey) : Type 0 where
-  pub definitions : HoldsPart names survey.definitions.items (suc (length lines)) (definition_of (program_of lines))
+-- the rows by names are those of the text with the line, but that its `.equ` has no constant and no value
+pub record AreHalfForgotten (base : ℕ) (lines names : List (List ℕ)) (line : List ℕ) (survey : Survey) : Type 0 where
+  pub definitions : AreDefinitions (program_of (lines ++ line ∷ [])) names survey.definitions.items
   pub constants : AreConstants (program_of lines) (length lines) names survey.constants.items
   pub equ_values : AreEquValues base (program_of lines) (length lines) names survey.equ_values.items

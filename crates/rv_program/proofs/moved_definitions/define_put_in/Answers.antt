@@ -12,7 +12,7 @@ returns-in-Insert-clause-row c =
     let line = c.index-lines-k.result in
     let before = in_row c.args.names.now c.args.row.now.items Nowhere in
     let same = put_in-inserted c.args.old.now c.args.lines.now (edit_of c.args.edit.now) k c.in-Insert.field-1.now line before (ap edit_of c.in-Insert.is) c.requires.allowed c.requires.edited c.index-lines-k.is in
-    subst (λ f. IfOk c.define_line.result (λ _. Holds c.define_line.new.names c.define_line.new.row.items f)) same c.define_line.ensures.row
+    subst (λ f. IfOk c.define_with_numbers.result (λ _. Holds c.define_with_numbers.new.names c.define_with_numbers.new.row.items f)) same c.define_with_numbers.ensures.row
 
 pub returns-in-Replace-clause-row : goal.returns-in-Replace-clause-row
 returns-in-Replace-clause-row c =
@@ -20,4 +20,4 @@ returns-in-Replace-clause-row c =
     let line = c.index-lines-k-in-Replace.result in
     let before = in_row c.args.names.now c.args.row.now.items Nowhere in
     let same = put_in-replaced c.args.old.now c.args.lines.now (edit_of c.args.edit.now) k c.in-Replace.field-1.now line before (ap edit_of c.in-Replace.is) c.requires.allowed c.requires.edited c.index-lines-k-in-Replace.is in
-    subst (λ f. IfOk c.define_line-in-Replace.result (λ _. Holds c.define_line-in-Replace.new.names c.define_line-in-Replace.new.row.items f)) same c.define_line-in-Replace.ensures.row
+    subst (λ f. IfOk c.define_with_numbers-in-Replace.result (λ _. Holds c.define_with_numbers-in-Replace.new.names c.define_with_numbers-in-Replace.new.row.items f)) same c.define_with_numbers-in-Replace.ensures.row

@@ -125,7 +125,7 @@ returns-clause-symbols g c = at c.args.still.now.defines refl
     at : (b : Bool) → c.args.still.now.defines ≡ b → AreSymbols c.args.base (program_of lines) (length lines) c.define_last.new.names c.forget_last.new.self
     at true is =
         let was = unsettled c.requires.still c.args.names.now c.args.survey.now c.put_line.new.self c.requires.survey (rw c.place.ensures.value at c.in_ok-put_line.ensures.ok) c.in_ok-new.new c.in_ok-new.ensures (rw c.requires.edited.edited at c.requires.few) c.put_line.ensures.symbols refl is in
-        c.forget_last.ensures.symbols is c.args.base lines (c.define_last.ensures.lines.lines ∙ was.more) (c.in_ok-define_last.ensures.part is lines was)
+        c.forget_last.ensures.symbols is c.args.base lines (c.define_last.ensures.lines.lines ∙ was.more) was.earlier c.in_ok-define_last.ensures.symbols
     at false is =
         let none = c.define_last.ensures.none is in
         let before = symbols-same c.args.base (program_of lines) (length lines) c.args.names.now c.args.survey.now c.put_line.new.self c.put_line.ensures.symbols (symbols-of c.args.base lines c.args.names.now c.args.survey.now c.requires.survey) in

@@ -1,9 +1,7 @@
 use Rattle.std.proofs.Common.{◌≡◌, ◌-◌, ℕ, List, [], ◌∷◌, ◌++◌, Bool, true, false, length, take, arith, ap, sym, subst, ◌∙◌, refl}
-use Rattle.rv_stmt.specs.Statement.{statement_of}
 use Rattle.rv_program.specs.Program.{program_of}
-use Rattle.rv_store.specs.internal.Appended.{AreSymbols, AreInPart}
+use Rattle.rv_store.specs.internal.Appended.{AreSymbols, StayEqus}
 use Rattle.rv_store.specs.internal.Surveys.{IsSurvey}
-use Rattle.rv_store.proofs.LastDefinitions.{in_part-all}
 use Rattle.rv_store.proofs.LastLines.{symbols-back, survey-without}
 use Rattle.rv_store.proofs.LongerTexts.{count-longer}
 use Rattle.rv_store.proofs.StillRows.{symbols-of, symbols-same}
@@ -36,10 +34,9 @@ returns-clause-survey c base is named are =
     by_names : (b : Bool) → c.args.last.now.defines ≡ b → AreSymbols base (program_of is.lines) (length is.lines) c.args.names.now c.forget_last.new.self
     by_names true e =
         let last = (is.still.last (sym is.defines ∙ e)).1 in
-        let part = in_part-all base is.lines is.line last c.args.names.now c.args.self.now
-        (subst (λ k. AreSymbols base (program_of whole) k c.args.names.now c.args.self.now) (count-longer is.lines is.line) held) in
         c.forget_last.ensures.symbols e base is.lines (is.whole ∙ ap (λ l. is.lines ++ l ∷ []) (sym named))
-        (subst (λ l. AreInPart base is.lines c.args.names.now (statement_of l) c.args.self.now) (sym named) part)
+        (subst (StayEqus base is.lines) (sym named) last)
+        (subst (λ ls. AreSymbols base (program_of ls) (length ls) c.args.names.now c.args.self.now) (sym is.whole) held)
     by_names false e =
         symbols-same base (program_of is.lines) (length is.lines) c.args.names.now c.args.self.now c.forget_last.new.self (c.forget_last.ensures.none e)
         (symbols-back is.still c.args.names.now c.args.self.now (is.still.nothing (sym is.defines ∙ e)) held)
