@@ -1,9 +1,8 @@
 -- A line at the end of a text. Other lines have to do with it by the names that it defines and its local labels alone, where no section
 -- moves by it.
-use Rattle.std.specs.Prelude.{◌≡◌, ℕ, suc, ◌<◌, ◌≤◌, Bool, true, false, not, ◌&&◌, nat_lt, List, [], ◌∷◌, ◌++◌, length, get_or, None, Err}
+use Rattle.std.specs.Prelude.{◌≡◌, ℕ, suc, ◌<◌, ◌≤◌, Bool, true, false, not, ◌&&◌, nat_lt, List, [], ◌∷◌, ◌++◌, length, get_or, None}
 use Rattle.std.specs.Option.{is_some}
 use Rattle.rv_expr.specs.declared.tree.Direction.TheVariants.{Forward}
-use Rattle.rv_expr.specs.declared.faults.ValueFault.TheVariants.{LaterEqu}
 use Rattle.rv_stmt.specs.declared.statement.Stmt.{Stmt}
 use Rattle.rv_layout.specs.declared.measured.Measured.{Measured}
 use Rattle.rv_layout.specs.Places.{section_base_of}
@@ -14,7 +13,7 @@ use Rattle.rv_list.specs.declared.view.DefinitionPlace.TheVariants.{Nowhere, Lab
 use Rattle.rv_program.specs.declared.limits.TheConstants.{MAX_LINES}
 use Rattle.rv_store.specs.declared.survey.Survey.{Survey}
 use Rattle.rv_program.specs.Constants.{constant_through}
-use Rattle.rv_program.specs.Definitions.{place_in_body, place_in_statement, definition_of, is_defined, is_equ_on}
+use Rattle.rv_program.specs.Definitions.{place_in_statement, definition_of, is_defined}
 use Rattle.rv_program.specs.Layout.{shapes_of}
 use Rattle.rv_program.specs.Pairs.{pcrel_high_of}
 use Rattle.rv_program.specs.Program.{Program, program_of, body_at}
