@@ -19,7 +19,6 @@ use Rattle.rv_stmt.specs.Data.{data_size}
 use Rattle.rv_stmt.specs.Expansion.{expansion_of, instructions_of, is_constant_load, size_of_instructions}
 use Rattle.rv_stmt.specs.Readings.{and_then}
 use Rattle.rv_stmt.specs.Statement.{operands_of_content}
-use Rattle.rv_stmt.specs.ValueParts.{signed_word}
 use Rattle.rv_layout.specs.declared.measured.Measured.{Measured}
 use Rattle.rv_layout.specs.declared.measured.Measured.TheVariants.{Nothing, Faulty}
 use Rattle.rv_layout.specs.Places.{size_at as size_of_shape}
@@ -86,7 +85,7 @@ module _ (laws : SizeLaws) (base : ℕ) (program : Program) (i : ℕ) (within : 
 
   plain_by : (b : Body) (ins : Instruction) (es : List Entry) (o : Operand) (r : Result ℤ Fault) → ((es : List Entry) → code_of_body b es ≡ code_of_instruction ins es) → is_constant_load (expansion_of ins.operands) ≡ false → coded (shape_by (λ z. bytes_or_range o.span (load_size ins z)) r) b es ≡ size_of_shape x (shape_by (λ z. bytes_or_range o.span (load_size ins z)) r)
   plain_by b ins es o (Err fault) same e = refl
-  plain_by b ins es o (Ok z) same e = plain_loaded b ins es o.span (with_value ins.fields (signed_word z)) (is_loadable z) same e
+  plain_by b ins es o (Ok z) same e = plain_loaded b ins es o.span (with_value z ins.fields) (is_loadable z) same e
 
   plain_sized : (b : Body) (ins : Instruction) (es : List Entry) (o : Option Operand) → ((es : List Entry) → code_of_body b es ≡ code_of_instruction ins es) → is_constant_load (expansion_of ins.operands) ≡ false → coded (shape_of_instructions (constants (constant_of program i)) ins o) b es ≡ size_of_shape x (shape_of_instructions (constants (constant_of program i)) ins o)
   plain_sized b ins es None same e = ap (λ c. length c.payload) (same es) ∙ laws.instructions ins es e
@@ -96,7 +95,7 @@ module _ (laws : SizeLaws) (base : ℕ) (program : Program) (i : ℕ) (within : 
   abbrev load_of : Instruction → OperandValue → Span → Instruction
   load_of ins v span = record { name = ins.name; op = ins.op; fields = ins.fields; operands = constant_operand v span ∷ [] }
 
-  load_filled : (ins : Instruction) (v : OperandValue) (span : Span) (e : Entry) (z : ℤ) → e ≡ Ok z → is_loadable z ≡ true → filled (limits_of (shape_of_operation ins.op)) (constant_operand v span ∷ []) (e ∷ []) ins.fields ≡ Ok (with_value ins.fields (signed_word z))
+  load_filled : (ins : Instruction) (v : OperandValue) (span : Span) (e : Entry) (z : ℤ) → e ≡ Ok z → is_loadable z ≡ true → filled (limits_of (shape_of_operation ins.op)) (constant_operand v span ∷ []) (e ∷ []) ins.fields ≡ Ok (with_value z ins.fields)
   load_filled ins v span e z is loads = rw is (rw loads refl)
 
   load_by : (b : Body) (ins : Instruction) (v : OperandValue) (span : Span) (r : Result ℤ Fault) → ((es : List Entry) → code_of_body b es ≡ code_of_instruction (load_of ins v span) es) → constant (constant_operand v span) ≡ r → coded (shape_by (λ z. bytes_or_range span (load_size (load_of ins v span) z)) r) b (entry (constant_operand v span) ∷ []) ≡ size_of_shape x (shape_by (λ z. bytes_or_range span (load_size (load_of ins v span) z)) r)
@@ -107,10 +106,10 @@ module _ (laws : SizeLaws) (base : ℕ) (program : Program) (i : ℕ) (within : 
       es = entry (constant_operand v span) ∷ []
 
       fields : Fields
-      fields = with_value ins.fields (signed_word z)
+      fields = with_value z ins.fields
 
       size : Bool → Option ℕ
-      size loads = if loads then Some (size_of_instructions (instructions_of (load_of ins v span) (with_value ins.fields (signed_word z)))) else None
+      size loads = if loads then Some (size_of_instructions (instructions_of (load_of ins v span) (with_value z ins.fields))) else None
 
       at : (loads : Bool) → is_loadable z ≡ loads → coded (bytes_or_range span (size loads)) b es ≡ size_of_shape x (bytes_or_range span (size loads))
       at false unloadable = refl
