@@ -212,7 +212,11 @@ pub fn may_define(line: &Line) -> bool
     brief.labels || brief.equ
 }
 
-/// Gives numbers to the names that a line defines, if they have none, also where there is no memory for all of them.
+/// Gives numbers to the names that a line defines, if they have none. Names that have numbers keep them.
+///
+/// # Errors
+///
+/// Fails only where there is no memory. Some of the names may then have got theirs.
 pub fn number_line(alloc: Global, line: &Line, names: &mut NameTable) -> Result<(), AllocError>
     ensures numbered { OnOk result (IsNumbered names.new (statement_of line.now)) }
     ensures names { Grows names.old names.new }
