@@ -7,14 +7,13 @@ use Rattle.rv_stmt.specs.declared.statement.Body.{Body}
 use Rattle.rv_stmt.specs.declared.statement.Body.TheVariants as body
 use Rattle.rv_stmt.specs.declared.statement.Stmt.{Stmt}
 use Rattle.rv_stmt.specs.LabelNames.{Label}
-use Rattle.rv_layout.specs.Places.{section_of, line_size_of, address_of}
 use Rattle.rv_layout.specs.Shapes.{constants, shape_of}
 use Rattle.rv_list.specs.declared.view.DefinitionPlace.TheVariants.{Nowhere, Label as ByLabel}
 use Rattle.rv_store.specs.internal.Alike.{label_names, room_of, DefinesSame, IsAlike}
 use Rattle.rv_program.specs.Constants.{defined_value, constant_of, constant_through}
 use Rattle.rv_program.specs.Definitions.{defines_symbol, place_among_labels, place_in_body, or_place, place_in_statement, first_place, definition_of, is_equ_on}
 use Rattle.rv_store.specs.internal.Ends.{ends_of}
-use Rattle.rv_program.specs.Layout.{shape_at, shapes_of, section_at, address_at, size_at, place_at}
+use Rattle.rv_program.specs.Layout.{shape_at, shapes_of, place_at}
 use Rattle.rv_program.specs.Pairs.{pcrel_high_of}
 use Rattle.rv_program.specs.Program.{Program, no_statement, statement_at, body_at, for_lines}
 use Rattle.rv_program.specs.References.{is_local, among_local, has_local}
@@ -22,7 +21,8 @@ use Rattle.rv_store.specs.internal.Still.{Touched, IsStill}
 use Rattle.rv_program.specs.Uses.{is_equ}
 use Rattle.rv_store.proofs.ApartLines.{untouched}
 use Rattle.rv_program.specs.lemmas.ConstantRows.{IsEquOf, is_equ_of, equ-defines, constant-kept}
-use Rattle.rv_store.proofs.Rooms.{map-for_lines, section-rooms, address-rooms, size-rooms, ends-rooms}
+use Rattle.rv_store.proofs.Rooms as rooms
+use Rattle.rv_store.proofs.Rooms.{map-for_lines}
 use Rattle.rv_store.proofs.StillLaws.{same_number}
 
 -- Labels that define the same
@@ -163,23 +163,10 @@ module _ (p : Program) (k : ℕ) (t : Stmt) (first : 1 ≤ k) (last : k ≤ leng
       ∙ sym (map-for_lines room_of (shape_at p) (length p))
 
   pub ends-same : ends_of (shapes_of put) ≡ ends_of (shapes_of p)
-  ends-same = sym (ends-rooms (shapes_of put)) ∙ ap ends_of rooms-same ∙ ends-rooms (shapes_of p)
-
-  pub section-same : (i : ℕ) → section_at put i ≡ section_at p i
-  section-same i = sym (section-rooms (shapes_of put) i) ∙ ap (λ ms. section_of ms i) rooms-same ∙ section-rooms (shapes_of p) i
-
-  address-same-at : (base i : ℕ) → address_at base put i ≡ address_at base p i
-  address-same-at base i =
-      sym (address-rooms base (shapes_of put) i) ∙ ap (λ ms. address_of base ms i) rooms-same ∙ address-rooms base (shapes_of p) i
-
-  pub address-same : (base : ℕ) → address_at base put ≡ address_at base p
-  address-same base = λ j i. address-same-at base i j
-
-  pub size-same : (i : ℕ) → size_at put i ≡ size_at p i
-  size-same i = sym (size-rooms (shapes_of put) i) ∙ ap (λ ms. line_size_of ms i) rooms-same ∙ size-rooms (shapes_of p) i
+  ends-same = rooms.ends-same (shapes_of put) (shapes_of p) rooms-same
 
   pub place-same : (base : ℕ) → place_at base put ≡ place_at base p
-  place-same base = λ j i. record { section = section-same i j; address = address-same base j i; size = size-same i j }
+  place-same base = λ j i. rooms.places-same (shapes_of put) (shapes_of p) rooms-same base i j
 
   has_local-same : (number i : ℕ) → has_local put number i ≡ has_local p number i
   has_local-same number i = among_local-same number (statement_at p i).labels (statement_at put i).labels (labels-same i)

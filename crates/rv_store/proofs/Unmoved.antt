@@ -3,11 +3,10 @@ use Rattle.std.proofs.Common.{◌≡◌, ℕ, zero, suc, ◌+◌, ◌-◌, ◌<�
 use Rattle.std.specs.Prelude.{insert, remove}
 use Rattle.std.proofs.lemmas.List.{ext_get_or, get_or_default, length-set}
 use Rattle.std.proofs.lemmas.List.Edits.{length-insert, length-remove, get_or-insert_below, get_or-insert_at, get_or-insert_above}
-use Rattle.rv_text.specs.declared.faults.Fault.{Fault}
 use Rattle.rv_stmt.specs.declared.section.Sect.{Sect}
 use Rattle.rv_stmt.specs.declared.section.Sect.TheVariants.{Text}
 use Rattle.rv_layout.specs.declared.measured.Measured.{Measured}
-use Rattle.rv_layout.specs.declared.measured.Measured.TheVariants.{Bytes, Align, Switch, Nothing, Faulty}
+use Rattle.rv_layout.specs.declared.measured.Measured.TheVariants.{Nothing}
 use Rattle.rv_layout.specs.Places.{section_after, offset_after, section_through, offset_through, size_at, section_end_of, base_from}
 use Rattle.rv_layout.specs.Sections.{section_number}
 use Rattle.rv_list.specs.declared.view.LinePlace.{LinePlace}
@@ -17,35 +16,14 @@ use Rattle.rv_program.specs.Text.{Edit, Insert, Delete, Replace}
 use Rattle.rv_program.specs.lemmas.EarlierLines.{insert_before, delete_before, replace_before}
 use Rattle.rv_program.specs.lemmas.NewShapeLaws.{deleted-stood, new-place}
 use Rattle.rv_program.specs.lemmas.Programs.{length-for_lines, at-for_lines}
+use Rattle.rv_store.specs.internal.Alike.{room_of}
 use Rattle.rv_store.specs.internal.Column.{HasPlace}
 use Rattle.rv_store.specs.internal.EditedRows.{edited_row}
 use Rattle.rv_store.specs.internal.Ends.{by_section, ends_of, place_by_shapes}
-use Rattle.rv_store.specs.internal.Unmoved.{bare, MovesNone, place_put_in}
+use Rattle.rv_store.specs.internal.Unmoved.{MovesNone, place_put_in}
 use Rattle.rv_store.proofs.Columns.{inserted-removed}
 use Rattle.rv_store.proofs.FormerShapes.{former-at, former-new}
-
--- Shapes without their faults
-
--- what takes a fault for nothing tells apart no shapes that differ by faults
-by-bare : {A : Type 0} (f : Measured → A) → ((fault : Fault) → f (Faulty fault) ≡ f Nothing) → (m : Measured) → f m ≡ f (bare m)
-by-bare f none (Bytes n) = refl
-by-bare f none (Align e) = refl
-by-bare f none (Switch t) = refl
-by-bare f none Nothing = refl
-by-bare f none (Faulty fault) = none fault
-
-module _ (m n : Measured) (same : bare m ≡ bare n) where
-  same-by : {A : Type 0} (f : Measured → A) → ((fault : Fault) → f (Faulty fault) ≡ f Nothing) → f m ≡ f n
-  same-by f none = by-bare f none m ∙ ap f same ∙ sym (by-bare f none n)
-
-  same-section : (s : Sect) → section_after s m ≡ section_after s n
-  same-section s = same-by (section_after s) (λ fault. refl)
-
-  same-offset : (x : ℕ) → offset_after x m ≡ offset_after x n
-  same-offset x = same-by (offset_after x) (λ fault. refl)
-
-  same-size : (x : ℕ) → size_at x m ≡ size_at x n
-  same-size x = same-by (size_at x) (λ fault. refl)
+use Rattle.rv_store.proofs.Rooms.{places-same, ends-same, rooms-set, rooms-insert}
 
 -- Lines behind which others lie alike
 
@@ -62,65 +40,38 @@ one-more m xs ys alike = record {
   offset = λ t s x. alike.offset t (section_after s m) (if section_number s == t then offset_after x m else x);
 }
 
-one-other : (m n : Measured) (xs : List Measured) → bare m ≡ bare n → LeadAlike (m ∷ xs) (n ∷ xs)
-one-other m n xs same = record {
-  section = λ s. ap (λ t. section_through t xs) (same-section m n same s);
-  offset = λ t s x i. offset_through t (same-section m n same s i) (if section_number s == t then same-offset m n same x i else x) xs;
-}
-
 either : (b : Bool) (x : ℕ) → (if b then x else x) ≡ x
 either true x = refl
 either false x = refl
 
-one-less : (m : Measured) (xs : List Measured) → bare m ≡ Nothing → LeadAlike (m ∷ xs) xs
-one-less m xs none = record {
-  section = λ s. ap (λ t. section_through t xs) (same-section m Nothing none s);
-  offset = λ t s x.
-      (λ i. offset_through t (same-section m Nothing none s i) (if section_number s == t then same-offset m Nothing none x i else x) xs)
-      ∙ ap (λ y. offset_through t s y xs) (either (section_number s == t) x);
+one-less : (xs : List Measured) → LeadAlike (Nothing ∷ xs) xs
+one-less xs = record {
+  section = λ s. refl;
+  offset = λ t s x. ap (λ y. offset_through t s y xs) (either (section_number s == t) x);
 }
 
 -- one that is put in
-with-one : (xs : List Measured) (p : ℕ) (m : Measured) → bare m ≡ Nothing → LeadAlike (insert xs p m) xs
-with-one xs zero m none = one-less m xs none
-with-one [] (suc p) m none = one-less m [] none
-with-one (x ∷ xs) (suc p) m none = one-more x (insert xs p m) xs (with-one xs p m none)
+with-one : (xs : List Measured) (p : ℕ) → LeadAlike (insert xs p Nothing) xs
+with-one xs zero = one-less xs
+with-one [] (suc p) = one-less []
+with-one (x ∷ xs) (suc p) = one-more x (insert xs p Nothing) xs (with-one xs p)
 
-up-to : (xs : List Measured) (p n : ℕ) (m : Measured) → n ≤ p → p ≤ length xs → take n (insert xs p m) ≡ take n xs
-up-to xs p zero m up within = refl
-up-to xs zero (suc n) m up within = absurd (omega (arith, up))
-up-to [] (suc p) (suc n) m up within = absurd (let no : suc p ≤ 0 = within in omega (arith, no))
-up-to (x ∷ xs) (suc p) (suc n) m up within = ap (λ ys. x ∷ ys) (up-to xs p n m (omega (arith, up)) (let w : suc p ≤ suc (length xs) = within in omega (arith, w)))
+up-to : (xs : List Measured) (p n : ℕ) → n ≤ p → p ≤ length xs → take n (insert xs p Nothing) ≡ take n xs
+up-to xs p zero up within = refl
+up-to xs zero (suc n) up within = absurd (omega (arith, up))
+up-to [] (suc p) (suc n) up within = absurd (let no : suc p ≤ 0 = within in omega (arith, no))
+up-to (x ∷ xs) (suc p) (suc n) up within = ap (λ ys. x ∷ ys) (up-to xs p n (omega (arith, up)) (let w : suc p ≤ suc (length xs) = within in omega (arith, w)))
 
-behind : (xs : List Measured) (p n : ℕ) (m : Measured) → bare m ≡ Nothing → p ≤ n → p ≤ length xs → LeadAlike (take (suc n) (insert xs p m)) (take n xs)
-behind xs zero n m none up within = one-less m (take n xs) none
-behind [] (suc p) n m none up within = absurd (let no : suc p ≤ 0 = within in omega (arith, no))
-behind (x ∷ xs) (suc p) zero m none up within = absurd (omega (arith, up))
-behind (x ∷ xs) (suc p) (suc n) m none up within =
-    one-more x (take (suc n) (insert xs p m)) (take n xs) (behind xs p n m none (omega (arith, up)) (let w : suc p ≤ suc (length xs) = within in omega (arith, w)))
+behind : (xs : List Measured) (p n : ℕ) → p ≤ n → p ≤ length xs → LeadAlike (take (suc n) (insert xs p Nothing)) (take n xs)
+behind xs zero n up within = one-less (take n xs)
+behind [] (suc p) n up within = absurd (let no : suc p ≤ 0 = within in omega (arith, no))
+behind (x ∷ xs) (suc p) zero up within = absurd (omega (arith, up))
+behind (x ∷ xs) (suc p) (suc n) up within =
+    one-more x (take (suc n) (insert xs p Nothing)) (take n xs) (behind xs p n (omega (arith, up)) (let w : suc p ≤ suc (length xs) = within in omega (arith, w)))
 
 -- one that is taken out, and put back
 put-back : (xs : List Measured) (p : ℕ) → p < length xs → insert (remove xs p) p (get_or xs p Nothing) ≡ xs
 put-back xs p within = inserted-removed xs p (get_or xs p Nothing) within (get_or_default xs p Nothing (get_or xs p Nothing) within)
-
--- one that takes the place of another
-with-other : (xs : List Measured) (p n : ℕ) (m : Measured) → bare (get_or xs p Nothing) ≡ bare m → LeadAlike (take n (set xs p m)) (take n xs)
-with-other xs p zero m same = the-same []
-with-other [] p (suc n) m same = the-same []
-with-other (x ∷ xs) zero (suc n) m same = one-other m x (take n xs) (sym same)
-with-other (x ∷ xs) (suc p) (suc n) m same = one-more x (take n (set xs p m)) (take n xs) (with-other xs p n m same)
-
-all-with-other : (xs : List Measured) (p : ℕ) (m : Measured) → bare (get_or xs p Nothing) ≡ bare m → LeadAlike (set xs p m) xs
-all-with-other [] p m same = the-same []
-all-with-other (x ∷ xs) zero m same = one-other m x xs (sym same)
-all-with-other (x ∷ xs) (suc p) m same = one-more x (set xs p m) xs (all-with-other xs p m same)
-
-other-there : (xs : List Measured) (p n : ℕ) (m : Measured) → bare (get_or xs p Nothing) ≡ bare m → bare (get_or (set xs p m) n Nothing) ≡ bare (get_or xs n Nothing)
-other-there [] p n m same = refl
-other-there (x ∷ xs) zero zero m same = sym same
-other-there (x ∷ xs) zero (suc n) m same = refl
-other-there (x ∷ xs) (suc p) zero m same = refl
-other-there (x ∷ xs) (suc p) (suc n) m same = other-there xs p n m same
 
 -- Where lines lie
 
@@ -134,11 +85,11 @@ lying base ends lead m =
     let s = section_through Text lead in
     at base ends s (offset_through (section_number s) Text 0 lead) m
 
-ends-alike : (xs ys : List Measured) → LeadAlike xs ys → section_end_of xs ≡ section_end_of ys
-ends-alike xs ys alike = λ i t. alike.offset t Text 0 i
+end-alike : (xs ys : List Measured) → LeadAlike xs ys → section_end_of xs ≡ section_end_of ys
+end-alike xs ys alike = λ i t. alike.offset t Text 0 i
 
-all-ends-alike : (xs ys : List Measured) → LeadAlike xs ys → ends_of xs ≡ ends_of ys
-all-ends-alike xs ys alike = λ i. record { section = alike.section Text i; offsets = by_section (ends-alike xs ys alike i) }
+ends-alike : (xs ys : List Measured) → LeadAlike xs ys → ends_of xs ≡ ends_of ys
+ends-alike xs ys alike = λ i. record { section = alike.section Text i; offsets = by_section (end-alike xs ys alike i) }
 
 module _ (base : ℕ) where
   lies : (ms : List Measured) (n : ℕ) → place_by_shapes base ms (suc n) ≡ lying base (section_end_of ms) (take n ms) (get_or ms n Nothing)
@@ -147,53 +98,54 @@ module _ (base : ℕ) where
       let back : suc n - 1 ≡ n = omega arith in
       ap (λ k. lying base (section_end_of ms) (take k ms) (get_or ms k Nothing)) back
 
-  lying-alike : (xs ys first second : List Measured) (m n : Measured) → LeadAlike xs ys → LeadAlike first second → bare m ≡ bare n → lying base (section_end_of xs) first m ≡ lying base (section_end_of ys) second n
+  lying-alike : (xs ys first second : List Measured) (m : Measured) → LeadAlike xs ys → LeadAlike first second → lying base (section_end_of xs) first m ≡ lying base (section_end_of ys) second m
   unfolding at lying
-  lying-alike xs ys first second m n all lead same =
+  lying-alike xs ys first second m all lead =
       let s = section_through Text first in
-      let t = section_through Text second in
-      let y = offset_through (section_number t) Text 0 second in
-      ap (λ ends. lying base ends first m) (ends-alike xs ys all)
+      ap (λ ends. lying base ends first m) (end-alike xs ys all)
       ∙ ap (λ x. at base (section_end_of ys) s x m) (lead.offset (section_number s) Text 0)
       ∙ ap (λ r. at base (section_end_of ys) r (offset_through (section_number r) Text 0 second) m) (lead.section Text)
-      ∙ (λ i. record { section = t; address = base_from base (section_end_of ys) (section_number t) + y; size = same-size m n same y i })
 
-  -- with one more that has no bytes
-  module _ (ms : List Measured) (p : ℕ) (m : Measured) (none : bare m ≡ Nothing) (within : p ≤ length ms) where
+  -- with one more that takes no room
+  module _ (ms : List Measured) (p : ℕ) (m : Measured) (none : room_of m ≡ Nothing) (within : p ≤ length ms) where
+    abbrev longer : List Measured
+    longer = insert ms p Nothing
+
+    as-longer : (i : ℕ) → place_by_shapes base (insert ms p m) i ≡ place_by_shapes base longer i
+    as-longer = places-same (insert ms p m) longer (rooms-insert ms p m Nothing none) base
+
+    inserted-ends : ends_of (insert ms p m) ≡ ends_of ms
+    inserted-ends = ends-same (insert ms p m) longer (rooms-insert ms p m Nothing none) ∙ ends-alike longer ms (with-one ms p)
+
     inserted-above : (n : ℕ) → n < p → place_by_shapes base (insert ms p m) (suc n) ≡ place_by_shapes base ms (suc n)
     inserted-above n below =
-        let lead : take n (insert ms p m) ≡ take n ms = up-to ms p n m (omega (arith, below)) within in
-        lies (insert ms p m) n
-        ∙ ap (λ xs. lying base (section_end_of (insert ms p m)) xs (get_or (insert ms p m) n Nothing)) lead
-        ∙ ap (lying base (section_end_of (insert ms p m)) (take n ms)) (get_or-insert_below ms p m Nothing n below within)
-        ∙ lying-alike (insert ms p m) ms (take n ms) (take n ms) (get_or ms n Nothing) (get_or ms n Nothing) (with-one ms p m none) (the-same (take n ms)) refl
+        as-longer (suc n)
+        ∙ lies longer n
+        ∙ ap (λ xs. lying base (section_end_of longer) xs (get_or longer n Nothing)) (up-to ms p n (omega (arith, below)) within)
+        ∙ ap (lying base (section_end_of longer) (take n ms)) (get_or-insert_below ms p Nothing Nothing n below within)
+        ∙ lying-alike longer ms (take n ms) (take n ms) (get_or ms n Nothing) (with-one ms p) (the-same (take n ms))
         ∙ sym (lies ms n)
 
     inserted-below : (n : ℕ) → p ≤ n → place_by_shapes base (insert ms p m) (suc (suc n)) ≡ place_by_shapes base ms (suc n)
     inserted-below n up =
         let next : suc n ≡ n + 1 = omega arith in
-        lies (insert ms p m) (suc n)
-        ∙ ap (λ k. lying base (section_end_of (insert ms p m)) (take (suc n) (insert ms p m)) (get_or (insert ms p m) k Nothing)) next
-        ∙ ap (lying base (section_end_of (insert ms p m)) (take (suc n) (insert ms p m))) (get_or-insert_above ms p m Nothing n up within)
-        ∙ lying-alike (insert ms p m) ms (take (suc n) (insert ms p m)) (take n ms) (get_or ms n Nothing) (get_or ms n Nothing) (with-one ms p m none) (behind ms p n m none up within) refl
+        as-longer (suc (suc n))
+        ∙ lies longer (suc n)
+        ∙ ap (λ k. lying base (section_end_of longer) (take (suc n) longer) (get_or longer k Nothing)) next
+        ∙ ap (lying base (section_end_of longer) (take (suc n) longer)) (get_or-insert_above ms p Nothing Nothing n up within)
+        ∙ lying-alike longer ms (take (suc n) longer) (take n ms) (get_or ms n Nothing) (with-one ms p) (behind ms p n up within)
         ∙ sym (lies ms n)
 
     -- where that lies
     inserted-here : (line : List ℕ) (q : ℕ) → place_by_shapes base (insert ms p m) (suc p) ≡ place_put_in (Insert q line) (place_by_shapes base ms (suc p))
     unfolding at lying
     inserted-here line q =
-        let lead : take p (insert ms p m) ≡ take p ms = up-to ms p p m (omega arith) within in
-        lies (insert ms p m) p
-        ∙ ap (λ xs. lying base (section_end_of (insert ms p m)) xs (get_or (insert ms p m) p Nothing)) lead
-        ∙ ap (lying base (section_end_of (insert ms p m)) (take p ms)) (get_or-insert_at ms p m Nothing within)
-        ∙ lying-alike (insert ms p m) ms (take p ms) (take p ms) m Nothing (with-one ms p m none) (the-same (take p ms)) none
+        as-longer (suc p)
+        ∙ lies longer p
+        ∙ ap (λ xs. lying base (section_end_of longer) xs (get_or longer p Nothing)) (up-to ms p p (omega arith) within)
+        ∙ ap (lying base (section_end_of longer) (take p ms)) (get_or-insert_at ms p Nothing Nothing within)
+        ∙ lying-alike longer ms (take p ms) (take p ms) Nothing (with-one ms p) (the-same (take p ms))
         ∙ sym (ap (place_put_in (Insert q line)) (lies ms p))
-
-  set-each : (ms : List Measured) (p n : ℕ) (m : Measured) → bare (get_or ms p Nothing) ≡ bare m → place_by_shapes base (set ms p m) (suc n) ≡ place_by_shapes base ms (suc n)
-  set-each ms p n m same =
-      lies (set ms p m) n
-      ∙ lying-alike (set ms p m) ms (take n (set ms p m)) (take n ms) (get_or (set ms p m) n Nothing) (get_or ms n Nothing) (all-with-other ms p m same) (with-other ms p n m same) (other-there ms p n m same)
-      ∙ sym (lies ms n)
 
   -- Edits
 
@@ -237,7 +189,7 @@ module _ (base : ℕ) where
             ∙ ap (λ xs. place_by_shapes base xs (suc (suc n))) (put-back ms (place - 1) there)
             ∙ ap (place_by_shapes base ms) next
     place-stood (Replace place line) shape n j none has stood =
-        set-each ms (place - 1) n shape none ∙ ap (place_by_shapes base ms) (sym (replace_before place line (suc n) j stood).1)
+        places-same (set ms (place - 1) shape) ms (rooms-set ms (place - 1) shape none) base (suc n) ∙ ap (place_by_shapes base ms) (sym (replace_before place line (suc n) j stood).1)
 
     -- the line that it puts in
     pub place-new : (edit : Edit) (shape : Measured) (n : ℕ) → MovesNone ms edit shape → HasPlace ms edit → suc n ≡ place_of_edit edit → line_before_edit edit (suc n) ≡ None → place_by_shapes base (edited_row ms edit shape) (suc n) ≡ place_put_in edit (place_by_shapes base ms (suc n))
@@ -245,16 +197,17 @@ module _ (base : ℕ) where
         let at : place - 1 ≡ n = omega (arith, here) in
         rw (sym at) (inserted-here ms (place - 1) shape none.1 (omega (arith, none.0)) line place)
     place-new (Delete place) shape n none has here new = absurd (deleted-stood place (ap (line_before_edit (Delete place)) (sym here) ∙ new))
-    place-new (Replace place line) shape n none has here new = set-each ms (place - 1) n shape none
+    place-new (Replace place line) shape n none has here new = places-same (set ms (place - 1) shape) ms (rooms-set ms (place - 1) shape none) base (suc n)
 
     -- the ends of the sections
     pub ends-stay : (edit : Edit) (shape : Measured) → MovesNone ms edit shape → HasPlace ms edit → ends_of ms ≡ ends_of (edited_row ms edit shape)
-    ends-stay (Insert place line) shape none has = sym (all-ends-alike (insert ms (place - 1) shape) ms (with-one ms (place - 1) shape none.1))
+    ends-stay (Insert place line) shape none has = sym (inserted-ends ms (place - 1) shape none.1 (omega (arith, none.0)))
     ends-stay (Delete place) shape none has =
         let gone = get_or ms (place - 1) Nothing in
-        sym (ap ends_of (put-back ms (place - 1) (omega (arith, has.0, has.1))))
-        ∙ all-ends-alike (insert (remove ms (place - 1)) (place - 1) gone) (remove ms (place - 1)) (with-one (remove ms (place - 1)) (place - 1) gone none)
-    ends-stay (Replace place line) shape none has = sym (all-ends-alike (set ms (place - 1) shape) ms (all-with-other ms (place - 1) shape none))
+        let there : place - 1 < length ms = omega (arith, has.0, has.1) in
+        sym (ap ends_of (put-back ms (place - 1) there))
+        ∙ inserted-ends (remove ms (place - 1)) (place - 1) gone none (omega (arith, there, length-remove ms (place - 1) there))
+    ends-stay (Replace place line) shape none has = sym (ends-same (set ms (place - 1) shape) ms (rooms-set ms (place - 1) shape none))
 
     -- How many lines there are, and where each stood
 

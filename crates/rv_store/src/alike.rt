@@ -73,8 +73,8 @@ fn room_of(shape: Measured) -> Measured
     }
 }
 
-// Whether two shapes do the same to the layout.
-fn take_same_room(shape: &Measured, other: &Measured) -> bool
+/// Whether two shapes do the same to the layout.
+pub fn take_same_room(shape: &Measured, other: &Measured) -> bool
     ensures { IsTrue result → room_of shape.now ≡ room_of other.now }
 {
     room_of(*shape) == room_of(*other)

@@ -18,8 +18,9 @@ ghost use Rattle.rv_program.specs.Text.{lines_after};
 ghost use Rattle.rv_program.specs.internal.TextRows.{program_in};
 ghost use Rattle.rv_program.specs.Uses.{is_sized, is_equ, names_used, uses_symbols};
 ghost use Rattle.rv_program.specs.internal.Work.{constant_operands, equ_operands, work};
-ghost use Rattle.rv_store.specs.internal.Unmoved.{bare, MovesNone, AreUnmoved};
+ghost use Rattle.rv_store.specs.internal.Unmoved.{MovesNone, AreUnmoved};
 
+use crate::alike::take_same_room;
 use crate::edited_row::edited_row;
 use rv_layout::{Consts, Measured, measure, shapes_are_limited, size_operands_are_few};
 use rv_list::DefinitionPlace;
@@ -130,16 +131,6 @@ fn shape_after<C: Count>(
     shape_of_line(&lines[i], given, counter)
 }
 
-// A shape without its fault, which takes no room.
-fn bare(shape: &Measured) -> Measured
-    ensures { result ≡ bare shape.now }
-{
-    match shape {
-        Measured::Faulty(_) => Measured::Nothing,
-        _ => *shape,
-    }
-}
-
 // Whether all other lines stay where they are where an edit puts in a line of this shape.
 fn moves_none(before: &Before<'_, '_>, shape: &Measured) -> bool
     requires { IsBefore before.now }
@@ -147,10 +138,10 @@ fn moves_none(before: &Before<'_, '_>, shape: &Measured) -> bool
 {
     match before.edit {
         LineEdit::Insert(k, _) => {
-            k as usize <= before.shapes.len() && bare(shape) == Measured::Nothing
+            k as usize <= before.shapes.len() && take_same_room(shape, &Measured::Nothing)
         }
-        LineEdit::Delete(k) => bare(&before.shapes[k as usize - 1]) == Measured::Nothing,
-        LineEdit::Replace(k, _) => bare(&before.shapes[k as usize - 1]) == bare(shape),
+        LineEdit::Delete(k) => take_same_room(&before.shapes[k as usize - 1], &Measured::Nothing),
+        LineEdit::Replace(k, _) => take_same_room(&before.shapes[k as usize - 1], shape),
     }
 }
 

@@ -1,22 +1,18 @@
 -- Edits that move no line.
 use Rattle.std.specs.Prelude.{◌≡◌, ◌-◌, ◌≤◌, List, length, get_or}
 use Rattle.rv_layout.specs.declared.measured.Measured.{Measured}
-use Rattle.rv_layout.specs.declared.measured.Measured.TheVariants.{Nothing, Faulty}
+use Rattle.rv_layout.specs.declared.measured.Measured.TheVariants.{Nothing}
 use Rattle.rv_list.specs.declared.view.LinePlace.{LinePlace}
 use Rattle.rv_program.specs.Text.{Edit, Insert, Delete, Replace}
+use Rattle.rv_store.specs.internal.Alike.{room_of}
 use Rattle.rv_store.specs.internal.EditedRows.{edited_row}
-
--- a shape without its fault, which takes no room
-abbrev pub bare : Measured → Measured
-bare (Faulty fault) = Nothing
-bare m = m
 
 -- where lines have these shapes, an edit that puts in a line of this one leaves all others where they are: a line that it puts in between
 -- others, or takes out, has no bytes and switches no section, and one that it puts in the place of another lies as that did
 abbrev pub MovesNone : List Measured → Edit → (shape : Measured) → Type 0
-MovesNone ms (Insert place line) shape = (place ≤ length ms) × (bare shape ≡ Nothing)
-MovesNone ms (Delete place) shape = bare (get_or ms (place - 1) Nothing) ≡ Nothing
-MovesNone ms (Replace place line) shape = bare (get_or ms (place - 1) Nothing) ≡ bare shape
+MovesNone ms (Insert place line) shape = (place ≤ length ms) × (room_of shape ≡ Nothing)
+MovesNone ms (Delete place) shape = room_of (get_or ms (place - 1) Nothing) ≡ Nothing
+MovesNone ms (Replace place line) shape = room_of (get_or ms (place - 1) Nothing) ≡ room_of shape
 
 -- these are the shapes after such an edit
 pub record AreUnmoved (ms : List Measured) (edit : Edit) (after : List Measured) : Type 0 where

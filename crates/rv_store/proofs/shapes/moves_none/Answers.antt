@@ -3,10 +3,9 @@ use Rattle.rv_program.specs.Edits.{edit_of}
 use Rattle.rv_program.specs.internal.Before.{lines_before}
 use Rattle.std.proofs.lemmas.List.{get_or_default}
 use Rattle.rv_layout.specs.declared.measured.Measured.TheVariants.{Nothing}
-use Rattle.rv_program.specs.Sameness.{same_shape}
-use Rattle.rv_program.specs.lemmas.SamenessLaws.{same_shape-Decides}
 use Rattle.rv_store.specs.internal.Column.{HasPlace}
-use Rattle.rv_store.specs.internal.Unmoved.{bare, MovesNone}
+use Rattle.rv_store.specs.internal.Alike.{room_of}
+use Rattle.rv_store.specs.internal.Unmoved.{MovesNone}
 use Rattle.rv_store.proofs.FormerShapes.{shape_count, place}
 use Rattle.rv_store.proofs.shapes.moves_none.Goals as goal
 
@@ -28,10 +27,5 @@ returns-in-Replace c = λ equal.
     let ms = before.shapes.now in
     let has = subst (λ e. HasPlace (lines_before before) (edit_of e)) c.in-Replace.is (place before c.requires) in
     let within : c.in-Replace.k - 1 < length ms = omega (arith, has.0, has.1, shape_count before c.requires) in
-    let there = c.bare-in-Replace.result in
-    let new = c.bare-in-Replace-2.result in
-    let compared : c.eq-in-Replace.result ≡ same_shape there new = c.eq-in-Replace.ensures in
-    let same = (same_shape-Decides there new).0 (sym compared ∙ equal) in
     subst (λ e. MovesNone ms (edit_of e) c.args.shape.now) (sym c.in-Replace.is)
-    (ap bare (get_or_default ms (c.in-Replace.k - 1) Nothing c.index-before-k-in-Replace.result within)
-    ∙ sym c.bare-in-Replace.ensures ∙ same ∙ c.bare-in-Replace-2.ensures)
+    (ap room_of (get_or_default ms (c.in-Replace.k - 1) Nothing c.index-before-k-in-Replace.result within) ∙ c.take_same_room-in-Replace.ensures equal)
