@@ -40,7 +40,7 @@ pub record IsInOrder (k j l d : ℕ) : Type 0 where
   pub below : k < l → j < d
   pub above : k ≤ l → j ≤ d
 
-pub in-order : (edit : Edit) (k j l d : ℕ) → line_before_edit edit k ≡ Some j → line_before_edit edit l ≡ Some d → IsInOrder k j l d
+in-order : (edit : Edit) (k j l d : ℕ) → line_before_edit edit k ≡ Some j → line_before_edit edit l ≡ Some d → IsInOrder k j l d
 in-order (Insert place line) k j l d e f = at (insert_before place line k j e) (insert_before place line l d f)
   where
     at : ((k < place) × (j ≡ k)) ⊎ ((place < k) × (j ≡ k - 1)) → ((l < place) × (d ≡ l)) ⊎ ((place < l) × (d ≡ l - 1)) → IsInOrder k j l d

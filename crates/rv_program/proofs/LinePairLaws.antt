@@ -1,5 +1,5 @@
 -- A line of a text and the line that it was before an edit: whether a symbol differs on them, by the rows of the texts.
-use Rattle.std.proofs.Common.{◌≡◌, ℕ, ◌≤◌, Some, None, Bool, true, false, not, ◌||◌, List, length, true≢false, ◌&&◌, ap, sym, ◌∙◌, refl}
+use Rattle.std.proofs.Common.{◌≡◌, ℕ, ◌≤◌, Some, Bool, true, false, not, ◌||◌, List, length, true≢false, ◌&&◌, ap, sym, ◌∙◌, refl}
 use Rattle.std.proofs.lemmas.Bool.Decides.{same_from_decides}
 use Rattle.std.proofs.lemmas.Bool.{or_parts}
 use Rattle.std.specs.Bool.{Decides}
@@ -18,7 +18,7 @@ use Rattle.rv_program.specs.internal.LinePairs.{IsOpenPair, differs_in_name_on, 
 use Rattle.rv_program.specs.Program.{Program, program_of, body_at}
 use Rattle.rv_program.specs.References.{usable_equs, symbol_through, reference_of}
 use Rattle.rv_program.specs.Sameness.{same_constant, same_entry}
-use Rattle.rv_program.specs.Text.{Edit, lines_after}
+use Rattle.rv_program.specs.Text.{lines_after}
 use Rattle.rv_program.specs.internal.TextRows.{program_in}
 use Rattle.rv_program.specs.Uses.{names_used, uses_address, uses_local_label, uses_paired_high, is_equ}
 use Rattle.rv_program.specs.lemmas.EarlierLines.{Stood, stood, statement-stood}
@@ -94,8 +94,3 @@ module _ (before : Before) (after : TextRows) (line earlier : ℕ) (is : IsBefor
   invalidated-by_uses =
       ap (is_new_or (λ j. differs_in_uses (base_before before) (program_of (lines_before before)) (program_after (lines_before before) (edit_on before)) line j (body_at (program_after (lines_before before) (edit_on before)) line))) stands
       ∙ ap (λ lines. differs_in_uses (base_before before) (program_in before.symbols.text) (program_of lines) line earlier (body_at (program_of lines) line)) (sym is_after.lines)
-
--- a new line is invalidated
-pub invalidated-new : (base : ℕ) (lines : List (List ℕ)) (edit : Edit) (k : ℕ) → line_before_edit edit k ≡ None → is_invalidated base lines edit k ≡ true
-invalidated-new base lines edit k new =
-    ap (is_new_or (λ j. differs_in_uses base (program_of lines) (program_after lines edit) k j (body_at (program_after lines edit) k))) new

@@ -1,6 +1,6 @@
 -- The lines of local labels after an edit.
 use Rattle.std.proofs.Common.{◌≡◌, ℕ, zero, suc, ◌+◌, ◌-◌, ◌<◌, ◌≤◌, ◌^◌, min, nat_lt, Bool, true, false, List, [], ◌∷◌, ◌++◌, length, get_or, Option, Some, None, if◌then◌else◌, arith, ap, sym, ◌∙◌, refl}
-use Rattle.std.proofs.lemmas.Bool.{ne_eqb, or_from}
+use Rattle.std.proofs.lemmas.Bool.{le-ltb, ne_eqb, or_from}
 use Rattle.std.proofs.lemmas.Bool.Decides.{nat_tests}
 use Rattle.std.proofs.lemmas.Grind.{common_steps}
 use Rattle.std.proofs.lemmas.List.{append-nil, append_assoc, get_or-map, get_or-set_same, length-set, get_or_past}
@@ -121,15 +121,12 @@ on-line lines number i l =
     ap (λ k. among_local number (get_or (program_of lines) k no_statement).labels) same
     ∙ ap (λ s. among_local number s.labels) (get_or-map statement_of lines i [] no_statement l)
 
-lt-false : (l m : ℕ) → m ≤ l → nat_lt l m ≡ false
-lt-false l m le = grind (arith, nat_tests, common_steps)
-
 -- Where lines move to
 
 insert_down : (place l : ℕ) (line : List ℕ) → place ≤ l → l < 2 ^ 32 - 1 → line_moved (Insert place line) l ≡ Some (l + 1)
 insert_down place l line behind few =
     let no_more : min (l + 1) (2 ^ 32 - 1) ≡ l + 1 = omega (arith, few) in
-    ap (λ b. if b then None else Some (min (l + 1) (2 ^ 32 - 1))) (lt-false l place behind) ∙ ap Some no_more
+    ap (λ b. if b then None else Some (min (l + 1) (2 ^ 32 - 1))) (le-ltb l place behind) ∙ ap Some no_more
 
 insert_none : (place l : ℕ) (line : List ℕ) → l < place → line_moved (Insert place line) l ≡ None
 insert_none place l line before = grind (arith, nat_tests, common_steps)
@@ -196,7 +193,7 @@ inserted lines place line number few allowed =
     let next : suc (k + n) + 1 ≡ suc (k + suc n) = omega arith in (
       unchanged lines edit number (suc (k + suc n)) (suc (k + n)) allowed (omega arith) (omega (arith, l, room, count))
           (insert_moves place (suc (k + suc n)) line (omega (arith, within.0)) ∙ ap Some back),
-      lt-false (suc (k + n)) place (omega (arith, within.0)),
+      le-ltb (suc (k + n)) place (omega (arith, within.0)),
       insert_down place (suc (k + n)) line (omega (arith, within.0)) (omega (arith, l, few, room)) ∙ ap Some next,
     ))
     ∙ ap (λ k. row_after edit labelled (lines_that test k)) all
@@ -207,7 +204,7 @@ up-to-taken edit labelled test n at stay =
     up-to-place edit labelled test n (lines_that test (suc n))
     (filter-append (λ l. nat_lt l (place_of_edit edit)) (lines_that test n) (if test (suc n) then suc n ∷ [] else [])
     ∙ ap (λ ls. ls ++ lines_below (place_of_edit edit) (if test (suc n) then suc n ∷ [] else [])) (first-below test (place_of_edit edit) n (omega (arith, at)))
-    ∙ ap (λ ls. lines_that test n ++ ls) (below-one (test (suc n)) (place_of_edit edit) (suc n) (lt-false (suc n) (place_of_edit edit) (omega (arith, at))))
+    ∙ ap (λ ls. lines_that test n ++ ls) (below-one (test (suc n)) (place_of_edit edit) (suc n) (le-ltb (suc n) (place_of_edit edit) (omega (arith, at))))
     ∙ append-nil (lines_that test n))
     (none-moved test edit (suc n) stay)
 
@@ -234,7 +231,7 @@ removed lines place number allowed =
     let back : suc (k + suc n) - 1 ≡ suc (k + n) = omega arith in (
       unchanged lines edit number (suc (k + n)) (suc (k + suc n)) allowed (omega arith) (omega (arith, l, room, count))
           (delete_moves place (suc (k + n)) (omega (arith, within.0)) ∙ ap Some next),
-      lt-false (suc (k + suc n)) place (omega (arith, within.0)),
+      le-ltb (suc (k + suc n)) place (omega (arith, within.0)),
       delete_up place (suc (k + suc n)) (omega (arith, within.0)) ∙ ap Some back,
     ))
     ∙ ap (λ k. row_after edit false (lines_that test k)) rest
@@ -267,7 +264,7 @@ replaced lines place line number allowed =
     ∙ later-rows edit labelled test test' (suc n) (suc n) (length lines - suc n) up_to (λ k l. (
       unchanged lines edit number (suc (k + suc n)) (suc (k + suc n)) allowed (omega arith) (omega (arith, l, room, count))
           (replace_stays place (suc (k + suc n)) line (λ e. omega (arith, e, at))),
-      lt-false (suc (k + suc n)) place (omega (arith, at)),
+      le-ltb (suc (k + suc n)) place (omega (arith, at)),
       replace_behind place (suc (k + suc n)) line (omega (arith, at)),
     ))
     ∙ ap (λ k. row_after edit labelled (lines_that test k)) rest

@@ -1,11 +1,11 @@
 -- Names that a statement defines keep their numbers when more names get one.
-use Rattle.std.proofs.Common.{◌≡◌, ℕ, true, List, [], ◌∷◌, sym, subst}
+use Rattle.std.proofs.Common.{◌≡◌, ℕ, List, [], ◌∷◌, sym, subst}
 use Rattle.rv_stmt.specs.LabelNames.{Label, LabelName, Symbol, Local}
 use Rattle.rv_program.specs.internal.Defining.{IsLabelNumbered, AreLabelsNumbered}
 use Rattle.rv_program.specs.internal.Rows.{Grows}
 use Rattle.rv_program.specs.lemmas.NameRows.{grows-trans, number-grown}
 
-pub label-grown : (old new : List (List ℕ)) (name : LabelName) → Grows old new → IsLabelNumbered old name → IsLabelNumbered new name
+label-grown : (old new : List (List ℕ)) (name : LabelName) → Grows old new → IsLabelNumbered old name → IsLabelNumbered new name
 label-grown old new (Symbol symbol) grows has = number-grown old new symbol grows has
 label-grown old new (Local number) grows has = tt
 

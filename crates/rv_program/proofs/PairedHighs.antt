@@ -14,6 +14,7 @@ use Rattle.rv_program.specs.References.{references_at}
 use Rattle.rv_program.specs.internal.Rows.{AreHighs, ArePairedHighs}
 use Rattle.rv_program.proofs.HighLaws.{no-high}
 use Rattle.rv_program.proofs.HighRows.{none_at}
+use Rattle.rv_program.specs.lemmas.Programs.{kept-past}
 
 -- The first line of one line more
 
@@ -155,15 +156,9 @@ module _ (base : ℕ) (program : Program) where
       at k (inr up) = kept-none i k up none
 
   pub paired-past : (i j : ℕ) (row : List Entry) → i ≤ j → AreWithout (λ b. is_some (pcrel_high_of b)) program i j → ArePairedThrough base program i row → ArePairedThrough base program j row
-  paired-past i zero row up passed are = subst (λ k. ArePairedThrough base program k row) (let e : i ≡ 0 = omega (arith, up) in e) are
-  paired-past i (suc j) row up passed are =
-      at (cases_lt j i) (λ above. paired-past i j row above (record { each = λ k first last. passed.each k first (omega (arith, last)) }) are)
-    where
-      at : (j < i) ⊎ (i ≤ j) → (i ≤ j → ArePairedThrough base program j row) → ArePairedThrough base program (suc j) row
-      at (inl below) before = subst (λ k. ArePairedThrough base program k row) (let e : i ≡ suc j = omega (arith, below, up) in e) are
-      at (inr above) before =
-          let none = no-high (references_at base program (suc j)) (address_at base program (suc j)) (pcrel_high_of (body_at program (suc j))) (passed.each j above (omega arith)) in
-          subst (λ k. ArePairedThrough base program k row) (let e : j + 1 ≡ suc j = omega arith in e) (paired-next j row none (before above))
+  paired-past i j row up passed =
+      kept-past (λ k. ArePairedThrough base program k row) i j up
+      (λ k first last. paired-next k row (no-high (references_at base program (suc k)) (address_at base program (suc k)) (pcrel_high_of (body_at program (suc k))) (passed.each k first last)))
 
   -- through the last line
   pub paired-all : (row : List Entry) → ArePairedThrough base program (length program) row → ArePairedHighs base program row

@@ -1,23 +1,24 @@
 -- The items that an edit leaves as they are.
 use Rattle.std.proofs.Common.{◌≡◌, ℕ, ◌≤◌, Bool, false, not, ◌||◌, List, length, Option, Some, None, is_some, Decides, ap, subst, sym, ◌∙◌, refl, []}
-use Rattle.std.proofs.lemmas.Bool.{false≢true, not-false, or_parts}
+use Rattle.std.proofs.lemmas.Bool.{false≢true}
 use Rattle.std.proofs.lemmas.Bool.Decides.{same_from_decides}
 use Rattle.rv_layout.specs.declared.measured.Measured.{Measured}
 use Rattle.rv_fix.specs.declared.coded.Coded.{Coded}
 use Rattle.rv_program.specs.declared.item.Item.{Item}
 use Rattle.rv_program.specs.declared.line_values.LineValues.{LineValues}
 use Rattle.rv_program.specs.Changes.{program_after, is_new_or, differs_in_code, differs_in_values, is_reencoded, is_changed}
-use Rattle.rv_program.specs.Codes.{values_at, code_at, code_by_values}
+use Rattle.rv_program.specs.Codes.{values_at, code_at}
 use Rattle.rv_program.specs.Edits.{line_before_edit}
+use Rattle.rv_program.specs.Kept.{IsKept}
 use Rattle.rv_program.specs.internal.Former.{IsFormer}
 use Rattle.rv_program.specs.internal.Items.{IsItem}
 use Rattle.rv_program.specs.Layout.{shape_at}
-use Rattle.rv_program.specs.Program.{Program, program_of, body_at}
+use Rattle.rv_program.specs.Program.{program_of}
 use Rattle.rv_program.specs.Sameness.{same_shape, same_values, same_code}
 use Rattle.rv_program.specs.Text.{Edit, refusal_of, lines_after}
-use Rattle.rv_program.specs.lemmas.EarlierLines.{stood, statement-stood}
-use Rattle.rv_program.specs.lemmas.KeptLines.{not_new}
-use Rattle.rv_program.specs.lemmas.SamenessLaws.{same_shape-Decides, same_values-Decides, same_code-Decides}
+use Rattle.rv_program.proofs.ChangeLaws.{kept-reencoded}
+use Rattle.rv_program.specs.lemmas.EarlierLines.{stood}
+use Rattle.rv_program.specs.lemmas.SamenessLaws.{same_values-Decides, same_code-Decides}
 
 stood_somewhere : (o : Option ℕ) (none : Bool) → is_some o ≡ not none → none ≡ false → (j : ℕ) × (o ≡ Some j)
 stood_somewhere None none test stands = absurd (false≢true (test ∙ ap not stands))
@@ -27,21 +28,14 @@ module _ (base : ℕ) (lines : List (List ℕ)) (edit : Edit) (k : ℕ) (item : 
   -- a line that is not reencoded keeps its item
   pub stays : refusal_of lines edit ≡ None → 1 ≤ k → k ≤ length (lines_after lines edit) → is_reencoded base lines edit k ≡ false → IsItem base (lines_after lines edit) k item
   stays allowed first last h =
-      let before : Program = program_of lines in
-      let after : Program = program_after lines edit in
-      let (j, is, same) = not_new (differs_in_values base before after k) (line_before_edit edit k) h in
-      let parts = or_parts (not (same_values (values_at base after k) (values_at base before j))) (not (same_shape (shape_at after k) (shape_at before j))) same in
-      let values : values_at base after k ≡ values_at base before j = (same_values-Decides _ _).0 (not-false _ parts.0) in
-      let shape : shape_at after k ≡ shape_at before j = (same_shape-Decides _ _).0 (not-false _ parts.1) in
-      let body : body_at after k ≡ body_at before j = ap (λ s. s.body) (statement-stood lines edit k j first last (stood lines edit k j allowed first last is)) in
-      let code : code_at base after k ≡ code_at base before j = λ i. code_by_values (shape i) (body i) (values i) in
-      let kept : IsItem base lines j item = former j is in
-      let there = stood lines edit k j allowed first last is in
+      let line : IsKept base lines edit k = kept-reencoded base lines edit k allowed first last h in
+      let kept : IsItem base lines line.line item = former line.line line.before in
+      let there = stood lines edit k line.line allowed first last line.before in
       record {
         line = kept.line ∙ sym (there.line []);
-        shape = kept.shape ∙ sym shape;
-        values = kept.values ∙ sym values;
-        code = kept.code ∙ sym code;
+        shape = kept.shape ∙ sym line.shape;
+        values = kept.values ∙ sym line.values;
+        code = kept.code ∙ sym line.code;
       }
 
   -- the same in the text after the edit by another name

@@ -1,7 +1,7 @@
 -- Lines that an edit does not invalidate, by their briefs.
 use Rattle.std.proofs.Common.{◌≡◌, ℕ, ◌+◌, ◌-◌, ◌%◌, ◌<◌, ◌≤◌, Bool, true, false, ◌&&◌, ◌||◌, List, [], length, map, get_or, Option, Some, None, arith, ap, sym, subst, ◌∙◌, refl}
 use Rattle.std.specs.List.{list_any}
-use Rattle.std.proofs.lemmas.Bool.{or_parts}
+use Rattle.std.proofs.lemmas.Bool.{and_right, or_parts}
 use Rattle.std.proofs.lemmas.List.{get_or_default, get_or-map}
 use Rattle.rv_stmt.specs.declared.statement.Body.{Body}
 use Rattle.rv_stmt.specs.Statement.{statement_of}
@@ -30,10 +30,6 @@ use Rattle.rv_program.specs.lemmas.LineGroups.{count-groups, kind-on, unused-gro
 use Rattle.rv_program.specs.lemmas.LocalLines.{statement-of-line}
 use Rattle.rv_program.specs.lemmas.NameSetLaws.{none-passes}
 use Rattle.rv_program.specs.lemmas.NewShapeLaws.{new-place}
-
-and_false : (a : Bool) {b : Bool} → b ≡ false → (a && b) ≡ false
-and_false true none = none
-and_false false none = refl
 
 module _ (before : Before) (after : TextRows) (line : ℕ) (is : IsBefore before) (is_after : IsAfter before after) (first : 1 ≤ line) (last : line ≤ length after.lines.now) (set : Marks) (has : HasDiffering (base_before before) (lines_before before) (edit_on before) set) (brief : Brief) (of_line : brief ≡ brief_of (statement_at (program_in after) line)) where
   -- a line that stayed, and uses no symbol that differs, nor its own address where it moved, nor what is not compared
@@ -85,7 +81,7 @@ module _ (before : Before) (after : TextRows) (line : ℕ) (is : IsBefore before
       at false moved stood stands =
           ap (λ used. used && differs_in_place (base_before before) (program_in before.symbols.text) (program_in after) line stood)
           (ap (λ b. b.address) is_brief ∙ without Addressed (due.addressed moved))
-      at true same stood stands = and_false brief.address (unmoved same line stood first last stands)
+      at true same stood stands = and_right brief.address _ (unmoved same line stood first last stands)
 
 -- Lines in none of the groups of those that may be due
 

@@ -1,6 +1,6 @@
 //! What lines have to do with other lines, in brief.
 
-ghost use Rattle.std.specs.Prelude.{◌≡◌, ◌&&◌, ◌||◌, not};
+ghost use Rattle.std.specs.Prelude.{◌≡◌, ◌&&◌, ◌||◌};
 ghost use Rattle.rv_program.specs.internal.Briefs.{brief_of, groups_of_brief};
 ghost use Rattle.rv_program.specs.Uses.{uses_local_label, uses_paired_high, is_equ};
 

@@ -165,7 +165,8 @@ impl Locals {
         self.rows.as_slice()
     }
 
-    /// How many lines up to this one have the local label of a number: looked for first where it would be if they stood evenly.
+    /// How many lines up to this one have the local label of a number: looked for first where it would be if they stood evenly. A guess
+    /// for `line_near`: no contract says that it is right.
     pub fn count(&self, line: u32, number: u16) -> usize {
         match self.rows.get(usize::from(number)) {
             Some(lines) => {

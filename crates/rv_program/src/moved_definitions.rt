@@ -5,7 +5,7 @@ ghost use Rattle.std.specs.Prelude.{◌≡◌, ◌≤◌, ◌<◌, ◌-◌, ℕ,
 ghost use Rattle.rv_stmt.specs.Statement.{statement_of};
 ghost use Rattle.rv_list.specs.declared.view.DefinitionPlace.TheVariants.{Nowhere};
 ghost use Rattle.rv_program.specs.internal.Defining.{also_on, Holds};
-ghost use Rattle.rv_program.specs.Definitions.{place_in_statement, definition_of};
+ghost use Rattle.rv_program.specs.Definitions.{place_in_statement};
 ghost use Rattle.rv_program.specs.Edits.{edit_of, place_of_edit};
 ghost use Rattle.rv_program.specs.internal.MovedDefinitions.{is_on, takes_out, line_after_edit, moved_place, place_after, found_after, kept_after, put_in};
 ghost use Rattle.rv_program.specs.Program.{program_of};

@@ -19,6 +19,7 @@ use Rattle.rv_program.specs.internal.Rows.{AreConstants}
 use Rattle.rv_program.specs.internal.Work.{equ_operands, operands_through, work}
 use Rattle.rv_program.specs.lemmas.KeptShapes.{body-on}
 use Rattle.rv_program.specs.lemmas.NewShapeLaws.{through-next}
+use Rattle.rv_program.specs.lemmas.Programs.{kept-past}
 use Rattle.rv_program.specs.lemmas.ShapeWork.{operands-next}
 use Rattle.rv_store.specs.internal.EditedRows.{edited_row, shapes_through}
 use Rattle.rv_store.proofs.FormerShapes.{former, former-length, former-stays, constants-stay, through-kept}
@@ -56,17 +57,7 @@ module _ (before : Before) (is : IsBefore before) (lines : List (List ℕ)) (aft
         work = omega (arith, settled.work, part, operands);
       }
 
-  settled-more : (n i : ℕ) → i + n ≤ length lines → AreWithout (is_of_kind Shaped) (program_of lines) i (i + n) → AreSettled before lines shape start i row constant_row count → AreSettled before lines shape start (i + n) row constant_row count
-  settled-more zero i last none settled = subst (λ k. AreSettled before lines shape start k row constant_row count) (let e : i ≡ i + 0 = omega arith in e) settled
-  settled-more (suc n) i last none settled =
-      let next : i + 1 + n ≡ i + suc n = omega arith in
-      subst (λ k. AreSettled before lines shape start k row constant_row count) next
-      (settled-more n (i + 1) (omega (arith, last)) (record { each = λ k first below. none.each k (omega (arith, first)) (omega (arith, below)) })
-      (settled-next i (omega (arith, last)) (none.each i (omega arith) (omega arith)) settled))
-
   -- over lines that have no part in the constants
   pub settled-past : (i j : ℕ) → i ≤ j → j ≤ length lines → AreWithout (is_of_kind Shaped) (program_of lines) i j → AreSettled before lines shape start i row constant_row count → AreSettled before lines shape start j row constant_row count
-  settled-past i j up last none settled =
-      let end : i + (j - i) ≡ j = omega (arith, up) in
-      subst (λ k. AreSettled before lines shape start k row constant_row count) end
-      (settled-more (j - i) i (omega (arith, end, last)) (subst (AreWithout (is_of_kind Shaped) (program_of lines) i) (sym end) none) settled)
+  settled-past i j up last none =
+      kept-past (λ k. AreSettled before lines shape start k row constant_row count) i j up (λ k first below. settled-next k (omega (arith, below, last)) (none.each k first below))

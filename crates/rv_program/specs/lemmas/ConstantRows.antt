@@ -1,5 +1,5 @@
 -- The row of constants, line by line.
-use Rattle.std.proofs.Common.{◌≡◌, ℕ, suc, ◌+◌, ◌-◌, ◌<◌, ◌≤◌, ℤ, Bool, true, false, List, [], ◌∷◌, length, get_or, set, replicate, bytes_eq, Option, Some, None, if◌then◌else◌, arith, ap, sym, ◌∙◌, refl, eqb-true}
+use Rattle.std.proofs.Common.{◌≡◌, ℕ, suc, ◌+◌, ◌-◌, ◌<◌, ◌≤◌, ℤ, Bool, true, false, List, [], ◌∷◌, length, get_or, set, replicate, bytes_eq, Option, Some, None, if◌then◌else◌, arith, ap, sym, ◌∙◌, refl}
 use Rattle.std.specs.Result.{result_ok}
 use Rattle.std.proofs.Math.Path.{fun_ext}
 use Rattle.std.proofs.lemmas.List.{get_or-map, length-replicate}
@@ -16,6 +16,7 @@ use Rattle.rv_program.specs.Constants.{defined_value, constant_through}
 use Rattle.rv_program.specs.Definitions.{defines_symbol, place_among_labels, place_in_body, first_place, definition_of, is_equ_on}
 use Rattle.rv_program.specs.Program.{Program, program_of, no_statement, body_at}
 use Rattle.rv_program.specs.internal.Rows.{number_of, in_row, AreDefinitions, AreConstants}
+use Rattle.rv_program.specs.lemmas.DefinitionLaws.{is_equ_on-true}
 use Rattle.rv_program.specs.lemmas.NameRows.{row-set, row-empty}
 
 -- The lines of `.equ`s
@@ -23,11 +24,6 @@ use Rattle.rv_program.specs.lemmas.NameRows.{row-set, row-empty}
 -- a body defines a name by its `.equ`
 pub data IsEquOf (body : Body) (name : List ℕ) : Type 0 where
   is_equ_of : (d : Definition) → body ≡ EquBody d → d.symbol ≡ name → IsEquOf body name
-
-is_equ_on-is : (line : ℕ) (place : DefinitionPlace) → is_equ_on line place ≡ true → place ≡ Equ line
-is_equ_on-is line Nowhere e = absurd (let no : false ≡ true = e in cc)
-is_equ_on-is line (ByLabel i k) e = absurd (let no : false ≡ true = e in cc)
-is_equ_on-is line (Equ d) e = ap (λ k. Equ k) (eqb-true d line e)
 
 no_equ_among_labels : (line index : ℕ) (ls : List Label) (name : List ℕ) (k : ℕ) → place_among_labels line index ls name ≡ Equ k → ⊥
 no_equ_among_labels line index [] name k e = let no : Nowhere ≡ Equ k = e in cc
@@ -65,7 +61,34 @@ equ_first line (s ∷ ss) name k e =
     at (Equ i) p b q later = absurd (no_equ_among_labels line 0 s.labels name i p)
 
 pub equ-defines : (program : Program) (i : ℕ) (name : List ℕ) → is_equ_on (suc i) (definition_of program name) ≡ true → IsEquOf (body_at program (suc i)) name
-equ-defines program i name e = (equ_first 1 program name (suc i) (is_equ_on-is (suc i) (definition_of program name) e)).1
+equ-defines program i name e = (equ_first 1 program name (suc i) (is_equ_on-true (suc i) (definition_of program name) e)).1
+
+-- What each line but that of the `.equ` of a name keeps of the name
+
+module _ {A : Type 0} (program : Program) (i : ℕ) (now before : List ℕ → A) (kept : (name : List ℕ) → is_equ_on (suc i) (definition_of program name) ≡ false → now name ≡ before name) where
+  -- a line that defines no symbol by an `.equ` keeps all
+  pub all-kept : ((d : Definition) → body_at program (suc i) ≡ EquBody d → is_equ_on (suc i) (definition_of program d.symbol) ≡ false) → now ≡ before
+  all-kept none = fun_ext (λ name. at name (is_equ_on (suc i) (definition_of program name)) refl)
+    where
+      at : (name : List ℕ) (t : Bool) → is_equ_on (suc i) (definition_of program name) ≡ t → now name ≡ before name
+      at name false e = kept name e
+      at name true e = by (equ-defines program i name e)
+        where
+          by : IsEquOf (body_at program (suc i)) name → now name ≡ before name
+          by (is_equ_of d here same) =
+              absurd (let no : true ≡ false = sym e ∙ ap (λ m. is_equ_on (suc i) (definition_of program m)) (sym same) ∙ none d here in cc)
+
+  -- one that does keeps that of any other name
+  pub others-kept : (d : Definition) → body_at program (suc i) ≡ EquBody d → (name : List ℕ) → (name ≡ d.symbol → ⊥) → now name ≡ before name
+  others-kept d here name differs = at (is_equ_on (suc i) (definition_of program name)) refl
+    where
+      at : (t : Bool) → is_equ_on (suc i) (definition_of program name) ≡ t → now name ≡ before name
+      at false e = kept name e
+      at true e = by (equ-defines program i name e)
+        where
+          by : IsEquOf (body_at program (suc i)) name → now name ≡ before name
+          by (is_equ_of other there same) =
+              absurd (differs (let is : EquBody other ≡ EquBody d = sym there ∙ here in let one : other ≡ d = cc in sym same ∙ ap (λ x. x.symbol) one))
 
 -- the same by the row of definitions
 pub equ-by_row : (program : Program) (names : List (List ℕ)) (row : List DefinitionPlace) → AreDefinitions program names row → (i : ℕ) (name : List ℕ) (t : Bool) → is_equ_on (i + 1) (in_row names row Nowhere name) ≡ t → is_equ_on (suc i) (definition_of program name) ≡ t
@@ -92,15 +115,7 @@ constant-kept program i name e =
 
 -- a line that defines no symbol by an `.equ` leaves the constants
 pub constants-kept : (program : Program) (i : ℕ) → ((d : Definition) → body_at program (suc i) ≡ EquBody d → is_equ_on (suc i) (definition_of program d.symbol) ≡ false) → constant_through program (suc i) ≡ constant_through program i
-constants-kept program i none = fun_ext (λ name. at name (is_equ_on (suc i) (definition_of program name)) refl)
-  where
-    at : (name : List ℕ) (t : Bool) → is_equ_on (suc i) (definition_of program name) ≡ t → constant_through program (suc i) name ≡ constant_through program i name
-    at name false e = constant-kept program i name e
-    at name true e = by (equ-defines program i name e)
-      where
-        by : IsEquOf (body_at program (suc i)) name → constant_through program (suc i) name ≡ constant_through program i name
-        by (is_equ_of d here same) =
-            absurd (let no : true ≡ false = sym e ∙ ap (λ m. is_equ_on (suc i) (definition_of program m)) (sym same) ∙ none d here in cc)
+constants-kept program i = all-kept program i (constant_through program (suc i)) (constant_through program i) (constant-kept program i)
 
 -- one that does puts its constant into the row
 pub constants-set : (program : Program) (i : ℕ) (names : List (List ℕ)) (row : List (Option ℤ)) (d : Definition) (n : ℕ) (v : Option ℤ) → body_at program (suc i) ≡ EquBody d → is_equ_on (suc i) (definition_of program d.symbol) ≡ true → number_of names d.symbol ≡ Some n → n < length row → in_row names row None ≡ constant_through program i → v ≡ result_ok (defined_value (constants (in_row names row None)) (EquBody d)) → in_row names (set row n v) None ≡ constant_through program (suc i)
@@ -110,15 +125,7 @@ constants-set program i names row d n v here defines number within before value 
     ∙ ap (λ f. result_ok (defined_value (constants f) (EquBody d))) before
     ∙ ap (λ b. result_ok (defined_value (constants (constant_through program i)) b)) (sym here)
     ∙ sym (constant-here program i d.symbol defines))
-    (λ m differs. ap (λ f. f m) before ∙ sym (others m differs (is_equ_on (suc i) (definition_of program m)) refl))
-  where
-    others : (m : List ℕ) → (m ≡ d.symbol → ⊥) → (t : Bool) → is_equ_on (suc i) (definition_of program m) ≡ t → constant_through program (suc i) m ≡ constant_through program i m
-    others m differs false e = constant-kept program i m e
-    others m differs true e = by (equ-defines program i m e)
-      where
-        by : IsEquOf (body_at program (suc i)) m → constant_through program (suc i) m ≡ constant_through program i m
-        by (is_equ_of d' there same) =
-            absurd (differs (let is : EquBody d' ≡ EquBody d = sym there ∙ here in let one : d' ≡ d = cc in sym same ∙ ap (λ x. x.symbol) one))
+    (λ m differs. ap (λ f. f m) before ∙ sym (others-kept program i (constant_through program (suc i)) (constant_through program i) (constant-kept program i) d here m differs))
 
 -- the body of a line that has been read
 pub body-read : (lines : List (List ℕ)) (i : ℕ) (text : List ℕ) → i < length lines → text ≡ get_or lines i text → body_at (program_of lines) (suc i) ≡ (statement_of text).body

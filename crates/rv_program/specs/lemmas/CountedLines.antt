@@ -15,7 +15,7 @@ use Rattle.rv_program.specs.lemmas.WorkLaws.{work-next}
 use Rattle.rv_program.specs.lemmas.WorkSums.{one_label, compared-few}
 
 -- no line takes more values than it has operands
-pub value_operands-few : (b : Body) → value_operands b ≤ length (operands_of b)
+value_operands-few : (b : Body) → value_operands b ≤ length (operands_of b)
 value_operands-few (Equ d) = omega arith
 value_operands-few b = omega arith
 

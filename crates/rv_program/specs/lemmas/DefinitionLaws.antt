@@ -16,7 +16,7 @@ IsWithin from to Nowhere = Unit {0}
 IsWithin from to (ByLabel line index) = (from ≤ line) × (line < to)
 IsWithin from to (Equ line) = (from ≤ line) × (line < to)
 
-pub within-wider : (a b c d : ℕ) (place : DefinitionPlace) → c ≤ a → b ≤ d → IsWithin a b place → IsWithin c d place
+within-wider : (a b c d : ℕ) (place : DefinitionPlace) → c ≤ a → b ≤ d → IsWithin a b place → IsWithin c d place
 within-wider a b c d Nowhere l m w = tt
 within-wider a b c d (ByLabel line index) l m w = (omega (arith, l, w.0), omega (arith, m, w.1))
 within-wider a b c d (Equ line) l m w = (omega (arith, l, w.0), omega (arith, m, w.1))

@@ -54,7 +54,7 @@ here-nothing line other = at (is_up_to line other)
     at false = refl
 
 -- a definition on a line or before it comes first
-pub here-up : (line : ℕ) (place other : DefinitionPlace) → is_up_to line place ≡ true → or_place place other ≡ place
+here-up : (line : ℕ) (place other : DefinitionPlace) → is_up_to line place ≡ true → or_place place other ≡ place
 here-up line Nowhere other up = absurd (true≢false (sym up))
 here-up line (ByLabel l index) other up = refl
 here-up line (Equ l) other up = refl
@@ -63,7 +63,7 @@ pub within-up : (l line : ℕ) → l < line + 1 → nat_le l line ≡ true
 within-up l line below = grind (arith, nat_tests, common_steps)
 
 -- a part of a line, and then another
-pub here-joined : (line : ℕ) (other part later : DefinitionPlace) → IsWithin line (line + 1) part → or_here line (or_here line other part) later ≡ or_here line other (or_place part later)
+here-joined : (line : ℕ) (other part later : DefinitionPlace) → IsWithin line (line + 1) part → or_here line (or_here line other part) later ≡ or_here line other (or_place part later)
 here-joined line other part later within = at (is_up_to line other) refl part within
   where
     at : (b : Bool) → is_up_to line other ≡ b → (part : DefinitionPlace) → IsWithin line (line + 1) part → or_here line (or_here line other part) later ≡ or_here line other (or_place part later)
@@ -94,7 +94,7 @@ label-within line index l name = at (defines_symbol l.name name)
     at false = tt
 
 -- the labels of a line after its first one
-pub labels-step : (line index : ℕ) (l : Label) (ls : List Label) → then_also (of_label line index l) (place_among_labels line (index + 1) ls) ≡ place_among_labels line index (l ∷ ls)
+labels-step : (line index : ℕ) (l : Label) (ls : List Label) → then_also (of_label line index l) (place_among_labels line (index + 1) ls) ≡ place_among_labels line index (l ∷ ls)
 labels-step line index l ls = fun_ext (λ name. at (defines_symbol l.name name) (place_among_labels line (index + 1) ls name))
   where
     at : (b : Bool) (later : DefinitionPlace) → or_place (if b then ByLabel line index else Nowhere) later ≡ (if b then ByLabel line index else later)
@@ -144,17 +144,6 @@ defined-here names row symbol n line place number within up behind =
     ∙ here-first line (before symbol) place (ap (is_up_to line) (row-at names row Nowhere symbol n number) ∙ behind)
     ∙ here-up line place (before symbol) up))
     (λ m differs. sym (ap (or_here line (before m)) (only-other symbol place m differs) ∙ here-nothing line (before m)))
-
--- one of a name that has one on the line or before it
-pub defined-before : (names : List (List ℕ)) (row : List DefinitionPlace) (symbol : List ℕ) (n line : ℕ) (place : DefinitionPlace) → number_of names symbol ≡ Some n → is_up_to line (get_or row n Nowhere) ≡ true → in_row names row Nowhere ≡ also_on line (in_row names row Nowhere) (only symbol place)
-defined-before names row symbol n line place number up = fun_ext (λ m. at m (bytes_eq symbol m) refl)
-  where
-    at : (m : List ℕ) (b : Bool) → bytes_eq symbol m ≡ b → in_row names row Nowhere m ≡ or_here line (in_row names row Nowhere m) (if b then place else Nowhere)
-    at m true e =
-        let same : symbol ≡ m = (bytes_eq-Decides symbol m).0 e in
-        let held : in_row names row Nowhere m ≡ get_or row n Nowhere = ap (in_row names row Nowhere) (sym same) ∙ row-at names row Nowhere symbol n number in
-        sym (here-kept line (in_row names row Nowhere m) place (ap (is_up_to line) held ∙ up))
-    at m false e = sym (here-nothing line (in_row names row Nowhere m))
 
 -- A line has few labels
 

@@ -1,8 +1,7 @@
 -- The values of `.equ`s, line by line, and the row of them.
-use Rattle.std.proofs.Common.{◌≡◌, ℕ, zero, suc, ◌+◌, ◌-◌, ◌<◌, ◌≤◌, Bool, true, false, List, length, set, replicate, if◌then◌else◌, Some, Err, arith, ap, sym, refl, subst, ◌∙◌, ◌⊎◌, inl, inr}
+use Rattle.std.proofs.Common.{◌≡◌, ℕ, zero, suc, ◌+◌, ◌-◌, ◌<◌, ◌≤◌, true, false, List, length, set, replicate, if◌then◌else◌, Some, Err, arith, ap, sym, ◌∙◌, ◌⊎◌, inl, inr}
 use Rattle.std.proofs.lemmas.Bool.{cases_lt, ne_eqb}
 use Rattle.std.proofs.lemmas.List.{length-set, length-replicate}
-use Rattle.std.proofs.Math.Path.{fun_ext}
 use Rattle.rv_expr.specs.declared.faults.ValueFault.TheVariants.{LaterEqu}
 use Rattle.rv_expr.specs.Value.{Environment}
 use Rattle.rv_stmt.specs.declared.directive.Definition.{Definition}
@@ -16,9 +15,10 @@ use Rattle.rv_program.specs.Program.{Program, body_at}
 use Rattle.rv_program.specs.References.{names_on, no_pairs, equ_value, symbol_through, usable_equs, references_at}
 use Rattle.rv_program.specs.internal.Rows.{number_of, in_row, AreEquValues}
 use Rattle.rv_program.specs.Uses.{is_equ}
-use Rattle.rv_program.specs.lemmas.ConstantRows.{IsEquOf, is_equ_of, equ-defines}
+use Rattle.rv_program.specs.lemmas.ConstantRows.{all-kept, others-kept}
 use Rattle.rv_program.specs.lemmas.DefinitionLaws.{is_equ_on-true}
 use Rattle.rv_program.specs.lemmas.NameRows.{row-set, row-empty}
+use Rattle.rv_program.specs.lemmas.Programs.{kept-past}
 
 -- what names give in the expressions of line i + 1, where the `.equ`s of the first i lines may be used
 abbrev pub references_after : (base : ℕ) → Program → (i : ℕ) → Environment
@@ -52,41 +52,18 @@ equ_value-stays base program name line j (suc k) h l m = at (cases_lt k j) (equ_
 -- The row of the values
 
 -- a line that defines no symbol by an `.equ` leaves the values
-pub equ_values-same : (base : ℕ) (program : Program) (i : ℕ) → ((d : Definition) → body_at program (suc i) ≡ EquBody d → is_equ_on (suc i) (definition_of program d.symbol) ≡ false) → equ_value base program (suc i) ≡ equ_value base program i
-equ_values-same base program i none = fun_ext (λ name. at name (is_equ_on (suc i) (definition_of program name)) refl)
-  where
-    at : (name : List ℕ) (t : Bool) → is_equ_on (suc i) (definition_of program name) ≡ t → equ_value base program (suc i) name ≡ equ_value base program i name
-    at name false e = equ_value-kept base program i name e
-    at name true e = by (equ-defines program i name e)
-      where
-        by : IsEquOf (body_at program (suc i)) name → equ_value base program (suc i) name ≡ equ_value base program i name
-        by (is_equ_of d here same) =
-            absurd (let no : true ≡ false = sym e ∙ ap (λ m. is_equ_on (suc i) (definition_of program m)) (sym same) ∙ none d here in cc)
-
 pub equ_values-kept : (base : ℕ) (program : Program) (i : ℕ) (names : List (List ℕ)) (row : List Entry) → ((d : Definition) → body_at program (suc i) ≡ EquBody d → is_equ_on (suc i) (definition_of program d.symbol) ≡ false) → AreEquValues base program i names row → AreEquValues base program (i + 1) names row
 equ_values-kept base program i names row none are = record {
-  each = are.each ∙ sym (equ_values-same base program i none) ∙ ap (equ_value base program) (let next : suc i ≡ i + 1 = omega arith in next);
+  each = are.each ∙ sym (all-kept program i (equ_value base program (suc i)) (equ_value base program i) (equ_value-kept base program i) none) ∙ ap (equ_value base program) (let next : suc i ≡ i + 1 = omega arith in next);
   within = are.within;
 }
-
--- another name than that of the line's `.equ` keeps its value
-equ_value-others : (base : ℕ) (program : Program) (i : ℕ) (d : Definition) (name : List ℕ) → body_at program (suc i) ≡ EquBody d → (name ≡ d.symbol → ⊥) → equ_value base program (suc i) name ≡ equ_value base program i name
-equ_value-others base program i d name here differs = at (is_equ_on (suc i) (definition_of program name)) refl
-  where
-    at : (t : Bool) → is_equ_on (suc i) (definition_of program name) ≡ t → equ_value base program (suc i) name ≡ equ_value base program i name
-    at false e = equ_value-kept base program i name e
-    at true e = by (equ-defines program i name e)
-      where
-        by : IsEquOf (body_at program (suc i)) name → equ_value base program (suc i) name ≡ equ_value base program i name
-        by (is_equ_of other there same) =
-            absurd (differs (let is : EquBody other ≡ EquBody d = sym there ∙ here in let one : other ≡ d = cc in sym same ∙ ap (λ x. x.symbol) one))
 
 -- a line that defines one puts its value into the row
 pub equ_values-set : (base : ℕ) (program : Program) (i : ℕ) (names : List (List ℕ)) (row : List Entry) (d : Definition) (n : ℕ) (value : Entry) → body_at program (suc i) ≡ EquBody d → is_equ_on (suc i) (definition_of program d.symbol) ≡ true → number_of names d.symbol ≡ Some n → n < length row → value ≡ defined_value (references_after base program i) (EquBody d) → AreEquValues base program i names row → AreEquValues base program (i + 1) names (set row n value)
 equ_values-set base program i names row d n value here defines number within is are = record {
   each = row-set names row (Err LaterEqu) d.symbol n value (equ_value base program (suc i)) number within
       (is ∙ ap (defined_value (references_after base program i)) (sym here) ∙ sym (equ_value-here base program i d.symbol defines))
-      (λ m differs. ap (λ f. f m) are.each ∙ sym (equ_value-others base program i d m here differs))
+      (λ m differs. ap (λ f. f m) are.each ∙ sym (others-kept program i (equ_value base program (suc i)) (equ_value base program i) (equ_value-kept base program i) d here m differs))
       ∙ ap (equ_value base program) (let next : suc i ≡ i + 1 = omega arith in next);
   within = rw length-set are.within;
 }
@@ -112,12 +89,6 @@ equ_value-in_row base program k names row (suc i) d first last here defines are 
 
 -- lines without an `.equ` leave the row
 pub equ_values-past : (base : ℕ) (program : Program) (i j : ℕ) (names : List (List ℕ)) (row : List Entry) → i ≤ j → AreWithout is_equ program i j → AreEquValues base program i names row → AreEquValues base program j names row
-equ_values-past base program i zero names row up passed are = subst (λ k. AreEquValues base program k names row) (let e : i ≡ 0 = omega (arith, up) in e) are
-equ_values-past base program i (suc j) names row up passed are = at (cases_lt j i) (λ above. equ_values-past base program i j names row above (record { each = λ k first last. passed.each k first (omega (arith, last)) }) are)
-  where
-    at : (j < i) ⊎ (i ≤ j) → (i ≤ j → AreEquValues base program j names row) → AreEquValues base program (suc j) names row
-    at (inl below) before = subst (λ k. AreEquValues base program k names row) (let e : i ≡ suc j = omega (arith, below, up) in e) are
-    at (inr above) before =
-        let none : is_equ (body_at program (suc j)) ≡ false = passed.each j above (omega arith) in
-        subst (λ k. AreEquValues base program k names row) (let e : j + 1 ≡ suc j = omega arith in e)
-        (equ_values-kept base program j names row (λ d is. absurd (let no : true ≡ false = sym (ap is_equ is) ∙ none in cc)) (before above))
+equ_values-past base program i j names row up passed =
+    kept-past (λ k. AreEquValues base program k names row) i j up
+    (λ k first last. equ_values-kept base program k names row (λ d is. absurd (let no : true ≡ false = sym (ap is_equ is) ∙ passed.each k first last in cc)))

@@ -1,6 +1,6 @@
 -- The shape of a line after an edit: where the names that it uses are the constants that they were, it is what it was, and where
 -- one is not, the line is invalidated.
-use Rattle.std.proofs.Common.{◌≡◌, ℕ, suc, ℤ, ◌+◌, ◌-◌, ◌<◌, ◌≤◌, Bool, true, false, not, ◌&&◌, ◌||◌, List, [], ◌∷◌, length, get_or, Option, Some, None, arith, ap, sym, ◌∙◌, refl}
+use Rattle.std.proofs.Common.{◌≡◌, ℕ, suc, ℤ, ◌+◌, ◌-◌, ◌<◌, ◌≤◌, Bool, true, false, not, ◌&&◌, List, length, get_or, Option, Some, None, arith, ap, sym, ◌∙◌}
 use Rattle.std.specs.List.{list_any}
 use Rattle.std.proofs.lemmas.Bool.{and_parts, not-false, or_left, or_right}
 use Rattle.rv_stmt.specs.declared.statement.Body.{Body}
@@ -22,18 +22,11 @@ use Rattle.rv_program.specs.Uses.{names_used, is_sized, uses_symbols}
 use Rattle.rv_program.specs.internal.Work.{work}
 use Rattle.rv_program.specs.lemmas.ConstantRows.{body-read}
 use Rattle.rv_program.specs.lemmas.EarlierLines.{Stood, stood, statement-stood}
+use Rattle.rv_program.specs.lemmas.Lists.{any-weaker}
 use Rattle.rv_program.specs.lemmas.Programs.{length-for_lines, at-for_lines, length-program}
 use Rattle.rv_program.specs.lemmas.SamenessLaws.{same_constant-Decides}
 use Rattle.rv_program.specs.lemmas.UsedConstants.{shape-same}
 use Rattle.rv_program.specs.lemmas.WorkLaws.{work-invalidated}
-
-any-weaker : (p q : List ℕ → Bool) → ((name : List ℕ) → p name ≡ true → q name ≡ true) → (names : List (List ℕ)) → list_any p names ≡ true → list_any q names ≡ true
-any-weaker p q weaker [] h = h
-any-weaker p q weaker (n ∷ ns) h = at (p n) refl (any-weaker p q weaker ns) h
-  where
-    at : (t : Bool) → p n ≡ t → (list_any p ns ≡ true → list_any q ns ≡ true) → (t || list_any p ns) ≡ true → (q n || list_any q ns) ≡ true
-    at true e later g = or_left (q n) (list_any q ns) (weaker n e)
-    at false e later g = or_right (q n) (list_any q ns) (later g)
 
 -- Line i + 1
 

@@ -134,7 +134,7 @@ local_by-rows text line number direction are last =
 
 -- what names give by the rows of a text, where the `.equ`s of the first lines may be used and the row of their values has
 -- these
-pub names_by-rows : (text : TextRows) (row highs : List Entry) (k line usable : ℕ) (high : ℕ → Entry) → AreTextRows text → AreEquValuesIn text k row → usable ≤ k → line ≤ length (program_in text) → 1 ≤ line → ((l : ℕ) → 1 ≤ l → l ≤ length (program_in text) → high_in highs l ≡ high l) → names_by (rows_for text row highs line usable) (address_in_text text line) ≡ names_on text.base (program_in text) line (symbol_through text.base (program_in text) usable) high
+names_by-rows : (text : TextRows) (row highs : List Entry) (k line usable : ℕ) (high : ℕ → Entry) → AreTextRows text → AreEquValuesIn text k row → usable ≤ k → line ≤ length (program_in text) → 1 ≤ line → ((l : ℕ) → 1 ≤ l → l ≤ length (program_in text) → high_in highs l ≡ high l) → names_by (rows_for text row highs line usable) (address_in_text text line) ≡ names_on text.base (program_in text) line (symbol_through text.base (program_in text) usable) high
 names_by-rows text row highs k line usable high are values less last first same =
     let program : Program = program_in text in
     same_names _ _ _ _ _ _ _ _

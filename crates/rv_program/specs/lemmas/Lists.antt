@@ -1,10 +1,10 @@
--- A map over an edited list, and what holds of each element.
-use Rattle.std.proofs.Common.{◌≡◌, ℕ, suc, ◌==◌, false, not, List, [], ◌∷◌, length, take, drop, true≢false, arith, ap, sym, ◌∙◌, refl}
+-- A map over an edited list, what holds of each element, and tests of some.
+use Rattle.std.proofs.Common.{◌≡◌, ℕ, suc, ◌==◌, Bool, true, false, not, ◌||◌, List, [], ◌∷◌, length, take, drop, true≢false, arith, ap, sym, ◌∙◌, refl}
 use Rattle.std.specs.Prelude.{map, insert, remove}
-use Rattle.std.proofs.lemmas.Bool.{ne_eqb}
+use Rattle.std.proofs.lemmas.Bool.{ne_eqb, or_left, or_right}
 use Rattle.std.proofs.lemmas.List.{map-append, take-map, drop-map}
 use Rattle.std.proofs.lemmas.List.Elements.{All-append, All-cons, All-take, All-drop}
-use Rattle.std.specs.List.{All}
+use Rattle.std.specs.List.{All, list_any}
 
 pub map_insert : {A B : Type 0} (f : A → B) (xs : List A) (i : ℕ) (x : A) → map f (insert xs i x) ≡ insert (map f xs) i (f x)
 map_insert f xs i x = simp (map-append, take-map, drop-map)
@@ -23,3 +23,12 @@ pub no-items : {A : Type 0} (xs : List A) → not (length xs == 0) ≡ false →
 no-items [] none = refl
 no-items (x ∷ xs) none =
     absurd (true≢false (sym (ap not (ne_eqb (suc (length xs)) 0 (λ e. omega (arith, e)))) ∙ none))
+
+-- what passes the one test passes the other
+pub any-weaker : (p q : List ℕ → Bool) → ((name : List ℕ) → p name ≡ true → q name ≡ true) → (names : List (List ℕ)) → list_any p names ≡ true → list_any q names ≡ true
+any-weaker p q weaker [] h = h
+any-weaker p q weaker (n ∷ ns) h = at (p n) refl (any-weaker p q weaker ns) h
+  where
+    at : (t : Bool) → p n ≡ t → (list_any p ns ≡ true → list_any q ns ≡ true) → (t || list_any p ns) ≡ true → (q n || list_any q ns) ≡ true
+    at true e later g = or_left (q n) (list_any q ns) (weaker n e)
+    at false e later g = or_right (q n) (list_any q ns) (later g)

@@ -57,7 +57,7 @@ statement-moved to line s name =
     ∙ sym (moved-or to (place_among_labels line 0 s.labels name) (place_in_body line s.body name))
 
 -- the statements from line `line` on, which move to line `line'`
-pub first-moved : (to : ℕ → ℕ) (line line' : ℕ) (program : Program) (name : List ℕ) → ((j : ℕ) → j < length program → to (line + j) ≡ line' + j) → first_place line' program name ≡ moved_place to (first_place line program name)
+first-moved : (to : ℕ → ℕ) (line line' : ℕ) (program : Program) (name : List ℕ) → ((j : ℕ) → j < length program → to (line + j) ≡ line' + j) → first_place line' program name ≡ moved_place to (first_place line program name)
 first-moved to line line' [] name moves = refl
 first-moved to line line' (s ∷ ss) name moves =
     let start : line + 0 ≡ line = omega arith in

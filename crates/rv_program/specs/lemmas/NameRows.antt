@@ -246,7 +246,7 @@ get_or-filled (x ∷ row) other k zero = refl
 get_or-filled (x ∷ row) other k (suc n) = get_or-filled row other k n
 
 -- a row that is filled up at its end with the other value
-pub row-filled : {A : Type 0} (names : List (List ℕ)) (row : List A) (other : A) (k : ℕ) → in_row names (row ++ replicate k other) other ≡ in_row names row other
+row-filled : {A : Type 0} (names : List (List ℕ)) (row : List A) (other : A) (k : ℕ) → in_row names (row ++ replicate k other) other ≡ in_row names row other
 row-filled names row other k = fun_ext (λ name. at (number_of names name))
   where
     at : (r : Option ℕ) → entry_at (row ++ replicate k other) other r ≡ entry_at row other r
@@ -254,7 +254,7 @@ row-filled names row other k = fun_ext (λ name. at (number_of names name))
     at (Some n) = get_or-filled row other k n
 
 -- a row that is made longer
-pub lengthened : {A : Type 0} (names : List (List ℕ)) (row : List A) (other : A) (n : ℕ) → length row ≤ n → in_row names (take n row ++ replicate (n - length row) other) other ≡ in_row names row other
+lengthened : {A : Type 0} (names : List (List ℕ)) (row : List A) (other : A) (n : ℕ) → length row ≤ n → in_row names (take n row ++ replicate (n - length row) other) other ≡ in_row names row other
 lengthened names row other n within =
     ap (λ l. in_row names (l ++ replicate (n - length row) other) other) (take_all n row within)
     ∙ row-filled names row other (n - length row)

@@ -1,7 +1,7 @@
 -- Sets of names: what they have, and which tests no name of a line passes.
 use Rattle.std.proofs.Common.{◌≡◌, ◌≤◌, ℕ, zero, suc, ◌<◌, ◌%◌, ◌==◌, ◌⊎◌, inl, inr, Bool, true, false, ◌||◌, List, [], ◌∷◌, length, replicate, get_or, slice_set, Option, Some, None, true≢false, arith, ap, sym, ◌∙◌, refl}
 use Rattle.std.specs.List.{list_any, fold}
-use Rattle.std.proofs.lemmas.Bool.{cases_eq, eqb-true, eq-eqb, or_left, or_right}
+use Rattle.std.proofs.lemmas.Bool.{cases_eq, eqb-true, eq-eqb, or_cases, or_left, or_right}
 use Rattle.std.proofs.lemmas.List.{get_or-set_other}
 use Rattle.rv_program.specs.declared.groups.Groups.{Groups}
 use Rattle.rv_program.specs.declared.used_names.UsedNames.{UsedNames}
@@ -11,10 +11,6 @@ use Rattle.rv_program.specs.declared.name_set.Mark.TheVariants.{Unknown}
 use Rattle.rv_program.specs.internal.NameSets.{next_bucket, bucket_of, differs, AreGrouped, no_names, with_bucket, with_name, with_names, brief_of_names, is_bucket, may_have, with_group_of, groups_used}
 use Rattle.rv_program.specs.internal.Groups.{no_groups, has_bit, with_group, has_group}
 use Rattle.rv_program.specs.lemmas.GroupLaws.{bit-left, no-bit, group-added, group-kept}
-
-or_split : (a b : Bool) → (a || b) ≡ true → (a ≡ true) ⊎ (b ≡ true)
-or_split true b h = inl refl
-or_split false b h = inr h
 
 bucket-after : (bucket : ℕ) (name : List ℕ) → bucket < 16384 → fold next_bucket bucket name < 16384
 bucket-after bucket [] below = below
@@ -64,12 +60,12 @@ group-of-second first second bucket other is =
 
 bucket-kept : (used : UsedNames) (bucket other : ℕ) → may_have used other ≡ true → may_have (with_bucket used bucket) other ≡ true
 bucket-kept (Few None second) bucket other has = or_right (bucket == other) (is_bucket second other) has
-bucket-kept (Few (Some first) None) bucket other has = at (or_split (first == other) false has)
+bucket-kept (Few (Some first) None) bucket other has = at (or_cases (first == other) false has)
   where
     at : ((first == other) ≡ true) ⊎ (false ≡ true) → ((first == other) || (bucket == other)) ≡ true
     at (inl is) = or_left (first == other) (bucket == other) is
     at (inr is) = absurd (true≢false (sym is))
-bucket-kept (Few (Some first) (Some second)) bucket other has = at (or_split (first == other) (second == other) has)
+bucket-kept (Few (Some first) (Some second)) bucket other has = at (or_cases (first == other) (second == other) has)
   where
     at : ((first == other) ≡ true) ⊎ ((second == other) ≡ true) → has_group (with_group (with_group (with_group no_groups first) second) bucket) other ≡ true
     at (inl is) = group-of-first first second bucket other is
@@ -86,7 +82,7 @@ group-added-with groups None other is = absurd (true≢false (sym is))
 group-added-with groups (Some bucket) other is = ap (has_group (with_group groups bucket)) (sym (eqb-true bucket other is)) ∙ group-added groups bucket
 
 pub group-used : (used : UsedNames) (bucket : ℕ) → may_have used bucket ≡ true → has_group (groups_used used) bucket ≡ true
-group-used (Few first second) bucket has = at (or_split (is_bucket first bucket) (is_bucket second bucket) has)
+group-used (Few first second) bucket has = at (or_cases (is_bucket first bucket) (is_bucket second bucket) has)
   where
     at : (is_bucket first bucket ≡ true) ⊎ (is_bucket second bucket ≡ true) → has_group (with_group_of (with_group_of no_groups first) second) bucket ≡ true
     at (inl is) = group-kept-with (with_group_of no_groups first) second bucket (group-added-with no_groups first bucket is)

@@ -30,7 +30,7 @@ inserted lines place line allowed =
     let room : place - 1 ≤ length lines = omega (arith, is.1) in
     statement_of_line (lines_after lines (Insert place line)) place line (omega (arith, is.0, room, length-insert lines (place - 1) line room)) is.0 (sym (get_or-insert_at lines (place - 1) line line room))
 
-pub replaced : (lines : List (List ℕ)) (place : ℕ) (line : List ℕ) → refusal_of lines (Replace place line) ≡ None → statement_at (program_after lines (Replace place line)) place ≡ statement_of line
+replaced : (lines : List (List ℕ)) (place : ℕ) (line : List ℕ) → refusal_of lines (Replace place line) ≡ None → statement_at (program_after lines (Replace place line)) place ≡ statement_of line
 replaced lines place line allowed =
     let is = replace_within lines place line allowed in
     let there : place - 1 < length lines = omega (arith, is.0, is.1) in

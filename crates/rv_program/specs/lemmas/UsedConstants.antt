@@ -28,7 +28,7 @@ no-size_operand (o ∷ os) none =
     ap (λ b. if b then Some o else size_operand os) parts.0 ∙ no-size_operand os parts.1
 
 -- its shape follows from no constant
-pub shape-by_no_operand : (f g : List ℕ → Option ℤ) (b : Body) → is_sized b ≡ false → shape_of f b ≡ shape_of g b
+shape-by_no_operand : (f g : List ℕ → Option ℤ) (b : Body) → is_sized b ≡ false → shape_of f b ≡ shape_of g b
 shape-by_no_operand f g (body.Instr i) none =
     let no = no-size_operand i.operands none in
     ap (shape_of_instructions (constants f) i) no ∙ sym (ap (shape_of_instructions (constants g) i) no)

@@ -1,4 +1,4 @@
-use Rattle.std.proofs.Common.{subst, sym}
+use Rattle.std.proofs.Common.{subst}
 use Rattle.rv_program.specs.internal.Defining.{AreLabelsNumbered, IsNumbered}
 use Rattle.rv_program.proofs.NumberedNames.{labels-grown}
 use Rattle.rv_program.proofs.definitions.number_line.Goals as goal

@@ -1,5 +1,5 @@
-use Rattle.std.proofs.Common.{◌≡◌, Bool, true, false, not, true≢false, Some, pos, ◌+ℤ◌, arith, ap, sym, ◌∙◌, refl}
-use Rattle.std.proofs.lemmas.Bool.{eqb-true}
+use Rattle.std.proofs.Common.{◌≡◌, Some, pos, ◌+ℤ◌, arith, ap, sym, ◌∙◌}
+use Rattle.std.proofs.lemmas.Bool.{eqb-true, not-true}
 use Rattle.std.proofs.lemmas.Int.{ints}
 use Rattle.rv_program.specs.internal.Before.{edit_on}
 use Rattle.rv_program.specs.Edits.{line_before_edit}
@@ -7,10 +7,6 @@ use Rattle.rv_program.specs.internal.TextRows.{address_in_text}
 use Rattle.rv_program.proofs.CarriedJumps.{carried-not_due}
 use Rattle.rv_program.proofs.LinePairLaws.{stood-before}
 use Rattle.rv_program.proofs.due.is_carried.Goals as goal
-
-not-true : (b : Bool) → not b ≡ true → b ≡ false
-not-true false h = refl
-not-true true h = absurd (true≢false (sym h))
 
 pub rise-requires-clause-last_stood : goal.rise-requires-clause-last_stood
 rise-requires-clause-last_stood c =

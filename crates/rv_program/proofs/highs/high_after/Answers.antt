@@ -10,7 +10,8 @@ use Rattle.rv_program.specs.References.{references_at}
 use Rattle.rv_program.specs.internal.TextRows.{program_in}
 use Rattle.rv_program.specs.internal.Work.{high_operands}
 use Rattle.rv_program.proofs.HighLaws.{high-kept, high_of_line, no-high, high-counted}
-use Rattle.rv_program.proofs.LinePairLaws.{stood-before, body-before, invalidated-by_uses, invalidated-new}
+use Rattle.rv_program.proofs.LinePairLaws.{stood-before, body-before, invalidated-by_uses}
+use Rattle.rv_program.specs.lemmas.KeptShapes.{new-invalidated}
 use Rattle.rv_program.specs.lemmas.WorkLaws.{work-up}
 use Rattle.rv_program.proofs.highs.high_after.Goals as goal
 use Rattle.rv_program.proofs.highs.high_after.Goals.{then-not-is_line_invalidated+in_default, else-not-is_line_invalidated}
@@ -47,7 +48,7 @@ returns-clause-most g c =
     let before = c.args.before.now in
     let invalidated : is_invalidated (base_before before) (lines_before before) (edit_on before) c.args.line ≡ true =
     elim c.if-not-is_line_invalidated.branch [
-      | then-not-is_line_invalidated+in_default w ↦ invalidated-new (base_before before) (lines_before before) (edit_on before) c.args.line (sym w.line_before.ensures ∙ w.in_default.is)
+      | then-not-is_line_invalidated+in_default w ↦ new-invalidated (base_before before) (lines_before before) (edit_on before) c.args.line (sym w.line_before.ensures ∙ w.in_default.is)
       | else-not-is_line_invalidated w ↦ sym c.is_line_invalidated.ensures ∙ w.if-not-is_line_invalidated.false
     ] in
     let high : is_some (pcrel_high_of (body_at (program_in c.args.after.now.text) c.args.line)) ≡ true = sym c.has_pcrel_high.ensures ∙ c.if-not-has_pcrel_high.false in

@@ -1,6 +1,6 @@
-use Rattle.std.proofs.Common.{◌≡◌, ℕ, ◌+◌, List, [], ◌∷◌, ◌++◌, length, take, drop, replicate, Err, arith, ap, sym, subst, ◌∙◌, refl}
+use Rattle.std.proofs.Common.{◌≡◌, ℕ, ◌+◌, List, ◌++◌, length, take, drop, replicate, Err, arith, ap, sym, subst, ◌∙◌}
 use Rattle.std.proofs.lemmas.Bool.{eqb-true}
-use Rattle.std.proofs.lemmas.List.{append-nil, take_all, drop_all}
+use Rattle.std.proofs.lemmas.List.{append-nil, take_all, drop_all, nil_from_length}
 use Rattle.rv_expr.specs.declared.faults.ValueFault.TheVariants.{NoPartner}
 use Rattle.rv_fix.specs.Values.{Entry}
 use Rattle.rv_program.specs.internal.PairedHighs.{ArePairedThrough}
@@ -18,10 +18,6 @@ written n new old same count =
     ap (λ rest. take n (new ++ rest)) (drop_all (length new) old (omega (arith, same)))
     ∙ ap (take n) (append-nil new) ∙ take_all n new (omega (arith, same, count))
 
-no-entry : (row : List Entry) → length row ≡ 0 → row ≡ []
-no-entry [] e = refl
-no-entry (x ∷ xs) e = absurd (omega (arith, e))
-
 -- no line has a high half
 pub returns-then-is_empty : goal.returns-then-is_empty
 returns-then-is_empty c =
@@ -29,7 +25,7 @@ returns-then-is_empty c =
     let program = program_in text in
     let nothing : length c.args.highs.now ≡ 0 = eqb-true (length c.args.highs.now) 0 (sym c.is_empty.ensures ∙ c.if-is_empty.true) in
     subst (ArePairedHighs text.base program) (sym c.new.ensures.items)
-    (paired-nowhere text.base program (subst (AreHighs text.base program) (no-entry c.args.highs.now nothing) c.requires.highs))
+    (paired-nowhere text.base program (subst (AreHighs text.base program) (nil_from_length c.args.highs.now nothing) c.requires.highs))
 
 pub loop-i-init : goal.loop-i-init
 loop-i-init c =
