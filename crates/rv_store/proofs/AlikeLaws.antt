@@ -3,12 +3,10 @@ use Rattle.std.proofs.Common.{◌≡◌, ℕ, zero, suc, ◌+◌, ◌-◌, ◌�
 use Rattle.std.specs.Result.{result_ok}
 use Rattle.std.proofs.lemmas.List.{length-set, get_or-set_same, get_or-set_other}
 use Rattle.std.proofs.Math.Path.{fun_ext}
-use Rattle.rv_stmt.specs.declared.statement.Body.{Body}
-use Rattle.rv_stmt.specs.declared.statement.Body.TheVariants as body
 use Rattle.rv_stmt.specs.declared.statement.Stmt.{Stmt}
 use Rattle.rv_stmt.specs.LabelNames.{Label}
 use Rattle.rv_layout.specs.Shapes.{constants, shape_of}
-use Rattle.rv_list.specs.declared.view.DefinitionPlace.TheVariants.{Nowhere, Label as ByLabel}
+use Rattle.rv_list.specs.declared.view.DefinitionPlace.TheVariants.{Label as ByLabel}
 use Rattle.rv_store.specs.internal.Alike.{label_names, room_of, DefinesSame, IsAlike}
 use Rattle.rv_program.specs.Constants.{defined_value, constant_of, constant_through}
 use Rattle.rv_program.specs.Definitions.{defines_symbol, place_among_labels, place_in_body, or_place, place_in_statement, first_place, definition_of, is_equ_on}
@@ -20,14 +18,15 @@ use Rattle.rv_program.specs.References.{is_local, among_local, has_local}
 use Rattle.rv_store.specs.internal.Still.{Touched, IsStill}
 use Rattle.rv_program.specs.Uses.{is_equ}
 use Rattle.rv_store.proofs.ApartLines.{untouched}
+use Rattle.rv_program.specs.lemmas.DefinitionRows.{nowhere}
 use Rattle.rv_program.specs.lemmas.ConstantRows.{IsEquOf, is_equ_of, equ-defines, constant-kept}
 use Rattle.rv_store.proofs.Rooms as rooms
 use Rattle.rv_store.proofs.Rooms.{map-for_lines}
-use Rattle.rv_store.proofs.StillLaws.{same_number}
+use Rattle.std.proofs.lemmas.Bool.{cases_eq}
 
 -- Labels that define the same
 
-pub place_among-same : (line index : ℕ) (ls ms : List Label) (name : List ℕ) → label_names ms ≡ label_names ls → place_among_labels line index ms name ≡ place_among_labels line index ls name
+place_among-same : (line index : ℕ) (ls ms : List Label) (name : List ℕ) → label_names ms ≡ label_names ls → place_among_labels line index ms name ≡ place_among_labels line index ls name
 place_among-same line index [] [] name e = refl
 place_among-same line index [] (m ∷ ms) name e = absurd (cc)
 place_among-same line index (l ∷ ls) [] name e = absurd (cc)
@@ -49,19 +48,13 @@ among_local-same number (l ∷ ls) (m ∷ ms) e =
     let more = among_local-same number ls ms rest in
     λ i. is_local number (first i) || more i
 
--- Plain bodies
-
-pub place_in-plain : (line : ℕ) (b : Body) (name : List ℕ) → is_equ b ≡ false → place_in_body line b name ≡ Nowhere
-place_in-plain line (body.Equ d) name h = absurd (true≢false h)
-place_in-plain line b name h = refl
-
 -- Definitions
 
 place_in_statement-same : (line : ℕ) (s t : Stmt) (name : List ℕ) → DefinesSame s t → place_in_statement line t name ≡ place_in_statement line s name
 place_in_statement-same line s t name same =
     let labels = place_among-same line 0 s.labels t.labels name same.labels in
     let here : place_in_body line t.body name ≡ place_in_body line s.body name =
-    place_in-plain line t.body name same.plain_after.equ ∙ sym (place_in-plain line s.body name same.plain_before.equ) in
+    nowhere line t.body name same.plain_after.equ ∙ sym (nowhere line s.body name same.plain_before.equ) in
     λ i. or_place (labels i) (here i)
 
 first_place-same : (line : ℕ) (p : Program) (j : ℕ) (t : Stmt) (name : List ℕ) → DefinesSame (get_or p j no_statement) t → first_place line (set p j t) name ≡ first_place line p name
@@ -107,7 +100,7 @@ module _ (p : Program) (k : ℕ) (t : Stmt) (first : 1 ≤ k) (last : k ≤ leng
   statement-other i differs = get_or-set_other p (k - 1) (i - 1) t no_statement differs
 
   labels-same : (i : ℕ) → label_names (statement_at put i).labels ≡ label_names (statement_at p i).labels
-  labels-same i = at (same_number (i - 1) (k - 1))
+  labels-same i = at (cases_eq (i - 1) (k - 1))
     where
       at : (i - 1 ≡ k - 1) ⊎ (i - 1 ≡ k - 1 → ⊥) → label_names (statement_at put i).labels ≡ label_names (statement_at p i).labels
       at (inl same) = ap (λ s. label_names s.labels) (statement-here i same) ∙ alike.defines.labels ∙ ap (λ s. label_names s.labels) (before-here i same)
@@ -125,7 +118,7 @@ module _ (p : Program) (k : ℕ) (t : Stmt) (first : 1 ≤ k) (last : k ≤ leng
 
   constants-same : (m : ℕ) → constant_through put m ≡ constant_through p m
   constants-same zero = refl
-  constants-same (suc m) = at (constants-same m) (same_number m (k - 1))
+  constants-same (suc m) = at (constants-same m) (cases_eq m (k - 1))
     where
       at : constant_through put m ≡ constant_through p m → (m ≡ k - 1) ⊎ (m ≡ k - 1 → ⊥) → constant_through put (suc m) ≡ constant_through p (suc m)
       at before (inl here) = fun_ext (λ name.
@@ -146,7 +139,7 @@ module _ (p : Program) (k : ℕ) (t : Stmt) (first : 1 ≤ k) (last : k ≤ leng
   shape-put = λ j. shape_of (constants-same (k - 1) j) (statement-put j).body
 
   room-same : (i : ℕ) → room_of (shape_at put i) ≡ room_of (shape_at p i)
-  room-same i = at (same_number (i - 1) (k - 1))
+  room-same i = at (cases_eq (i - 1) (k - 1))
     where
       at : (i - 1 ≡ k - 1) ⊎ (i - 1 ≡ k - 1 → ⊥) → room_of (shape_at put i) ≡ room_of (shape_at p i)
       at (inl same) =

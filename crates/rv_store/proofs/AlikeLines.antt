@@ -1,5 +1,5 @@
 -- When a line defines the same as another one, and its shape follows from no constant.
-use Rattle.std.proofs.Common.{◌≡◌, Bool, true, false, not, ◌==◌, List, [], ◌∷◌, length, Option, Some, None, true≢false, ap, sym, ◌∙◌, refl}
+use Rattle.std.proofs.Common.{◌≡◌, Bool, true, false, not, List, [], ◌∷◌, Option, Some, None, true≢false, ap, sym, ◌∙◌, refl}
 use Rattle.std.specs.Option.{is_some}
 use Rattle.std.proofs.lemmas.Bool.{eqb-true, and_parts, not-true}
 use Rattle.rv_ops.specs.NameLaws.{bytes_eq-true}
@@ -9,7 +9,7 @@ use Rattle.rv_program.specs.declared.brief.Brief.{Brief}
 use Rattle.rv_store.specs.internal.Alike.{same_name, same_labels, label_names, IsPlain, DefinesSame}
 use Rattle.rv_program.specs.internal.Briefs.{brief_of}
 use Rattle.rv_program.specs.Pairs.{pcrel_high_of}
-use Rattle.rv_store.proofs.Stores.{past_zero}
+use Rattle.rv_program.specs.lemmas.Lists.{no-items}
 
 -- Labels
 
@@ -19,7 +19,7 @@ same_name-true (Local number) (Local other) h = ap Local (eqb-true number other 
 same_name-true (Symbol symbol) (Local number) h = absurd (true≢false (sym h))
 same_name-true (Local number) (Symbol symbol) h = absurd (true≢false (sym h))
 
-pub same_labels-true : (ls ms : List Label) → same_labels ls ms ≡ true → label_names ls ≡ label_names ms
+same_labels-true : (ls ms : List Label) → same_labels ls ms ≡ true → label_names ls ≡ label_names ms
 same_labels-true [] [] h = refl
 same_labels-true [] (m ∷ ms) h = absurd (true≢false (sym h))
 same_labels-true (l ∷ ls) [] h = absurd (true≢false (sym h))
@@ -33,10 +33,6 @@ none : {A : Type 0} (o : Option A) → is_some o ≡ false → o ≡ None
 none None h = refl
 none (Some x) h = absurd (true≢false h)
 
-empty : {A : Type 0} (xs : List A) → not (length xs == 0) ≡ false → xs ≡ []
-empty [] h = refl
-empty (x ∷ xs) h = absurd (true≢false (sym (ap not (past_zero (length xs))) ∙ h))
-
 pub no_high : (s : Stmt) (b : Brief) → b ≡ brief_of s → b.pcrel_high ≡ false → pcrel_high_of s.body ≡ None
 no_high s b is high = none (pcrel_high_of s.body) (sym (ap (λ b. b.pcrel_high) is) ∙ high)
 
@@ -46,8 +42,8 @@ plain s b is equ high = record {
   high = no_high s b is high;
 }
 
-pub no_labels : (s : Stmt) (b : Brief) → b ≡ brief_of s → b.labels ≡ false → s.labels ≡ []
-no_labels s b is h = empty s.labels (sym (ap (λ b. b.labels) is) ∙ h)
+no_labels : (s : Stmt) (b : Brief) → b ≡ brief_of s → b.labels ≡ false → s.labels ≡ []
+no_labels s b is h = no-items s.labels (sym (ap (λ b. b.labels) is) ∙ h)
 
 module _ (s t : Stmt) (before after : Brief) (is_before : before ≡ brief_of s) (is_after : after ≡ brief_of t)
     (equ_before : before.equ ≡ false) (high_before : before.pcrel_high ≡ false) (equ_after : after.equ ≡ false) (high_after : after.pcrel_high ≡ false) where

@@ -1,5 +1,5 @@
 -- Lines with which no line of a text has to do: what they add, and who uses it.
-use Rattle.std.proofs.Common.{◌≡◌, ℕ, suc, ◌+◌, ◌-◌, ◌%◌, ◌<◌, ◌≤◌, ◌==◌, ◌⊎◌, inl, inr, Bool, true, false, not, ◌&&◌, ◌||◌, List, [], ◌∷◌, ◌++◌, length, map, get_or, bytes_eq, nat_le, if◌then◌else◌, true≢false, arith, ap, sym, subst, ◌∙◌, refl}
+use Rattle.std.proofs.Common.{◌≡◌, ℕ, suc, ◌+◌, ◌-◌, ◌%◌, ◌<◌, ◌≤◌, ◌==◌, ◌⊎◌, inl, inr, Bool, true, false, not, ◌&&◌, ◌||◌, List, [], ◌∷◌, ◌++◌, length, map, get_or, nat_le, if◌then◌else◌, true≢false, arith, ap, sym, subst, ◌∙◌, refl}
 use Rattle.std.specs.List.{list_any}
 use Rattle.std.proofs.Math.Path.{fun_ext}
 use Rattle.std.proofs.lemmas.Bool.{cases_lt, lt-ltb, le-ltb, lt-leb, eqb-true, eq-eqb, and_parts, and_left, or_parts, or_from, or_cases}
@@ -105,11 +105,6 @@ statement-defines line s name h = at (either-defined (place_among_labels line 0 
     at : (is_defined (place_among_labels line 0 s.labels name) ≡ true) ⊎ (is_defined (place_in_body line s.body name) ≡ true) → (list_any (λ l. defines_symbol l.name name) s.labels ≡ true) ⊎ (is_defined (place_in_body line s.body name) ≡ true)
     at (inl labels) = inl (sym (labels-define line 0 s.labels name) ∙ labels)
     at (inr body) = inr body
-
--- an `.equ` defines its symbol alone
-pub equ-defines : (line : ℕ) (symbol name : List ℕ) (b : Bool) → b ≡ bytes_eq symbol name → is_defined (if b then Equ line else Nowhere) ≡ true → name ≡ symbol
-equ-defines line symbol name true is h = sym ((bytes_eq-Decides symbol name).0 (sym is))
-equ-defines line symbol name false is h = absurd (true≢false (sym h))
 
 -- a line with one label that is no `.equ` adds no other name
 defined-by_one : (l : Label) (others : List Label) (symbol name : List ℕ) → length others ≡ 0 → l.name ≡ LabelSymbol symbol → list_any (λ m. defines_symbol m.name name) (l ∷ others) ≡ true → name ≡ symbol

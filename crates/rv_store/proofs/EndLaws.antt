@@ -2,7 +2,7 @@
 use Rattle.std.proofs.Common.{◌≡◌, ℕ, zero, suc, ◌+◌, ◌-◌, ◌^◌, ◌<◌, ◌≤◌, ◌==◌, true, List, [], ◌∷◌, ◌++◌, length, take, get_or, set, slice_index, if◌then◌else◌, arith, ap, sym, ◌∙◌, refl, subst, ◌⊎◌, inl, inr}
 use Rattle.std.proofs.lemmas.Bool.{cases_eq, eq-eqb, ne_eqb}
 use Rattle.std.proofs.lemmas.Grind.{same_number_lists}
-use Rattle.std.proofs.lemmas.List.{take_more, get_or_default, get_or-set_same, get_or-set_other, length-append, length-set}
+use Rattle.std.proofs.lemmas.List.{take_more, get_or_default, get_or-set_same, get_or-set_other, length-append, length-set, set-set}
 use Rattle.std.proofs.lemmas.List.FromFn.{length-map-range_with_len}
 use Rattle.rv_text.specs.declared.faults.Fault.{Fault}
 use Rattle.rv_stmt.specs.declared.section.Sect.{Sect}
@@ -33,13 +33,13 @@ at-IsLimited [] i h = tt
 at-IsLimited (m ∷ ms) zero h = h.0
 at-IsLimited (m ∷ ms) (suc i) h = at-IsLimited ms i h.1
 
-pub next-is : (ms : List Measured) (i : ℕ) (m : Measured) → i < length ms → m ≡ get_or ms i m → m ≡ get_or ms i Nothing
+next-is : (ms : List Measured) (i : ℕ) (m : Measured) → i < length ms → m ≡ get_or ms i m → m ≡ get_or ms i Nothing
 next-is ms i m l is = is ∙ get_or_default ms i m Nothing l
 
 pub next-IsLimited : (ms : List Measured) (i : ℕ) (m : Measured) → AreLimited ms → i < length ms → m ≡ get_or ms i m → IsLimited m
 next-IsLimited ms i m h l is = subst IsLimited (sym (next-is ms i m l is)) (at-IsLimited ms i h)
 
-pub take-next : (ms : List Measured) (i : ℕ) (m : Measured) → i < length ms → m ≡ get_or ms i m → take (i + 1) ms ≡ take i ms ++ m ∷ []
+take-next : (ms : List Measured) (i : ℕ) (m : Measured) → i < length ms → m ≡ get_or ms i m → take (i + 1) ms ≡ take i ms ++ m ∷ []
 take-next ms i m l is = take_more ms i m l ∙ ap (λ n. take i ms ++ n ∷ []) (sym is)
 
 -- One more line
@@ -53,7 +53,7 @@ offset_through-push t s x [] m = refl
 offset_through-push t s x (n ∷ ms) m =
     offset_through-push t (section_after s n) (if section_number s == t then offset_after x n else x) ms m
 
-pub offset_after-size : (x : ℕ) (m : Measured) → offset_after x m ≡ x + size_at x m
+offset_after-size : (x : ℕ) (m : Measured) → offset_after x m ≡ x + size_at x m
 offset_after-size x (Bytes n) = refl
 offset_after-size x (Align e) = refl
 offset_after-size x (Switch s) = omega arith
@@ -94,11 +94,6 @@ ends_of-push ms m =
 
 -- Where the end of the next line's section stands apart
 
-twice : {A : Type 0} (xs : List A) (i : ℕ) (a b : A) → set (set xs i a) i b ≡ set xs i b
-twice [] i a b = refl
-twice (x ∷ xs) zero a b = refl
-twice (x ∷ xs) (suc i) a b = ap (λ ys. x ∷ ys) (twice xs i a b)
-
 module _ (r : Reached) (count : length r.ends.offsets ≡ sections) where
   abbrev here : ℕ
   here = section_number r.ends.section
@@ -109,7 +104,7 @@ module _ (r : Reached) (count : length r.ends.offsets ≡ sections) where
   -- a line of bytes
   pub bytes-on : (size : ℕ) → ends_at (record { ends = r.ends; base = r.base; offset = r.offset + size }) ≡ ends_after (ends_at r) (Bytes size)
   bytes-on size =
-      ap (λ xs. record { section = r.ends.section; offsets = xs }) (sym (twice r.ends.offsets here r.offset (r.offset + size)))
+      ap (λ xs. record { section = r.ends.section; offsets = xs }) (sym (set-set r.ends.offsets here r.offset (r.offset + size)))
       ∙ ap (λ x. record { section = r.ends.section; offsets = set (set r.ends.offsets here r.offset) here (x + size) }) (sym at-offset)
 
   -- a line that has no bytes

@@ -1,58 +1,17 @@
 -- The items of a text with an edit made, of which nothing is made anew yet.
-use Rattle.std.proofs.Common.{◌≡◌, ℕ, ◌+◌, ◌-◌, ◌<◌, ◌≤◌, ◌⊎◌, inl, inr, List, length, map, insert, remove, set, get_or, Some, None, arith, ap, sym, subst, ◌∙◌}
-use Rattle.std.proofs.lemmas.List.{get_or-set_other, length-map, map-set}
-use Rattle.std.proofs.lemmas.List.Edits.{get_or-insert_below, get_or-insert_above, get_or-remove_below, get_or-remove_above}
+use Rattle.std.proofs.Common.{◌≡◌, ℕ, ◌+◌, ◌-◌, ◌<◌, ◌≤◌, List, length, map, insert, remove, set, get_or, Some, None, arith, ap, sym, subst, ◌∙◌}
+use Rattle.std.proofs.lemmas.List.{length-map, map-set}
 use Rattle.std.proofs.lemmas.Option.{get_or_from_slice_get, slice_get_within}
 use Rattle.rv_program.specs.declared.item.Item.{Item}
 use Rattle.rv_program.specs.Edits.{line_before_edit}
 use Rattle.rv_program.specs.internal.Former.{AreFormer}
 use Rattle.rv_program.specs.internal.Items.{IsItem, AreItems}
 use Rattle.rv_program.specs.Text.{Edit, Insert, Delete, Replace, refusal_of, lines_after}
-use Rattle.rv_program.specs.lemmas.EarlierLines.{stood, insert_within, delete_within, replace_within, insert_before, delete_before, replace_before}
+use Rattle.rv_program.specs.lemmas.EarlierLines.{stood}
 use Rattle.rv_program.specs.lemmas.ItemLaws.{item_of_line}
 use Rattle.rv_program.specs.lemmas.Lists.{map_insert, map_remove}
-
--- Where an element stood before an edit of its list
-
-insert-stood : {A : Type 0} (xs : List A) (place : ℕ) (line : List ℕ) (x other : A) (k j : ℕ) → 1 ≤ place → place ≤ length xs + 1 → 1 ≤ k → line_before_edit (Insert place line) k ≡ Some j → get_or (insert xs (place - 1) x) (k - 1) other ≡ get_or xs (j - 1) other
-insert-stood xs place line x other k j one most first h = at (insert_before place line k j h)
-  where
-    room : place - 1 ≤ length xs
-    room = omega (arith, most)
-
-    at : ((k < place) × (j ≡ k)) ⊎ ((place < k) × (j ≡ k - 1)) → get_or (insert xs (place - 1) x) (k - 1) other ≡ get_or xs (j - 1) other
-    at (inl (less, same)) =
-        let below : k - 1 < place - 1 = omega (arith, first, less) in
-        get_or-insert_below xs (place - 1) x other (k - 1) below room ∙ ap (λ i. get_or xs (i - 1) other) (sym same)
-    at (inr (more, same)) =
-        let back : k - 2 + 1 ≡ k - 1 = omega (arith, more, one) in
-        let above : place - 1 ≤ k - 2 = omega (arith, more) in
-        let before : k - 2 ≡ j - 1 = omega (arith, same) in
-        ap (λ i. get_or (insert xs (place - 1) x) i other) (sym back)
-        ∙ get_or-insert_above xs (place - 1) x other (k - 2) above room ∙ ap (λ i. get_or xs i other) before
-
-delete-stood : {A : Type 0} (xs : List A) (place : ℕ) (other : A) (k j : ℕ) → 1 ≤ place → place ≤ length xs → 1 ≤ k → line_before_edit (Delete place) k ≡ Some j → get_or (remove xs (place - 1)) (k - 1) other ≡ get_or xs (j - 1) other
-delete-stood xs place other k j one most first h = at (delete_before place k j h)
-  where
-    there : place - 1 < length xs
-    there = omega (arith, one, most)
-
-    at : ((k < place) × (j ≡ k)) ⊎ ((place ≤ k) × (j ≡ k + 1)) → get_or (remove xs (place - 1)) (k - 1) other ≡ get_or xs (j - 1) other
-    at (inl (less, same)) =
-        let below : k - 1 < place - 1 = omega (arith, first, less) in
-        get_or-remove_below xs (place - 1) other (k - 1) below there ∙ ap (λ i. get_or xs (i - 1) other) (sym same)
-    at (inr (more, same)) =
-        let above : place - 1 ≤ k - 1 = omega (arith, more) in
-        let before : k - 1 + 1 ≡ j - 1 = omega (arith, first, same) in
-        get_or-remove_above xs (place - 1) other (k - 1) above there ∙ ap (λ i. get_or xs i other) before
-
-replace-stood : {A : Type 0} (xs : List A) (place : ℕ) (line : List ℕ) (x other : A) (k j : ℕ) → 1 ≤ place → 1 ≤ k → line_before_edit (Replace place line) k ≡ Some j → get_or (set xs (place - 1) x) (k - 1) other ≡ get_or xs (j - 1) other
-replace-stood xs place line x other k j one first h =
-    let (other_place, same) = replace_before place line k j h in
-    let apart : k - 1 ≡ place - 1 → ⊥ = λ e. other_place (omega (arith, e, first, one)) in
-    get_or-set_other xs (place - 1) (k - 1) x other apart ∙ ap (λ i. get_or xs (i - 1) other) (sym same)
-
--- Items
+use Rattle.rv_store.proofs.Columns.{has_place}
+use Rattle.rv_store.proofs.FormerShapes.{former-at}
 
 -- items are former ones where their lines are those after the edit, and each is the one that it was before
 are_former : (base : ℕ) (lines : List (List ℕ)) (edit : Edit) (old new : List Item) → AreItems base lines old → refusal_of lines edit ≡ None → map (λ i. i.line) new ≡ lines_after lines edit → ((other : Item) (k j : ℕ) → 1 ≤ k → line_before_edit edit k ≡ Some j → get_or new (k - 1) other ≡ get_or old (j - 1) other) → AreFormer base lines edit 0 new
@@ -82,20 +41,18 @@ lines-replaced lines place line items item are is =
 
 pub former-inserted : (base : ℕ) (lines : List (List ℕ)) (place : ℕ) (line : List ℕ) (items : List Item) (item : Item) → AreItems base lines items → refusal_of lines (Insert place line) ≡ None → item.line ≡ line → AreFormer base lines (Insert place line) 0 (insert items (place - 1) item)
 former-inserted base lines place line items item are allowed is =
-    let within = insert_within lines place line allowed in
-    let count = count_of_items base lines items are in
+    let edit = Insert place line in
     are_former base lines (Insert place line) items (insert items (place - 1) item) are allowed (lines-inserted lines place line items item are.lines is)
-    (λ other k j first h. insert-stood items place line item other k j within.0 (omega (arith, within.1, count)) first h)
+    (λ other k j first h. former-at items lines edit item k j other (count_of_items base lines items are) (has_place lines edit allowed) first h)
 
 pub former-deleted : (base : ℕ) (lines : List (List ℕ)) (place : ℕ) (items : List Item) → AreItems base lines items → refusal_of lines (Delete place) ≡ None → AreFormer base lines (Delete place) 0 (remove items (place - 1))
 former-deleted base lines place items are allowed =
-    let within = delete_within lines place allowed in
-    let count = count_of_items base lines items are in
+    let edit = Delete place in
     are_former base lines (Delete place) items (remove items (place - 1)) are allowed (lines-deleted lines place items are.lines)
-    (λ other k j first h. delete-stood items place other k j within.0 (omega (arith, within.1, count)) first h)
+    (λ other k j first h. former-at items lines edit other k j other (count_of_items base lines items are) (has_place lines edit allowed) first h)
 
 pub former-replaced : (base : ℕ) (lines : List (List ℕ)) (place : ℕ) (line : List ℕ) (items : List Item) (item : Item) → AreItems base lines items → refusal_of lines (Replace place line) ≡ None → item.line ≡ line → AreFormer base lines (Replace place line) 0 (set items (place - 1) item)
 former-replaced base lines place line items item are allowed is =
-    let within = replace_within lines place line allowed in
+    let edit = Replace place line in
     are_former base lines (Replace place line) items (set items (place - 1) item) are allowed (lines-replaced lines place line items item are.lines is)
-    (λ other k j first h. replace-stood items place line item other k j within.0 first h)
+    (λ other k j first h. former-at items lines edit item k j other (count_of_items base lines items are) (has_place lines edit allowed) first h)

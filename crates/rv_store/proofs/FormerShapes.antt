@@ -3,7 +3,7 @@ use Rattle.std.proofs.Common.{◌≡◌, ℕ, suc, ℤ, ◌+◌, ◌-◌, ◌<�
 use Rattle.std.specs.Prelude.{insert, remove}
 use Rattle.std.specs.List.{list_any}
 use Rattle.std.proofs.Math.Seq.{get_or-append_seam, set-append_seam}
-use Rattle.std.proofs.lemmas.List.{append_assoc, drop_all, drop_more, length-append, length-drop}
+use Rattle.std.proofs.lemmas.List.{append-nil, append_assoc, drop_all, drop_more, length-append, length-drop}
 use Rattle.std.proofs.lemmas.List.Edits.{length-insert, get_or-insert_at, get_or-insert_below, get_or-insert_above, length-remove, get_or-remove_below, get_or-remove_above}
 use Rattle.std.proofs.lemmas.List.{length-set, get_or-set_same, get_or-set_other}
 use Rattle.rv_stmt.specs.declared.directive.Definition.{Definition}
@@ -29,11 +29,12 @@ use Rattle.rv_program.specs.lemmas.ConstantRows.{constants-kept}
 use Rattle.rv_program.specs.lemmas.EarlierLines.{insert_before, delete_before, replace_before}
 use Rattle.rv_program.specs.lemmas.KeptShapes.{body-on, differs_from, shape-before, shape-stays}
 use Rattle.rv_program.specs.lemmas.NewShapeLaws.{deleted-stood, new-place, shape-at_place}
-use Rattle.rv_program.specs.lemmas.Programs.{length-for_lines, length-program}
+use Rattle.rv_program.specs.lemmas.TextLines.{length_of_shapes}
+use Rattle.rv_program.specs.lemmas.Programs.{length-for_lines}
 
 -- How many there are
 
-pub former-count : {A : Type 0} (ms : List A) (lines : List (List ℕ)) (edit : Edit) (shape : A) → length ms ≡ length lines → HasPlace lines edit → length (edited_row ms edit shape) ≡ length (lines_after lines edit)
+former-count : {A : Type 0} (ms : List A) (lines : List (List ℕ)) (edit : Edit) (shape : A) → length ms ≡ length lines → HasPlace lines edit → length (edited_row ms edit shape) ≡ length (lines_after lines edit)
 former-count ms lines (Insert place line) shape count has =
     length-insert ms (place - 1) shape (omega (arith, has.0, has.1, count))
     ∙ ap (λ n. n + 1) count
@@ -94,9 +95,7 @@ neither_part true b t h = ap (λ c. c && t) h
 
 module _ (before : Before) (is : IsBefore before) where
   pub shape_count : length before.shapes.now ≡ length (lines_before before)
-  shape_count =
-      let old = program_of (lines_before before) in
-      ap length is.shapes ∙ length-for_lines (shape_at old) (length old) ∙ length-program (lines_before before)
+  shape_count = length_of_shapes (lines_before before) before.shapes.now is.shapes
 
   pub place : HasPlace (lines_before before) (edit_on before)
   place = has_place (lines_before before) (edit_on before) is.allowed
@@ -213,8 +212,4 @@ module _ (program : Program) (former : List Measured) where
       ∙ next i
 
   pub through-all : (i : ℕ) → length former ≤ i → shapes_through program former i ≡ for_lines (shape_at program) i
-  through-all i all = ap (λ rest. for_lines (shape_at program) i ++ rest) (drop_all i former all) ∙ end (for_lines (shape_at program) i)
-    where
-      end : (xs : List Measured) → xs ++ [] ≡ xs
-      end [] = refl
-      end (x ∷ xs) = ap (λ ys. x ∷ ys) (end xs)
+  through-all i all = ap (λ rest. for_lines (shape_at program) i ++ rest) (drop_all i former all) ∙ append-nil (for_lines (shape_at program) i)

@@ -5,16 +5,18 @@ use Rattle.std.proofs.lemmas.List.Edits.{insert_end}
 use Rattle.rv_text.specs.Counting.{Counts}
 use Rattle.rv_program.specs.declared.edit.LineEdit.{LineEdit}
 use Rattle.rv_program.specs.declared.item.Item.{Item}
-use Rattle.rv_program.specs.Changes.{program_after, is_new_or, differs_in_code, differs_in_uses}
+use Rattle.rv_program.specs.Changes.{program_after, is_new_or, differs_in_code}
 use Rattle.rv_program.specs.Edits.{edit_of, line_before_edit, place_of_edit}
 use Rattle.rv_program.specs.Layout.{shape_at}
-use Rattle.rv_program.specs.Program.{program_of, body_at}
+use Rattle.rv_program.specs.Program.{program_of}
 use Rattle.rv_program.specs.internal.Former.{IsFormer}
 use Rattle.rv_program.specs.internal.Items.{IsItem, AreFirstItems, AreItems}
 use Rattle.rv_program.specs.internal.Lines.{lines_of}
 use Rattle.rv_program.specs.internal.Renewals.{changed_through, AreCounted, AreListed}
 use Rattle.rv_program.specs.internal.Revisions.{EditedText, invalidates, changes}
 use Rattle.rv_program.specs.lemmas.ItemLaws.{one_item_more, all_items}
+use Rattle.rv_program.specs.lemmas.CountedLines.{both_counted}
+use Rattle.rv_program.specs.lemmas.KeptShapes as shapes
 use Rattle.rv_program.specs.lemmas.Programs.{length-for_lines}
 use Rattle.rv_program.specs.Text.{Edit, refusal_of, lines_after}
 use Rattle.rv_store.specs.declared.still.Still.{Still}
@@ -25,8 +27,7 @@ use Rattle.rv_store.specs.internal.StillLines.{IsStillLine}
 module _ (r : EditedText) (line : ℕ) (new : line_before_edit r.edit line ≡ None) where
   -- a line that the edit puts in is invalidated, and it is changed
   pub new-invalidated : invalidates r line ≡ true
-  new-invalidated =
-      ap (is_new_or (λ j. differs_in_uses r.base (program_of r.lines) (program_after r.lines r.edit) line j (body_at (program_after r.lines r.edit) line))) new
+  new-invalidated = shapes.new-invalidated r.base r.lines r.edit line new
 
   pub new-changed : changes r line ≡ true
   new-changed = ap (is_new_or (differs_in_code r.base (program_of r.lines) (program_after r.lines r.edit) line)) new
@@ -66,6 +67,12 @@ listed-last r k line n before after back last are listed =
     ∙ ap (λ xs. xs ++ listed.more) (are ∙ ap (changed_through r) (sym back))
     ∙ sym listed.those
     ∙ ap (changed_through r) last
+
+-- what is counted for the first lines, and then for the last one
+pub counted-last : (r : EditedText) (k line n : ℕ) (before between after : Counts) → line - 1 ≡ k → line ≡ n → AreCounted r 0 k before between → AreCounted r (line - 1) line between after → AreCounted r 0 n before after
+counted-last r k line n before between after back last first counted =
+    both_counted r 0 k n before between after first
+    (subst (λ m. AreCounted r m n between after) back (subst (λ m. AreCounted r (line - 1) m between after) last counted))
 
 -- A line that is put among others, by the items of the text before that
 

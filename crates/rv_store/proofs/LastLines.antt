@@ -66,7 +66,7 @@ set-back-by xs i size within =
     ∙ set-get_or xs i 0
 
 -- before the last line
-pub ends_before-last : (ms : List Measured) (m : Measured) (place : LinePlace) → place.section ≡ section_through Text ms → place.size ≡ size_at (next_offset (ends_of ms)) m → ends_before (ends_of (ms ++ m ∷ [])) place ≡ ends_of ms
+ends_before-last : (ms : List Measured) (m : Measured) (place : LinePlace) → place.section ≡ section_through Text ms → place.size ≡ size_at (next_offset (ends_of ms)) m → ends_before (ends_of (ms ++ m ∷ [])) place ≡ ends_of ms
 ends_before-last ms m place section size =
     let ends : Ends = ends_of ms in
     let number : ℕ = section_number ends.section in

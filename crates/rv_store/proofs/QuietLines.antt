@@ -1,8 +1,7 @@
 -- Lines that have no faults.
-use Rattle.std.proofs.Common.{◌≡◌, ℕ, ◌%◌, ◌==◌, Bool, true, false, true≢false, not, ◌&&◌, [], ◌++◌, length, Option, Some, None, is_some, ap, ◌∙◌, refl}
+use Rattle.std.proofs.Common.{◌≡◌, ℕ, ◌%◌, ◌==◌, true, false, true≢false, not, ◌&&◌, [], ◌++◌, length, Option, Some, None, is_some, ap, ◌∙◌, refl}
 use Rattle.std.specs.List.{list_any}
-use Rattle.std.proofs.lemmas.Bool.{eqb-true, or_parts}
-use Rattle.std.proofs.lemmas.List.{nil_from_length}
+use Rattle.std.proofs.lemmas.Bool.{and_right, or_parts}
 use Rattle.rv_text.specs.declared.faults.Fault.{Fault}
 use Rattle.rv_text.specs.declared.faults.FaultNumber.{FaultNumber}
 use Rattle.rv_text.specs.declared.faults.FaultNumber.TheVariants.{OddAddress, InBss}
@@ -17,6 +16,7 @@ use Rattle.rv_list.specs.Faults.{fault_at_name, label_faults, equ_faults, body_f
 use Rattle.rv_list.specs.Shown.{Shown, ShownLine, shows_bytes}
 use Rattle.rv_store.specs.internal.Passed.{is_bss, may_be_misplaced}
 use Rattle.rv_program.specs.Uses.{is_equ}
+use Rattle.rv_program.specs.lemmas.Lists.{no-items}
 
 none-at_name : (number : FaultNumber) (name : Option Span) → fault_at_name false number name ≡ []
 none-at_name number None = refl
@@ -34,17 +34,6 @@ shown-section : (section : Sect) → is_bss section ≡ false → shows_bytes (s
 shown-section Bss bss = absurd (true≢false bss)
 shown-section section bss = refl
 
-and-false : (a : Bool) → (a && false) ≡ false
-and-false true = refl
-and-false false = refl
-
-no-labels : (length : ℕ) → not (length == 0) ≡ false → length ≡ 0
-no-labels n none = eqb-true n 0 (at (n == 0) none)
-  where
-    at : (b : Bool) → not b ≡ false → b ≡ true
-    at true h = refl
-    at false h = absurd (true≢false h)
-
 module _ (shown : Shown) (k : ℕ) (line : ShownLine) (labels : not (length line.stmt.labels == 0) ≡ false) (equ : is_equ line.stmt.body ≡ false) (code : is_some line.code.fault ≡ false) (place : may_be_misplaced line.place ≡ false) where
   -- no labels, no `.equ`, no fault of its body, an even address, and a section whose bytes are shown
   pub quiet-line : faults_of shown k line ≡ []
@@ -53,10 +42,10 @@ module _ (shown : Shown) (k : ℕ) (line : ShownLine) (labels : not (length line
       let parts = or_parts (line.place.address % 2 == 1) (is_bss line.place.section) place in
       let even : is_at_odd_address line.stmt.body line.place ≡ false =
       ap (λ odd. is_instruction line.stmt.body && (not (line.place.size == 0) && odd)) parts.0
-      ∙ ap (λ b. is_instruction line.stmt.body && b) (and-false (not (line.place.size == 0)))
-      ∙ and-false (is_instruction line.stmt.body) in
+      ∙ ap (λ b. is_instruction line.stmt.body && b) (and_right (not (line.place.size == 0)) false refl)
+      ∙ and_right (is_instruction line.stmt.body) false refl in
       let shows : is_lost_in_bss line.place.section line.code.payload ≡ false = ap (λ b. not b && list_any (λ byte. not (byte == 0)) line.code.payload) (shown-section line.place.section parts.1) in
-      let none : line.stmt.labels ≡ [] = nil_from_length line.stmt.labels (no-labels (length line.stmt.labels) labels) in
+      let none : line.stmt.labels ≡ [] = no-items line.stmt.labels labels in
       let name = name_of line.stmt.body in
       (λ i. label_faults shown k 0 (none i) ++ (no-equ shown k line.stmt.body equ i ++ (no-fault line.code.fault code i ++ (fault_at_name (even i) OddAddress name ++ fault_at_name (shows i) InBss name))))
       ∙ (λ i. none-at_name OddAddress name i ++ none-at_name InBss name i)

@@ -13,13 +13,12 @@ use Rattle.rv_program.specs.lemmas.KeptShapes.{shape-on}
 use Rattle.rv_store.specs.internal.EditedRows.{edited_row}
 use Rattle.rv_store.proofs.EndLaws.{take-AreLimited}
 
-pub limited-push : (ms : List Measured) (m : Measured) → AreLimited ms → IsLimited m → AreLimited (ms ++ m ∷ [])
-limited-push [] m all one = (one, tt)
-limited-push (k ∷ ms) m all one = (all.0, limited-push ms m all.1 one)
-
 limited-append : (ms ns : List Measured) → AreLimited ms → AreLimited ns → AreLimited (ms ++ ns)
 limited-append [] ns first rest = rest
 limited-append (m ∷ ms) ns first rest = (first.0, limited-append ms ns first.1 rest)
+
+pub limited-push : (ms : List Measured) (m : Measured) → AreLimited ms → IsLimited m → AreLimited (ms ++ m ∷ [])
+limited-push ms m all one = limited-append ms (m ∷ []) all (one, tt)
 
 limited-drop : (i : ℕ) (ms : List Measured) → AreLimited ms → AreLimited (drop i ms)
 limited-drop zero ms all = all

@@ -4,7 +4,7 @@ use Rattle.std.proofs.Common.{◌≡◌, ℕ, zero, suc, ◌+◌, ◌-◌, ◌<�
 use Rattle.std.specs.List.{list_any}
 use Rattle.std.specs.Option.{is_some}
 use Rattle.std.proofs.Math.Path.{fun_ext}
-use Rattle.std.proofs.lemmas.Bool.{cases_lt, le-leb, lt-ltb, le-ltb, ne_eqb, or_parts}
+use Rattle.std.proofs.lemmas.Bool.{cases_eq, cases_lt, le-leb, lt-ltb, le-ltb, ne_eqb, or_parts}
 use Rattle.std.proofs.lemmas.List.{get_or_past, get_or-take, length-take}
 use Rattle.rv_expr.specs.declared.faults.ValueFault.TheVariants.{NoPartner, Undefined, LaterEqu}
 use Rattle.rv_expr.specs.declared.tree.Direction.{Direction}
@@ -35,14 +35,6 @@ use Rattle.rv_program.specs.lemmas.ConstantRows.{constant-kept}
 use Rattle.rv_program.specs.lemmas.DefinitionLaws.{IsWithin, definition-within}
 use Rattle.rv_program.specs.lemmas.EquLaws.{equ_value-kept}
 use Rattle.rv_program.specs.lemmas.LineNameLaws.{IsLine, local_line-is, high-by, label_line-within}
-
-pub same_number : (x y : ℕ) → (x ≡ y) ⊎ (x ≡ y → ⊥)
-same_number x y = at (cases_lt x y) (cases_lt y x)
-  where
-    at : (x < y) ⊎ (y ≤ x) → (y < x) ⊎ (x ≤ y) → (x ≡ y) ⊎ (x ≡ y → ⊥)
-    at (inl less) more = inr (λ e. omega (arith, e, less))
-    at (inr up) (inl less) = inr (λ e. omega (arith, e, less))
-    at (inr up) (inr down) = inl (omega (arith, up, down))
 
 -- Lines that pass a test, where no line behind the first n does
 
@@ -283,7 +275,7 @@ module _ {base : ℕ} {p q : Program} {k : ℕ} {touched : Touched} (is : IsStil
 
   pub equ_value-still : (m : ℕ) → m ≤ length p → equ_value base q m ≡ equ_value base p m
   equ_value-still zero within = refl
-  equ_value-still (suc m) within = at (equ_value-still m (omega (arith, within))) (same_number (suc m) k)
+  equ_value-still (suc m) within = at (equ_value-still m (omega (arith, within))) (cases_eq (suc m) k)
     where
       at : equ_value base q m ≡ equ_value base p m → (suc m ≡ k) ⊎ (suc m ≡ k → ⊥) → equ_value base q (suc m) ≡ equ_value base p (suc m)
       at earlier (inl here) = fun_ext (λ name.
@@ -336,7 +328,7 @@ module _ {base : ℕ} {p q : Program} {k : ℕ} {touched : Touched} (is : IsStil
   high-new = ap (high_by (references_at base q k) (address_at base q k)) is.high
 
   high-still : (i : ℕ) → 1 ≤ i → i ≤ length p → high_at base q i ≡ high_at base p i
-  high-still i first last = at (same_number i k)
+  high-still i first last = at (cases_eq i k)
     where
       at : (i ≡ k) ⊎ (i ≡ k → ⊥) → high_at base q i ≡ high_at base p i
       at (inl here) =

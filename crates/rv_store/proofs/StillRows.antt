@@ -7,6 +7,7 @@ use Rattle.std.proofs.lemmas.List.{take_all, append-nil}
 use Rattle.rv_stmt.specs.Statement.{statement_of}
 use Rattle.rv_layout.specs.declared.measured.Measured.{Measured}
 use Rattle.rv_layout.specs.Places.{IsLimited, AreLimited}
+use Rattle.rv_program.specs.lemmas.TextLines.{length_of_places, length_of_shapes}
 use Rattle.rv_store.specs.declared.still.Still.{Still}
 use Rattle.rv_store.specs.declared.survey.Survey.{Survey}
 use Rattle.rv_store.specs.internal.Appended.{AreSameSymbols, AreSameLines, AreSymbols, IsUnsettled}
@@ -23,7 +24,7 @@ use Rattle.rv_store.specs.internal.StillLines.{IsStillLine, is_behind_with, AreL
 use Rattle.rv_store.specs.internal.Surveys.{IsSurvey}
 use Rattle.rv_store.proofs.Columns.{set-back, set-same}
 use Rattle.rv_program.specs.lemmas.LocalLines.{first-below, below-last}
-use Rattle.rv_program.specs.lemmas.Programs.{length-for_lines, length-program}
+use Rattle.rv_program.specs.lemmas.Programs.{length-program}
 use Rattle.rv_store.proofs.StillLaws.{shape-still, locals-put, highs-still, paired_highs-still}
 use Rattle.rv_store.proofs.StillTexts.{set-set_or_push, end-set_or_push, map-set_or_push, at-set_or_push, within-next, row-still, symbols-still}
 
@@ -104,10 +105,10 @@ limited-put (n ∷ ms) (suc i) m are is = (are.0, limited-put ms i m are.1 is)
 
 module _ (base : ℕ) (lines : List (List ℕ)) (names : List (List ℕ)) (s : Survey) (are : IsSurvey base (program_of lines) names s) where
   pub count-shapes : length s.shapes.items ≡ length lines
-  count-shapes = ap length are.shapes ∙ length-for_lines (shape_at (program_of lines)) (length (program_of lines)) ∙ length-program lines
+  count-shapes = length_of_shapes lines s.shapes.items are.shapes
 
   pub count-places : length s.places.items ≡ length lines
-  count-places = ap length are.places ∙ length-for_lines (place_at base (program_of lines)) (length (program_of lines)) ∙ length-program lines
+  count-places = length_of_places base lines s.places.items are.places
 
 -- rows by lines that are the old ones, and rows by names that hold the same
 pub survey-back : (base : ℕ) (lines names names' : List (List ℕ)) (old new : Survey) → IsSurvey base (program_of lines) names old → AreSameLines old new → AreSymbols base (program_of lines) (length lines) names' new → IsSurvey base (program_of lines) names' new

@@ -17,7 +17,7 @@ use Rattle.rv_store.specs.internal.EditedRows.{edited_row}
 use Rattle.rv_store.specs.internal.Ends.{place_by_shapes}
 use Rattle.rv_store.specs.internal.Unmoved.{AreUnmoved}
 use Rattle.rv_store.proofs.Columns.{has_place}
-use Rattle.rv_store.proofs.Surveys.{length_of_shapes}
+use Rattle.rv_program.specs.lemmas.TextLines.{length_of_shapes}
 use Rattle.rv_store.proofs.Unmoved.{place-stood}
 
 pub has-as_many : {A B : Type 0} (xs : List A) (ys : List B) (edit : Edit) → length xs ≡ length ys → HasPlace ys edit → HasPlace xs edit

@@ -3,7 +3,7 @@
 use Rattle.std.proofs.Common.{◌≡◌, ℕ, zero, suc, ◌+◌, ◌-◌, ◌*◌, ◌==◌, ◌<◌, ◌≤◌, ◌⊎◌, inl, inr, nat_le, Bool, true, false, ◌&&◌, ◌||◌, true≢false, List, [], ◌∷◌, ◌++◌, length, map, set, insert, get_or, Some, None, arith, ap, sym, subst, ◌∙◌, refl}
 use Rattle.std.specs.List.{list_any}
 use Rattle.std.proofs.Math.Path.{fun_ext}
-use Rattle.std.proofs.lemmas.Bool.{cases_lt, and_parts, or_cases, not_from_true, eq-eqb, ne_eqb, or_left, or_right, or_parts, or_from}
+use Rattle.std.proofs.lemmas.Bool.{cases_eq, cases_lt, and_parts, or_cases, not_from_true, eq-eqb, ne_eqb, or_left, or_right, or_parts, or_from}
 use Rattle.std.proofs.lemmas.List.{length-map}
 use Rattle.std.proofs.lemmas.List.Edits.{insert_end}
 use Rattle.std.proofs.lemmas.Option.{get_or_from_slice_get, slice_get_within}
@@ -24,6 +24,7 @@ use Rattle.rv_program.specs.internal.Still.{set_or_push}
 use Rattle.rv_program.specs.internal.Work.{equ_operands, survey_operands, work}
 use Rattle.rv_program.specs.lemmas.CountedLines.{nothing_counted}
 use Rattle.rv_program.specs.lemmas.ItemLaws.{item_of_line}
+use Rattle.rv_program.specs.lemmas.Lists.{any-weaker}
 use Rattle.rv_program.specs.lemmas.NewShapeLaws.{shape-work}
 use Rattle.rv_program.specs.lemmas.Programs.{length-for_lines, length-program}
 use Rattle.rv_program.specs.lemmas.SamenessLaws.{same_values-Decides, same_shape-Decides}
@@ -36,7 +37,7 @@ use Rattle.rv_store.specs.internal.Renewed.{AreItemsLeft}
 use Rattle.rv_store.specs.internal.Still.{Touched, uses_any, is_put_or_uses, IsOther, IsStill, IsPutEdit}
 use Rattle.rv_store.proofs.CountedEdits.{counted-after}
 use Rattle.rv_store.proofs.LongerPrograms.{for_lines-same}
-use Rattle.rv_store.proofs.StillLaws.{same_number, body-still, shape-still, constant-all, equ_value-all, values-still}
+use Rattle.rv_store.proofs.StillLaws.{body-still, shape-still, constant-all, equ_value-all, values-still}
 
 -- Rows with another value at a place, or with one more behind their end
 
@@ -97,17 +98,6 @@ module _ {A : Type 0} (f g : ℕ → A) (k : ℕ) (first : 1 ≤ k) where
       let place : k - 1 ≡ length (for_lines f n) = omega (arith, number, length-for_lines f n) in
       let earlier = for_lines-same f g n (λ i from to. same i from to (λ e. omega (arith, e, to, number))) in
       sym (end-set_or_push (for_lines f n) (k - 1) (g k) place) ∙ (λ i. earlier i ++ g (number i) ∷ [])
-
--- Lines that pass a test
-
--- more of them pass the other one
-any-more : (f g : List ℕ → Bool) (names : List (List ℕ)) → ((name : List ℕ) → f name ≡ true → g name ≡ true) → list_any f names ≡ true → list_any g names ≡ true
-any-more f g [] more h = h
-any-more f g (n ∷ ns) more h = at (f n) refl h (any-more f g ns more)
-  where
-    at : (b : Bool) → f n ≡ b → (b || list_any f ns) ≡ true → (list_any f ns ≡ true → list_any g ns ≡ true) → (g n || list_any g ns) ≡ true
-    at true is h rest = or_left (g n) (list_any g ns) (more n is)
-    at false is h rest = or_right (g n) (list_any g ns) (rest h)
 
 -- The rows of the text
 
@@ -176,7 +166,7 @@ module _ (r : EditedText) {k : ℕ} {line : List ℕ} {touched : Touched} (is : 
       at (inl named) =
           let names : list_any (differs_in_name r.base p q i i) (names_used (body_at q i)) ≡ true =
           ap (λ b. list_any (differs_in_name r.base p q i i) (names_used b)) (body-still is i there)
-          ∙ any-more touched.names (differs_in_name r.base p q i i) (names_used (body_at p i)) (λ name. is.differ i i name) named in
+          ∙ any-weaker touched.names (differs_in_name r.base p q i i) (λ name. is.differ i i name) (names_used (body_at p i)) named in
           or_left _ _ (or_left _ _ (or_left _ _ (or_left _ _ names)))
       at (inr near) =
           let local : uses_local_label (body_at q i) ≡ true =
@@ -191,7 +181,7 @@ module _ (r : EditedText) {k : ℕ} {line : List ℕ} {touched : Touched} (is : 
 
   tells : TellsDue r (length r.lines) (is_put_or_uses touched p k)
   tells = record {
-    invalidated = λ i first last due. at i first last due (same_number i k);
+    invalidated = λ i first last due. at i first last due (cases_eq i k);
     others = λ i first last stays.
         let none = or_parts (i == k) (uses_any touched p i) stays in
         other-stays i (other i first last (λ e. true≢false (sym (eq-eqb i k e) ∙ none.0))) none.1;
@@ -204,7 +194,7 @@ module _ (r : EditedText) {k : ℕ} {line : List ℕ} {touched : Touched} (is : 
           user-invalidated i (other i first last differs) (ap (λ b. b || uses_any touched p i) (sym (ne_eqb i k differs)) ∙ due)
 
   former : (items : List Item) → AreItems r.base r.lines items → AreFormer r.base r.lines r.edit 0 items
-  former items are i item there j stands = at (same_number n k)
+  former items are i item there j stands = at (cases_eq n k)
     where
       n : ℕ
       n = 0 + i + 1

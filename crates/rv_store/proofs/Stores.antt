@@ -11,14 +11,14 @@ use Rattle.rv_program.specs.Program.{Program, for_lines}
 use Rattle.rv_program.specs.internal.Rows.{Grows}
 use Rattle.rv_store.specs.internal.Surveys.{IsSurvey}
 use Rattle.rv_program.specs.Text.{at_line}
-use Rattle.rv_program.specs.lemmas.NameRows.{row-grown, grows-length}
+use Rattle.rv_store.proofs.LastDefinitions.{symbols-grown}
 use Rattle.rv_program.specs.lemmas.Programs.{length-for_lines, at-for_lines}
 
 pub past_zero : (j : ℕ) → (suc j == 0) ≡ false
 past_zero j = ne_eqb (suc j) 0 (λ same. omega (arith, same))
 
 -- what a row by lines holds for line k
-pub row_at_line : {A : Type 0} (lines : List (List ℕ)) (f : ℕ → A) (row : List A) (k : ℕ) → row ≡ for_lines f (length lines) → (if k == 0 then None else slice_get row (k - 1)) ≡ at_line lines k (f k)
+row_at_line : {A : Type 0} (lines : List (List ℕ)) (f : ℕ → A) (row : List A) (k : ℕ) → row ≡ for_lines f (length lines) → (if k == 0 then None else slice_get row (k - 1)) ≡ at_line lines k (f k)
 row_at_line lines f row zero made = refl
 row_at_line lines f row (suc j) made = rw (past_zero j) (at (cases_lt j (length lines)))
   where
@@ -40,27 +40,20 @@ row_at_line lines f row (suc j) made = rw (past_zero j) (at (cases_lt j (length 
 
 -- more numbered names change nothing
 pub survey_grown : (base : ℕ) (program : Program) (old new : List (List ℕ)) (s : Survey) → Grows old new → IsSurvey base program old s → IsSurvey base program new s
-survey_grown base program old new s grows is = record {
-  definitions = record {
-    each = row-grown old new _ _ grows is.definitions.within ∙ is.definitions.each;
-    within = let more = grows-length old new grows in omega (arith, more, is.definitions.within);
-  };
-  constants = record {
-    each = row-grown old new _ _ grows is.constants.within ∙ is.constants.each;
-    within = let more = grows-length old new grows in omega (arith, more, is.constants.within);
-  };
-  shapes = is.shapes;
-  limited = is.limited;
-  ends = is.ends;
-  places = is.places;
-  locals = is.locals;
-  equ_values = record {
-    each = row-grown old new _ _ grows is.equ_values.within ∙ is.equ_values.each;
-    within = let more = grows-length old new grows in omega (arith, more, is.equ_values.within);
-  };
-  highs = is.highs;
-  paired_highs = is.paired_highs;
-}
+survey_grown base program old new s grows is =
+    let symbols = symbols-grown base program (length program) old new s grows (record { definitions = is.definitions; constants = is.constants; equ_values = is.equ_values }) in
+    record {
+      definitions = symbols.definitions;
+      constants = symbols.constants;
+      shapes = is.shapes;
+      limited = is.limited;
+      ends = is.ends;
+      places = is.places;
+      locals = is.locals;
+      equ_values = symbols.equ_values;
+      highs = is.highs;
+      paired_highs = is.paired_highs;
+    }
 
 -- what the parts of a row by lines hold for line k
 pub part_at_line : {A B : Type 0} (lines : List (List ℕ)) (f : ℕ → B) (v : A → B) (items : List A) (k : ℕ) → map v items ≡ for_lines f (length lines) → option_map v (if k == 0 then None else slice_get items (k - 1)) ≡ at_line lines k (f k)

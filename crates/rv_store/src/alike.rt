@@ -29,8 +29,8 @@ fn is_same_name(name: LabelName<'_>, other: LabelName<'_>) -> bool
     }
 }
 
-/// Whether the labels of two lines define the same.
-pub fn are_same_labels(mut labels: LabelSlice<'_>, mut others: LabelSlice<'_>) -> bool
+// Whether the labels of two lines define the same.
+fn are_same_labels(mut labels: LabelSlice<'_>, mut others: LabelSlice<'_>) -> bool
     ensures { result ≡ same_labels labels.entry others.entry }
 {
     while let Some((label, rest)) = labels.split_first() {

@@ -83,7 +83,8 @@ pub record AreSameLines (old new : Survey) : Type 0 where
   pub highs : new.highs.items ≡ old.highs.items
   pub paired_highs : new.paired_highs.items ≡ old.paired_highs.items
 
--- the rows by names hold what the first k lines of a text define, and no row is longer than there are names
+-- the rows by names hold where a text defines them, and the constants and the values of the `.equ`s of its first k lines, and no row is
+-- longer than there are names
 pub record AreSymbols (base : ℕ) (program : Program) (k : ℕ) (names : List (List ℕ)) (s : Survey) : Type 0 where
   pub definitions : AreDefinitions program names s.definitions.items
   pub constants : AreConstants program k names s.constants.items

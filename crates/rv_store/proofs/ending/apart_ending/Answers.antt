@@ -17,7 +17,7 @@ use Rattle.rv_program.specs.lemmas.LocalLines.{local_line-row}
 use Rattle.rv_store.proofs.ApartLines.{tell-text}
 use Rattle.rv_store.proofs.Endings.{ends-with, together-before, together-all, short-before, ending-line}
 use Rattle.rv_store.proofs.ShapeRows.{limited-push}
-use Rattle.rv_store.proofs.Surveys.{length_of_shapes}
+use Rattle.rv_program.specs.lemmas.TextLines.{length_of_shapes}
 use Rattle.rv_store.proofs.ending.apart_ending.Goals as goal
 
 behind : (lines : List (List ℕ)) (shapes : List Measured) (shape : Measured) (before after : Ends) → AreShapes (program_of lines) shapes → AreLimited shapes → IsLimited shape → length lines < MAX_LINES → before ≡ ends_of shapes → after ≡ ends_of (shapes ++ shape ∷ []) → IsBehind shape before after shapes

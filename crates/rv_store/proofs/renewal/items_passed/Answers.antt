@@ -6,7 +6,7 @@ use Rattle.rv_program.specs.internal.Revisions.{edited_text}
 use Rattle.rv_program.specs.internal.ValueRows.{base_of}
 use Rattle.rv_program.specs.lemmas.CountedLines.{nothing_counted, both_counted}
 use Rattle.rv_program.specs.lemmas.ItemLaws.{all_items}
-use Rattle.rv_store.proofs.ItemsLeft.{first-count, with-last, listed-last}
+use Rattle.rv_store.proofs.ItemsLeft.{first-count, with-last, listed-last, counted-last}
 use Rattle.rv_store.proofs.renewal.items_passed.Goals as goal
 
 pub returns-in_err-passed-clause-counted : goal.returns-in_err-passed-clause-counted
@@ -45,7 +45,6 @@ line_behind-requires-clause-new g c =
     let line = c.len-line.result + 1 in
     let next : line ≡ length c.args.items.now.items + 1 = omega (arith, count, c.len-line.ensures.value) in
     let last : line ≡ length c.args.rows.now.symbols.text.lines.now = omega (arith, next, c.if-line-len.false, c.len.ensures, c.requires.left.next) in
-    let back : line - 1 ≡ length c.args.items.now.items = omega (arith, next) in
     subst (λ k. line_before_edit (edit_of c.args.revision.now.edit) k ≡ None) (sym last) (c.requires.left.new (omega (arith, next, last)))
 
 pub returns-in_err-item-clause-counted : goal.returns-in_err-item-clause-counted
@@ -56,9 +55,8 @@ returns-in_err-item-clause-counted g c =
     let next : line ≡ length c.args.items.now.items + 1 = omega (arith, count, c.len-line.ensures.value) in
     let last : line ≡ length c.args.rows.now.symbols.text.lines.now = omega (arith, next, c.if-line-len.false, c.len.ensures, c.requires.left.next) in
     let back : line - 1 ≡ length c.args.items.now.items = omega (arith, next) in
-    both_counted (edited_text c.args.revision.now) 0 (length c.args.items.now.items) (length c.args.rows.now.symbols.text.lines.now) (counts c.args.counter.now) (counts c.renewed_in_one_pass.new.counter) (counts c.line_behind.new.counter) c.renewed_in_one_pass.ensures.counted
-    (subst (λ k. AreCounted (edited_text c.args.revision.now) k (length c.args.rows.now.symbols.text.lines.now) (counts c.renewed_in_one_pass.new.counter) (counts c.line_behind.new.counter)) back
-    (subst (λ n. AreCounted (edited_text c.args.revision.now) (line - 1) n (counts c.renewed_in_one_pass.new.counter) (counts c.line_behind.new.counter)) last c.line_behind.ensures.counted))
+    counted-last (edited_text c.args.revision.now) (length c.args.items.now.items) line (length c.args.rows.now.symbols.text.lines.now) (counts c.args.counter.now) (counts c.renewed_in_one_pass.new.counter) (counts c.line_behind.new.counter)
+    back last c.renewed_in_one_pass.ensures.counted c.line_behind.ensures.counted
 
 pub returns-in_err-inserted-clause-counted : goal.returns-in_err-inserted-clause-counted
 returns-in_err-inserted-clause-counted g c =
@@ -68,9 +66,8 @@ returns-in_err-inserted-clause-counted g c =
     let next : line ≡ length c.args.items.now.items + 1 = omega (arith, count, c.len-line.ensures.value) in
     let last : line ≡ length c.args.rows.now.symbols.text.lines.now = omega (arith, next, c.if-line-len.false, c.len.ensures, c.requires.left.next) in
     let back : line - 1 ≡ length c.args.items.now.items = omega (arith, next) in
-    both_counted (edited_text c.args.revision.now) 0 (length c.args.items.now.items) (length c.args.rows.now.symbols.text.lines.now) (counts c.args.counter.now) (counts c.renewed_in_one_pass.new.counter) (counts c.line_behind.new.counter) c.renewed_in_one_pass.ensures.counted
-    (subst (λ k. AreCounted (edited_text c.args.revision.now) k (length c.args.rows.now.symbols.text.lines.now) (counts c.renewed_in_one_pass.new.counter) (counts c.line_behind.new.counter)) back
-    (subst (λ n. AreCounted (edited_text c.args.revision.now) (line - 1) n (counts c.renewed_in_one_pass.new.counter) (counts c.line_behind.new.counter)) last c.line_behind.ensures.counted))
+    counted-last (edited_text c.args.revision.now) (length c.args.items.now.items) line (length c.args.rows.now.symbols.text.lines.now) (counts c.args.counter.now) (counts c.renewed_in_one_pass.new.counter) (counts c.line_behind.new.counter)
+    back last c.renewed_in_one_pass.ensures.counted c.line_behind.ensures.counted
 
 pub returns-clause-items : goal.returns-clause-items
 returns-clause-items g c =
@@ -78,7 +75,6 @@ returns-clause-items g c =
     let line = c.len-line.result + 1 in
     let next : line ≡ length c.args.items.now.items + 1 = omega (arith, count, c.len-line.ensures.value) in
     let last : line ≡ length c.args.rows.now.symbols.text.lines.now = omega (arith, next, c.if-line-len.false, c.len.ensures, c.requires.left.next) in
-    let back : line - 1 ≡ length c.args.items.now.items = omega (arith, next) in
     with-last (base_of c.args.rows.now) c.args.rows.now.symbols.text.lines.now c.in_ok-passed.passed.items c.in_ok-inserted.field-0.items c.in_ok-item.item (length c.args.items.now.items) line c.in_ok-passed.ensures.items next last count c.in_ok-item.ensures.item c.in_ok-inserted.ensures.items
 
 pub returns-clause-changed : goal.returns-clause-changed
@@ -98,6 +94,5 @@ returns-clause-counted g c =
     let next : line ≡ length c.args.items.now.items + 1 = omega (arith, count, c.len-line.ensures.value) in
     let last : line ≡ length c.args.rows.now.symbols.text.lines.now = omega (arith, next, c.if-line-len.false, c.len.ensures, c.requires.left.next) in
     let back : line - 1 ≡ length c.args.items.now.items = omega (arith, next) in
-    both_counted (edited_text c.args.revision.now) 0 (length c.args.items.now.items) (length c.args.rows.now.symbols.text.lines.now) (counts c.args.counter.now) (counts c.renewed_in_one_pass.new.counter) (counts c.line_behind.new.counter) c.renewed_in_one_pass.ensures.counted
-    (subst (λ k. AreCounted (edited_text c.args.revision.now) k (length c.args.rows.now.symbols.text.lines.now) (counts c.renewed_in_one_pass.new.counter) (counts c.line_behind.new.counter)) back
-    (subst (λ n. AreCounted (edited_text c.args.revision.now) (line - 1) n (counts c.renewed_in_one_pass.new.counter) (counts c.line_behind.new.counter)) last c.line_behind.ensures.counted))
+    counted-last (edited_text c.args.revision.now) (length c.args.items.now.items) line (length c.args.rows.now.symbols.text.lines.now) (counts c.args.counter.now) (counts c.renewed_in_one_pass.new.counter) (counts c.line_behind.new.counter)
+    back last c.renewed_in_one_pass.ensures.counted c.line_behind.ensures.counted

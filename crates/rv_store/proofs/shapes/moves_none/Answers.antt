@@ -1,4 +1,4 @@
-use Rattle.std.proofs.Common.{◌≡◌, ◌-◌, ◌<◌, length, arith, ap, sym, subst, ◌∙◌}
+use Rattle.std.proofs.Common.{◌-◌, ◌<◌, length, arith, ap, sym, subst, ◌∙◌}
 use Rattle.rv_program.specs.Edits.{edit_of}
 use Rattle.rv_program.specs.internal.Before.{lines_before}
 use Rattle.std.proofs.lemmas.List.{get_or_default}

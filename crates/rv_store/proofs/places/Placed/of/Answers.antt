@@ -1,4 +1,5 @@
-use Rattle.std.proofs.Common.{◌≤◌, ◌^◌, Result, Ok, Err, IfOk, sym, ◌∙◌, subst}
+use Rattle.std.proofs.Common.{◌≤◌, ◌^◌, sym, ◌∙◌, subst}
+use Rattle.std.proofs.lemmas.Result.{IfOk-weaker}
 use Rattle.rv_layout.specs.Places.{sum_below}
 use Rattle.rv_layout.specs.Sections.{sections}
 use Rattle.rv_store.specs.internal.Ends.{end_in}
@@ -20,13 +21,8 @@ returns-then-stay_sections-clause-places c =
     (bases-AreBases c.args.base c.args.shapes.now c.in_ok-placed.placed.ends c.bases.result c.in_ok-placed.ensures.ends
     (λ t within. c.bases.ensures t within ∙ sym (c.stay_sections.ensures c.if-stay_sections.true t within)))
 
--- what follows from what is so where it went well
-with_ok : {X E : Type 0} {P Q : X → Type 0} (r : Result X E) → ((x : X) → P x → Q x) → IfOk r P → IfOk r Q
-with_ok (Ok x) follows is = follows x is
-with_ok (Err e) follows is = tt
-
 pub returns-clause-places : goal.returns-clause-places
 returns-clause-places c =
-    with_ok c.places-2.result
+    IfOk-weaker c.places-2.result _ _
     (λ p is. is c.args.base c.requires.base (bases-AreBases c.args.base c.args.shapes.now c.in_ok-placed.placed.ends c.bases-2.result c.in_ok-placed.ensures.ends c.bases-2.ensures))
     c.places-2.ensures.places

@@ -1,6 +1,7 @@
 use Rattle.std.proofs.Common.{◌≡◌, ◌+◌, ◌-◌, ℕ, List, length, Option, Some, None, arith, ap, sym, subst, ◌∙◌}
 use Rattle.std.specs.Option.{IfSome}
 use Rattle.std.proofs.lemmas.List.{length-map}
+use Rattle.std.proofs.lemmas.Option.{IfSome_then}
 use Rattle.rv_stmt.specs.Statement.{statement_of}
 use Rattle.rv_layout.specs.Shapes.{shape_of}
 use Rattle.rv_program.specs.Constants.{constant_through}
@@ -23,10 +24,6 @@ apart_ending-requires-clause-shape c =
     ∙ ap (λ ls. shape_of (constant_through (program_of ls) (c.args.k - 1)) (statement_of c.args.line.now).body) (sym same)
     ∙ ap (λ n. shape_of (constant_through (program_of lines) n) (statement_of c.args.line.now).body) behind
 
-in_some : {A : Type 0} {P Q : A → Type 0} (o : Option A) → ((x : A) → P x → Q x) → IfSome o P → IfSome o Q
-in_some None f p = tt
-in_some (Some x) f p = f x p
-
 any_some : {A Q : Type 0} (o : Option A) → Q → IfSome o (λ x. Q)
 any_some None q = tt
 any_some (Some x) q = q
@@ -45,10 +42,9 @@ returns-clause-still c =
     let within = insert_within old.lines c.args.k c.args.line.now c.requires.allowed in
     let at_end : c.args.k ≡ length old.lines + 1 =
     omega (arith, within.1, c.if-k-len.false, c.len.ensures.value, ap (λ t. length t.lines) c.self.view_is, length-map c.self.inside.items.items (λ i. i.line)) in
-    in_some c.apart_ending.result
+    IfSome_then c.apart_ending.result c.apart_ending.ensures
     (λ end is.
     let number : length c.self.inside.survey.lines.items + 1 ≡ c.args.k = omega (arith, at_end, ap length c.self.invariant.listed, ap (λ t. length t.lines) c.self.view_is) in
     subst (λ t. IsStillLine t.base t.lines c.args.k c.args.line.now end.still end.users.items) c.self.view_is
     (subst (λ ls. IsStillLine c.self.inside.base ls c.args.k c.args.line.now end.still end.users.items) c.self.invariant.listed
     (subst (λ n. IsStillLine c.self.inside.base c.self.inside.survey.lines.items n c.args.line.now end.still end.users.items) number is)))
-    c.apart_ending.ensures

@@ -15,7 +15,8 @@ use Rattle.rv_store.proofs.StillShapes.{shapes-place}
 use Rattle.rv_store.proofs.Stores.{survey_grown}
 use Rattle.rv_program.specs.lemmas.SurveyWork.{survey_counted}
 use Rattle.rv_program.specs.lemmas.ShapeWork.{nothing-surveyed}
-use Rattle.rv_store.proofs.Surveys.{length_of_shapes, unplaced}
+use Rattle.rv_program.specs.lemmas.TextLines.{length_of_shapes}
+use Rattle.rv_store.proofs.Surveys.{unplaced}
 use Rattle.rv_store.proofs.survey.Survey.after.Goals as goal
 
 -- what is computed where the shapes are made, and so much after them
