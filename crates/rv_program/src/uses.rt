@@ -152,24 +152,11 @@ fn is_size(role: Role) -> bool
     matches!(role, Role::Constant | Role::Size | Role::Alignment(_))
 }
 
-// Whether the size of the line follows from one of the operands.
-fn any_is_size(mut operands: &[Operand]) -> bool
-    ensures { result ≡ list_any (λ o. is_size o.role) operands.entry.now }
-{
-    while let [operand, rest @ ..] = operands {
-        if is_size(operand.role) {
-            return true;
-        }
-        operands = rest;
-    }
-    false
-}
-
 /// Whether the shape of a line follows from the value of an operand.
 pub fn is_sized(body: &Body) -> bool
     ensures { result ≡ is_sized body.now }
 {
-    any_is_size(body.operands())
+    body.operands().iter().any(|o| is_size(o.role))
 }
 
 // Whether `.` stands in an expression.
@@ -232,42 +219,10 @@ fn operand_uses_local_label(operand: &Operand) -> bool
 }
 
 // Whether the value of one of the operands does.
-fn any_uses_address(mut operands: &[Operand]) -> bool
-    ensures { result ≡ list_any operand_uses_address operands.entry.now }
+fn any_uses_address(operands: &[Operand]) -> bool
+    ensures { result ≡ list_any operand_uses_address operands.now }
 {
-    while let [operand, rest @ ..] = operands {
-        if operand_uses_address(operand) {
-            return true;
-        }
-        operands = rest;
-    }
-    false
-}
-
-// Whether a local label stands in one of the operands.
-fn any_uses_local_label(mut operands: &[Operand]) -> bool
-    ensures { result ≡ list_any (λ o. has_local_label (expression_of o.value)) operands.entry.now }
-{
-    while let [operand, rest @ ..] = operands {
-        if operand_uses_local_label(operand) {
-            return true;
-        }
-        operands = rest;
-    }
-    false
-}
-
-// Whether one of the operands is `%pcrel_lo` of a label.
-fn any_is_pcrel_low(mut operands: &[Operand]) -> bool
-    ensures { result ≡ list_any (λ o. is_pcrel_low o.value) operands.entry.now }
-{
-    while let [operand, rest @ ..] = operands {
-        if let OperandValue::PcrelLow(_) = operand.value {
-            return true;
-        }
-        operands = rest;
-    }
-    false
+    operands.iter().any(|o| operand_uses_address(o))
 }
 
 /// Whether a line uses its own address.
@@ -284,14 +239,16 @@ pub fn uses_address(body: &Body) -> bool
 pub fn uses_local_label(body: &Body) -> bool
     ensures { result ≡ uses_local_label body.now }
 {
-    any_uses_local_label(body.operands())
+    body.operands().iter().any(|o| operand_uses_local_label(o))
 }
 
 /// Whether a line uses the high half that belongs to a `%pcrel_lo`.
 pub fn uses_paired_high(body: &Body) -> bool
     ensures { result ≡ uses_paired_high body.now }
 {
-    any_is_pcrel_low(body.operands())
+    body.operands()
+        .iter()
+        .any(|o| matches!(o.value, OperandValue::PcrelLow(_)))
 }
 
 /// Whether a line is an `.equ`.
