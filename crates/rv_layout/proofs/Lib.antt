@@ -1,4 +1,3 @@
 pub mod AdvanceRows
-pub mod Limited
 pub mod ShapeExamples
 mod Examples

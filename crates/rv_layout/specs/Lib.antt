@@ -9,4 +9,5 @@ pub mod Places
 pub mod Rounding
 pub mod RoundingLaws
 pub mod Sections
+pub mod ShapeLaws
 pub mod Shapes

@@ -121,11 +121,13 @@ reached-end ms t l h few =
 pub reached-section : (ms : List Measured) → section_reached (layout_of ms) ≡ section_through Text ms
 reached-section ms = layout-section ms Text
 
-sums_agree : (f g : ℕ → ℕ) (n k : ℕ) → n ≤ k → ((t : ℕ) → t < k → f t ≡ g t) → sum_below f n ≡ sum_below g n
+-- what agrees on all sections gives the same sums, and the same bases
+
+pub sums_agree : (f g : ℕ → ℕ) (n k : ℕ) → n ≤ k → ((t : ℕ) → t < k → f t ≡ g t) → sum_below f n ≡ sum_below g n
 sums_agree f g zero k l h = refl
 sums_agree f g (suc n) k l h = omega (arith, sums_agree f g n k (omega (arith, l)) h, h n (omega (arith, l)))
 
-bases_agree : (base : ℕ) (f g : ℕ → ℕ) (n k : ℕ) → n ≤ k → ((t : ℕ) → t < k → f t ≡ g t) → base_from base f n ≡ base_from base g n
+pub bases_agree : (base : ℕ) (f g : ℕ → ℕ) (n k : ℕ) → n ≤ k → ((t : ℕ) → t < k → f t ≡ g t) → base_from base f n ≡ base_from base g n
 bases_agree base f g zero k l h = refl
 bases_agree base f g (suc n) k l h =
     ap (λ b. round_up (b + f n) 4096) (bases_agree base f g n k (omega (arith, l)) h)
@@ -143,7 +145,7 @@ base-layout base ms t l h few =
 
 -- the lines before a line
 
-part_limited : (k : ℕ) (ms : List Measured) → AreLimited ms → AreLimited (take k ms)
+pub part_limited : (k : ℕ) (ms : List Measured) → AreLimited ms → AreLimited (take k ms)
 part_limited zero ms h = tt
 part_limited (suc k) [] h = tt
 part_limited (suc k) (m ∷ ms) h = (h.0, part_limited k ms h.1)

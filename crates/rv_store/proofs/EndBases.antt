@@ -2,7 +2,7 @@
 use Rattle.std.proofs.Common.{◌≡◌, ℕ, zero, suc, ◌+◌, ◌^◌, ◌<◌, ◌≤◌, List, length, get_or, arith, refl}
 use Rattle.std.proofs.lemmas.List.FromFn.{get_or-map-range_with_len}
 use Rattle.rv_layout.specs.declared.measured.Measured.{Measured}
-use Rattle.rv_layout.specs.PlaceLaws.{ends_together}
+use Rattle.rv_layout.specs.PlaceLaws.{bases_agree, ends_together, sums_agree}
 use Rattle.rv_layout.specs.Places.{base_from, section_end_of, section_base_of, sum_below, AreLimited}
 use Rattle.rv_layout.specs.Rounding.{round_up}
 use Rattle.rv_layout.specs.Sections.{sections}
@@ -14,17 +14,6 @@ at-number f t l = get_or-map-range_with_len f 0 sections t t 0 l (omega arith)
 -- the ends of a text
 pub end-is : (ms : List Measured) (t : ℕ) → t < sections → end_in (ends_of ms) t ≡ section_end_of ms t
 end-is ms t l = at-number (section_end_of ms) t l
-
-sums_agree : (f g : ℕ → ℕ) (n k : ℕ) → n ≤ k → ((t : ℕ) → t < k → f t ≡ g t) → sum_below f n ≡ sum_below g n
-sums_agree f g zero k h same = refl
-sums_agree f g (suc n) k h same = omega (arith, sums_agree f g n k (omega (arith, h)) same, same n (omega (arith, h)))
-
-bases_agree : (base : ℕ) (f g : ℕ → ℕ) (n k : ℕ) → n ≤ k → ((t : ℕ) → t < k → f t ≡ g t) → base_from base f n ≡ base_from base g n
-bases_agree base f g zero k h same = refl
-bases_agree base f g (suc n) k h same =
-    let less : n ≤ k = omega (arith, h) in
-    let here = same n (omega (arith, h)) in
-    λ i. round_up (bases_agree base f g n k less same i + here i) 4096
 
 pub ends-together : (ms : List Measured) → AreLimited ms → length ms ≤ 16384 → sum_below (end_in (ends_of ms)) sections ≤ 2 ^ 30
 ends-together ms limited few =

@@ -23,11 +23,6 @@ use Rattle.rv_store.proofs.EndBases.{at-number, base-ends}
 
 -- Limits
 
-pub take-AreLimited : (i : ℕ) (ms : List Measured) → AreLimited ms → AreLimited (take i ms)
-take-AreLimited zero ms h = tt
-take-AreLimited (suc i) [] h = tt
-take-AreLimited (suc i) (m ∷ ms) h = (h.0, take-AreLimited i ms h.1)
-
 at-IsLimited : (ms : List Measured) (i : ℕ) → AreLimited ms → IsLimited (get_or ms i Nothing)
 at-IsLimited [] i h = tt
 at-IsLimited (m ∷ ms) zero h = h.0

@@ -6,6 +6,7 @@ use Rattle.std.proofs.lemmas.List.Edits.{insert_end}
 use Rattle.std.proofs.Math.Seq.{get_or-append_seam, take-append_seam}
 use Rattle.rv_stmt.specs.declared.statement.Stmt.{Stmt}
 use Rattle.rv_stmt.specs.Statement.{statement_of}
+use Rattle.rv_layout.specs.PlaceLaws.{part_limited}
 use Rattle.rv_layout.specs.declared.measured.Measured.{Measured}
 use Rattle.rv_layout.specs.declared.measured.Measured.TheVariants.{Nothing}
 use Rattle.rv_layout.specs.Places.{sum_below, section_base_of, is_base, IsLimited, AreLimited}
@@ -30,7 +31,7 @@ use Rattle.rv_store.proofs.StillLaws.{lines_that-same, equ_value-still}
 use Rattle.rv_store.proofs.StillTexts.{end-set_or_push}
 use Rattle.rv_program.specs.lemmas.Programs.{length-for_lines, length-program}
 use Rattle.rv_store.proofs.ShapeRows.{limited-push}
-use Rattle.rv_store.proofs.EndLaws.{PlaceFits, take-AreLimited, ends_of-push, bases-AreBases, next-short, next_place-is, next_place-fits}
+use Rattle.rv_store.proofs.EndLaws.{PlaceFits, ends_of-push, bases-AreBases, next-short, next_place-is, next_place-fits}
 
 -- the ends with it
 pub ends-with : (ms : List Measured) (m : Measured) (before after : Ends) → before ≡ ends_of ms → after ≡ ends_after before m → after ≡ ends_of (ms ++ m ∷ [])
@@ -38,7 +39,7 @@ ends-with ms m before after is more = more ∙ ap (λ e. ends_after e m) is ∙ 
 
 module _ (ms : List Measured) (m : Measured) (few : length ms < 16384) (limited : AreLimited (ms ++ m ∷ [])) where
   limited-before : AreLimited ms
-  limited-before = subst AreLimited (take-append_seam ms (m ∷ [])) (take-AreLimited (length ms) (ms ++ m ∷ []) limited)
+  limited-before = subst AreLimited (take-append_seam ms (m ∷ [])) (part_limited (length ms) (ms ++ m ∷ []) limited)
 
   pub few-all : length (ms ++ m ∷ []) ≤ 16384
   few-all = omega (arith, few, length-append ms (m ∷ []))

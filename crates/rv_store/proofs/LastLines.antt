@@ -10,7 +10,7 @@ use Rattle.rv_stmt.specs.Statement.{statement_of}
 use Rattle.rv_layout.specs.declared.measured.Measured.{Measured}
 use Rattle.rv_layout.specs.declared.measured.Measured.TheVariants.{Nothing}
 use Rattle.rv_stmt.specs.declared.section.Sect.TheVariants.{Text}
-use Rattle.rv_layout.specs.PlaceLaws.{number_below}
+use Rattle.rv_layout.specs.PlaceLaws.{number_below, part_limited}
 use Rattle.rv_layout.specs.Places.{before, section_through, offset_through, section_of, offset_of, line_size_of, size_at, section_end_of, IsLimited, AreLimited}
 use Rattle.rv_layout.specs.Sections.{sections, section_number}
 use Rattle.rv_list.specs.declared.view.LinePlace.{LinePlace}
@@ -37,7 +37,7 @@ use Rattle.rv_store.specs.internal.Ends.{ends_of, ends_after, ends_before, base_
 use Rattle.rv_store.specs.internal.Still.{uses_any, is_put_or_uses, IsOther, IsStill}
 use Rattle.rv_store.specs.internal.StillLines.{IsStillLine, IsLastLine}
 use Rattle.rv_store.specs.internal.Surveys.{IsSurvey}
-use Rattle.rv_store.proofs.EndLaws.{at-section, ends_of-push, take-AreLimited}
+use Rattle.rv_store.proofs.EndLaws.{at-section, ends_of-push}
 use Rattle.rv_store.proofs.Endings.{ending-line}
 use Rattle.rv_store.proofs.LongerPrograms.{shapes-more, for_lines-same}
 use Rattle.rv_store.proofs.LongerTexts.{count-longer, program-longer}
@@ -129,7 +129,7 @@ module _ (base : ℕ) (lines : List (List ℕ)) (line : List ℕ) where
 
   module _ (limited : AreLimited (shapes ++ shape ∷ [])) (few : length lines < 16384) where
     pub limited-without : AreLimited shapes
-    limited-without = subst AreLimited (take-append_seam shapes (shape ∷ [])) (take-AreLimited (length shapes) (shapes ++ shape ∷ []) limited)
+    limited-without = subst AreLimited (take-append_seam shapes (shape ∷ [])) (part_limited (length shapes) (shapes ++ shape ∷ []) limited)
 
     -- no other line has to do with it
     pub is-last_line : (given : LastLine) (ends : Ends) (text : List (List ℕ)) → text ≡ lines ++ line ∷ [] → ends ≡ ends_of (shapes_of (program_of (lines ++ line ∷ []))) → given.before ≡ ends_of shapes
@@ -244,7 +244,7 @@ module _ {base : ℕ} {lines : List (List ℕ)} {line : List ℕ} {there : Still
         definitions = symbols.definitions;
         constants = constants;
         shapes = kept;
-        limited = subst AreLimited (sym shapes) (take-AreLimited (length lines) old.shapes.items are.limited);
+        limited = subst AreLimited (sym shapes) (part_limited (length lines) old.shapes.items are.limited);
         ends = ends ∙ ap ends_of (sym kept);
         places = places ∙ survey-row (place_at base without) (place_at base whole) old.places.items (λ i there. still.places i there.first there.last) are.places;
         locals = λ number. locals number ∙ are.locals number ∙ locals-without number (local number);

@@ -2,6 +2,7 @@
 use Rattle.std.proofs.Common.{◌≡◌, ℕ, zero, suc, ℤ, ◌+◌, ◌-◌, ◌<◌, ◌≤◌, List, [], ◌∷◌, ◌++◌, length, get_or, set, take, drop, Option, None, arith, subst}
 use Rattle.rv_stmt.specs.declared.statement.Body.{Body}
 use Rattle.rv_stmt.specs.Statement.{statement_of, data_size_of}
+use Rattle.rv_layout.specs.PlaceLaws.{part_limited}
 use Rattle.rv_layout.specs.declared.measured.Measured.{Measured}
 use Rattle.rv_layout.specs.Places.{IsLimited, AreLimited}
 use Rattle.rv_layout.specs.Shapes.{shape_of}
@@ -11,7 +12,6 @@ use Rattle.rv_program.specs.Text.{Edit, Insert, Delete, Replace}
 use Rattle.rv_program.specs.internal.Rows.{in_row, AreConstants}
 use Rattle.rv_program.specs.lemmas.KeptShapes.{shape-on}
 use Rattle.rv_store.specs.internal.EditedRows.{edited_row}
-use Rattle.rv_store.proofs.EndLaws.{take-AreLimited}
 
 limited-append : (ms ns : List Measured) → AreLimited ms → AreLimited ns → AreLimited (ms ++ ns)
 limited-append [] ns first rest = rest
@@ -33,9 +33,9 @@ limited-set (n ∷ ms) (suc i) m are is = (are.0, limited-set ms i m are.1 is)
 -- shapes with an edit made in them
 pub limited-former : (ms : List Measured) (edit : Edit) (m : Measured) → AreLimited ms → IsLimited m → AreLimited (edited_row ms edit m)
 limited-former ms (Insert place line) m all one =
-    limited-append (take (place - 1) ms) (m ∷ drop (place - 1) ms) (take-AreLimited (place - 1) ms all) (one, limited-drop (place - 1) ms all)
+    limited-append (take (place - 1) ms) (m ∷ drop (place - 1) ms) (part_limited (place - 1) ms all) (one, limited-drop (place - 1) ms all)
 limited-former ms (Delete place) m all one =
-    limited-append (take (place - 1) ms) (drop (suc (place - 1)) ms) (take-AreLimited (place - 1) ms all) (limited-drop (suc (place - 1)) ms all)
+    limited-append (take (place - 1) ms) (drop (suc (place - 1)) ms) (part_limited (place - 1) ms all) (limited-drop (suc (place - 1)) ms all)
 limited-former ms (Replace place line) m all one = limited-set ms (place - 1) m all one
 
 -- the shape that the constants on a line give, of a line with few data

@@ -1,26 +1,14 @@
 -- The padding of an alignment follows from its section and its address: the first section begins at the base, each other one
 -- at a multiple of 4096, and alignments are to 4096 bytes at most.
-use Rattle.std.proofs.Common.{◌≡◌, ℕ, ℤ, zero, suc, ◌+◌, ◌-◌, ◌*◌, ◌/◌, ◌%◌, ◌^◌, ◌≤◌, Bool, true, false, ◌&&◌, List, [], ◌∷◌, length, get_or, Option, Some, None, Result, Ok, Err, leb, nat_le, if◌then◌else◌, pos, negsuc, arith, pow-add, mul_assoc, ap, sym, ◌∙◌, refl}
-use Rattle.std.specs.List.{list_all}
-use Rattle.std.specs.Ordering.{int_eq}
+use Rattle.std.proofs.Common.{◌≡◌, ℕ, zero, suc, ◌+◌, ◌-◌, ◌*◌, ◌/◌, ◌%◌, ◌^◌, ◌≤◌, length, get_or, arith, pow-add, mul_assoc, ap, sym, ◌∙◌, refl}
 use Rattle.std.proofs.Math.Nat.{mul-mod_left}
-use Rattle.std.proofs.lemmas.Bool.{leb-true, and_parts}
 use Rattle.std.proofs.lemmas.Nat.{div-add-mod'}
-use Rattle.rv_text.specs.declared.faults.Fault.{Fault}
-use Rattle.rv_text.specs.declared.lexeme.Span.{Span}
-use Rattle.rv_expr.specs.Value.{Environment}
-use Rattle.rv_stmt.specs.declared.operand.AlignmentUnit.{AlignmentUnit}
-use Rattle.rv_stmt.specs.declared.operand.AlignmentUnit.TheVariants as unit
-use Rattle.rv_stmt.specs.declared.operand.Operand.{Operand}
-use Rattle.rv_stmt.specs.declared.operand.Role.{Role}
-use Rattle.rv_stmt.specs.declared.operand.Role.TheVariants.{Alignment}
 use Rattle.rv_layout.specs.declared.measured.Measured.{Measured}
 use Rattle.rv_layout.specs.declared.measured.Measured.TheVariants.{Align, Nothing}
 use Rattle.rv_layout.specs.Places.{size_at, base_from, section_base_of, section_end_of, offset_of, IsLimited}
 use Rattle.rv_layout.specs.Rounding.{padding}
 use Rattle.rv_layout.specs.RoundingLaws.{padding-add_mul, round_up-multiple}
 use Rattle.rv_layout.specs.Sections.{section_number}
-use Rattle.rv_layout.specs.Shapes.{exponents, exponent_among, alignment_exponent, exponent_by_role, align_or_range, shape_by, constant_of_operand, shape_of_alignment}
 use Rattle.rv_program.specs.Layout.{shape_at, shapes_of, section_at, address_at, size_at as line_size_at}
 use Rattle.rv_program.specs.Program.{Program}
 use Rattle.rv_program.specs.lemmas.Programs.{at-for_lines}
@@ -79,43 +67,3 @@ size_at-follows base after before k j first last first' last' limited shape sect
     ap (size_at x) here
     ∙ size-follows base (section_end_of (shapes_of after)) (section_end_of (shapes_of before)) t x y (shape_at before j) limited same
     ∙ sym (ap (size_at y) there)
-
--- Alignments are to 4096 bytes at most
-
--- an exponent, where there is one, is at most 12
-abbrev IsSmall : Option ℕ → Type 0
-IsSmall None = Unit {0}
-IsSmall (Some e) = e ≤ 12
-
-either-small : (test : Bool) (e : ℕ) (rest : Option ℕ) → (test ≡ true → e ≤ 12) → IsSmall rest → IsSmall (if test then Some e else rest)
-either-small true e rest few more = few refl
-either-small false e rest few more = more
-
-among-small : (es : List ℕ) (z : ℤ) → list_all (λ e. nat_le e 12) es ≡ true → IsSmall (exponent_among es z)
-among-small [] z few = tt
-among-small (e ∷ es) z few =
-    let parts = and_parts (nat_le e 12) (list_all (λ e. nat_le e 12) es) few in
-    either-small (int_eq z (pos (2 ^ e))) e (exponent_among es z) (λ h. leb-true e 12 parts.0) (among-small es z parts.1)
-
-alignment-small : (u : AlignmentUnit) (z : ℤ) → IsSmall (alignment_exponent u z)
-alignment-small unit.Bytes z = among-small exponents z refl
-alignment-small unit.Exponent (pos n) = either-small (leb 0 n && leb n 12) n None (λ h. leb-true n 12 (and_parts (leb 0 n) (leb n 12) h).1) tt
-alignment-small unit.Exponent (negsuc n) = tt
-
-role-small : (role : Role) (z : ℤ) → IsSmall (exponent_by_role role z)
-role-small (Alignment u) z = alignment-small u z
-role-small role z = tt
-
-align-limited : (span : Span) (e : Option ℕ) → IsSmall e → IsLimited (align_or_range span e)
-align-limited span None few = tt
-align-limited span (Some e) few = few
-
-shape_by-limited : (shape : ℤ → Measured) (r : Result ℤ Fault) → ((z : ℤ) → IsLimited (shape z)) → IsLimited (shape_by shape r)
-shape_by-limited shape (Ok z) limited = limited z
-shape_by-limited shape (Err fault) limited = tt
-
-pub alignment-limited : (given : Environment) (o : Option Operand) → IsLimited (shape_of_alignment given o)
-alignment-limited given None = tt
-alignment-limited given (Some o) =
-    shape_by-limited (λ z. align_or_range o.span (exponent_by_role o.role z)) (constant_of_operand given o)
-    (λ z. align-limited o.span (exponent_by_role o.role z) (role-small o.role z))

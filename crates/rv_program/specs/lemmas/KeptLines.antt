@@ -7,7 +7,8 @@ use Rattle.rv_stmt.specs.declared.statement.Body.TheVariants as body
 use Rattle.rv_stmt.specs.Statement.{operands_of}
 use Rattle.rv_layout.specs.Places.{IsLimited}
 use Rattle.rv_layout.specs.Sections.{is_code}
-use Rattle.rv_layout.specs.Shapes.{constants, size_operand, shape_of}
+use Rattle.rv_layout.specs.ShapeLaws.{limited}
+use Rattle.rv_layout.specs.Shapes.{shape_of}
 use Rattle.rv_program.specs.declared.line_values.LineValues.TheVariants.{Operands, Padding}
 use Rattle.rv_program.specs.Changes.{program_after, is_new_or, differs_in_name, differs_in_place, differs_in_uses, is_invalidated}
 use Rattle.rv_program.specs.Codes.{values_of_body, values_by_shape, values_at, code_by_values}
@@ -21,7 +22,7 @@ use Rattle.rv_program.specs.References.{reference_of}
 use Rattle.rv_program.specs.Sameness.{same_section, same_constant, same_entry}
 use Rattle.rv_program.specs.Text.{Edit, refusal_of, lines_after}
 use Rattle.rv_program.specs.Uses.{names_used, uses_address, uses_local_label, uses_paired_high, is_equ}
-use Rattle.rv_program.specs.lemmas.Alignments.{alignment-limited, size_at-follows}
+use Rattle.rv_program.specs.lemmas.Alignments.{size_at-follows}
 use Rattle.rv_program.specs.lemmas.EarlierLines.{Stood, stood, statement-stood}
 use Rattle.rv_program.specs.lemmas.Programs.{length-program}
 use Rattle.rv_program.specs.lemmas.SamenessLaws.{same_section-Decides, same_constant-Decides, same_entry-Decides}
@@ -74,9 +75,8 @@ module _ (base : ℕ) (before after : Program) (k j : ℕ) where
     values_of_body-kept : (b : Body) → body_at before j ≡ b → UsesSame b → values_of_body base after k b ≡ values_of_body base before j b
     values_of_body-kept (body.Align d) is uses =
         let place = uses.place refl in
-        let limited : IsLimited (shape_at before j) =
-        subst IsLimited (sym (ap (shape_of (constant_of before j)) is)) (alignment-limited (constants (constant_of before j)) (size_operand d.operands)) in
-        let size = size_at-follows base after before k j first last first' last' limited shape place.1 place.0 in
+        let few : IsLimited (shape_at before j) = subst IsLimited (sym (ap (shape_of (constant_of before j)) is)) (limited (constant_of before j) (body.Align d) (omega arith)) in
+        let size = size_at-follows base after before k j first last first' last' few shape place.1 place.0 in
         λ i. Padding (is_code (place.1 i)) (size i)
     values_of_body-kept (body.Equ d) is uses = absurd (true≢false uses.equ)
     values_of_body-kept b is uses =

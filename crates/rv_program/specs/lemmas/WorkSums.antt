@@ -13,6 +13,7 @@ use Rattle.rv_stmt.specs.declared.operand.Role.TheVariants.{Target, PairTarget}
 use Rattle.rv_stmt.specs.declared.statement.Body.{Body}
 use Rattle.rv_stmt.specs.declared.statement.Body.TheVariants as body
 use Rattle.rv_stmt.specs.Statement.{operands_of}
+use Rattle.rv_layout.specs.ShapeLaws.{among}
 use Rattle.rv_layout.specs.Shapes.{is_size, size_operand, count_of_value, count_of_operand}
 use Rattle.rv_program.specs.Changes.{program_after, is_invalidated, most_values}
 use Rattle.rv_program.specs.Jumps.{label_in, target_in, target_among}
@@ -22,19 +23,6 @@ use Rattle.rv_program.specs.Text.{Edit, lines_after}
 use Rattle.rv_program.specs.internal.Work.{one_if_some, one_if_local, survey_operands, compared_operands, value_operands, work}
 
 -- Operands
-
-one_value : (v : OperandValue) → count_of_value v ≤ 1
-one_value (Plain e) = omega arith
-one_value v = omega arith
-
-first_or : (b : Bool) (o : Operand) (rest : Option Operand) (n : ℕ) → count_of_operand rest ≤ n → count_of_operand (if b then Some o else rest) ≤ suc n
-first_or true o rest n h = let few = one_value o.value in omega (arith, few)
-first_or false o rest n h = omega (arith, h)
-
--- the size operand is among the operands
-sized : (os : List Operand) → count_of_operand (size_operand os) ≤ length os
-sized [] = omega arith
-sized (o ∷ os) = first_or (is_size o.role) o (size_operand os) (length os) (sized os)
 
 -- the operand whose high half is taken has a modifier, so it does not count as the size operand
 high_or_size : (v : OperandValue) → count_of_value v + one_if_some (pcrel_high_value v) ≤ 1
@@ -51,8 +39,8 @@ sized_or_high Auipc (o ∷ os) = at (is_size o.role)
   where
     at : (b : Bool) → count_of_operand (if b then Some o else size_operand os) + one_if_some (pcrel_high_value o.value) ≤ suc (length os)
     at true = let few = high_or_size o.value in omega (arith, few)
-    at false = let few = sized os in let one = one_high o.value in omega (arith, few, one)
-sized_or_high op os = let few = sized os in omega (arith, few)
+    at false = let few = among os in let one = one_high o.value in omega (arith, few, one)
+sized_or_high op os = let few = among os in omega (arith, few)
 
 pub one_label : (target : Option Tree) → one_if_local target ≤ 1
 one_label None = omega arith
@@ -93,8 +81,8 @@ compared-few b few = omega (arith, few)
 twice : (b : Body) → survey_operands b + compared_operands b + value_operands b ≤ 2 * length (operands_of b)
 twice (body.Instr i) = let few = sized_or_local i.op i.operands in omega (arith, few)
 twice (body.Pseudo i) = let few = sized_or_local Add i.operands in omega (arith, few)
-twice (body.Fill d) = let few = sized d.operands in omega (arith, few)
-twice (body.Align d) = let few = sized d.operands in omega (arith, few)
+twice (body.Fill d) = let few = among d.operands in omega (arith, few)
+twice (body.Align d) = let few = among d.operands in omega (arith, few)
 twice (body.Equ d) = omega arith
 twice b = omega arith
 

@@ -1,4 +1,4 @@
-use Rattle.rv_layout.proofs.Limited.{at_most_one, among_operands}
+use Rattle.rv_layout.specs.ShapeLaws.{at_most_one, among_operands}
 use Rattle.rv_layout.proofs.laws.size_operands_are_few.Goals as goal
 
 pub returns : goal.returns

@@ -155,11 +155,13 @@ at_most_one (body.Equ d) = omega arith
 at_most_one body.Ignored = omega arith
 at_most_one (body.Faulty fault) = omega arith
 
+-- where the first operand may be the one, and the others have no more than so many
 first_or : (b : Bool) (o : Operand) (rest : Option Operand) (n : ℕ) → count_of_operand rest ≤ n → count_of_operand (if b then Some o else rest) ≤ suc n
 first_or true o rest n h = let few = one_value o.value in omega (arith, few)
 first_or false o rest n h = omega (arith, h)
 
-among : (os : List Operand) → count_of_operand (size_operand os) ≤ length os
+-- the size operand is among the operands
+pub among : (os : List Operand) → count_of_operand (size_operand os) ≤ length os
 among [] = omega arith
 among (o ∷ os) = first_or (is_size o.role) o (size_operand os) (length os) (among os)
 
