@@ -89,7 +89,7 @@ fn push_line(text: &mut Text, alloc: Global, line: &LineView<'_>) -> Result<(), 
     }
 }
 
-// Appends what is said at a column of a line: what the name there stands for, if one is there, and what the line is, if it has bytes.
+// Appends what is said at a column of a line: what the name there stands for, if one is there that is defined, and what the line is, if it has bytes.
 fn push_said<V: View>(
     text: &mut Text,
     context: &Context<'_>,
@@ -102,14 +102,14 @@ fn push_said<V: View>(
     let name = name_at(alloc, context.encoding, view, number, line, column)?;
     if let Some(name) = name {
         push_meaning(text, view, &name.meaning)?;
-        if line.place.size > 0 {
-            text.push(b"\n")?;
-        }
     }
-    if line.place.size > 0 {
-        push_line(text, alloc, line)?;
+    if line.place.size == 0 {
+        return Ok(());
     }
-    Ok(())
+    if !text.bytes().is_empty() {
+        text.push(b"\n")?;
+    }
+    push_line(text, alloc, line)
 }
 
 // What is said at a column of a line, if anything is.

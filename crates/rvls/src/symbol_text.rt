@@ -40,17 +40,22 @@ fn push_equ<V: View>(
     push_line(text, b" (.equ, line ", number)
 }
 
-// Appends a symbol with its value.
+// Appends a symbol with its value, if it is defined.
 fn push_symbol<V: View>(text: &mut Text, view: &V, name: &[u8]) -> Result<(), AllocError> {
-    text.push(name)?;
     match view.definition(name) {
-        DefinitionPlace::Label(line, _) => push_label(text, view, line),
-        DefinitionPlace::Equ(line) => push_equ(text, view, name, line),
+        DefinitionPlace::Label(line, _) => {
+            text.push(name)?;
+            push_label(text, view, line)
+        }
+        DefinitionPlace::Equ(line) => {
+            text.push(name)?;
+            push_equ(text, view, name, line)
+        }
         DefinitionPlace::Nowhere => Ok(()),
     }
 }
 
-/// Appends a name with what it stands for.
+/// Appends a name with what it stands for, if it is defined.
 ///
 /// # Errors
 ///
