@@ -41,21 +41,21 @@ abbrev pub diagnostic : (line from to severity : ℕ) → (code message : List �
 diagnostic line from to severity code message related =
     diagnostic_head line from to severity code message ++ (related ++ end_object ∷ [])
 
--- the line of a definition, from 1 on
-unfoldable pub related_line : (uri : List ℕ) → (line : ℕ) → List Token
-related_line uri line =
+-- the line of a definition, from 1 on, with what is said of it
+unfoldable pub related_line : (uri : List ℕ) → (line : ℕ) → (said : List ℕ) → List Token
+related_line uri line said =
     key (codes "relatedInformation") ∷ (begin_array ∷ (begin_object ∷ (key (codes "location") ∷ (begin_object ∷ (string_member (codes "uri") uri
-    ++ (key (codes "range") ∷ (range (line - 1) 0 0 ++ (end_object ∷ (string_member (codes "message") (codes "the first definition is here") ++ (end_object ∷ (end_array ∷ [])))))))))))
+    ++ (key (codes "range") ∷ (range (line - 1) 0 0 ++ (end_object ∷ (string_member (codes "message") said ++ (end_object ∷ (end_array ∷ [])))))))))))
 
-abbrev pub related_place : (uri : List ℕ) → DefinitionPlace → List Token
-related_place uri Nowhere = []
-related_place uri (Label line index) = related_line uri line
-related_place uri (Equ line) = related_line uri line
+abbrev pub related_place : (uri : List ℕ) → DefinitionPlace → (said : List ℕ) → List Token
+related_place uri Nowhere said = []
+related_place uri (Label line index) said = related_line uri line said
+related_place uri (Equ line) said = related_line uri line said
 
--- a second definition and the use of a faulty one name the first
+-- a second definition names the first, and the use of a faulty one names that
 abbrev pub related_of : (uri : List ℕ) → FaultNumber → DefinitionPlace → List Token
-related_of uri Duplicate place = related_place uri place
-related_of uri FaultyEqu place = related_place uri place
+related_of uri Duplicate place = related_place uri place (codes "the first definition is here")
+related_of uri FaultyEqu place = related_place uri place (codes "its definition is here")
 related_of uri number place = []
 
 -- where the name is defined for which an operand has no value

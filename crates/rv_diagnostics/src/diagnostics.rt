@@ -106,10 +106,15 @@ fn put_diagnostic(
     Ok(())
 }
 
-// Writes the line of a definition, from 1 on.
+// Writes the line of a definition, from 1 on, and what is said of it.
 #[tactic(auto, unfolding(crate::specs::Diagnostics::related_line))]
-fn put_related_line(m: &mut Message, uri: &str, line: u32) -> Result<(), AllocError>
-    ensures { OnOk result (m.new ≡ m.old ++ related_line uri.now line) }
+fn put_related_line<'a>(
+    m: &mut Message,
+    uri: &'a str,
+    line: u32,
+    said: &'a str,
+) -> Result<(), AllocError>
+    ensures { OnOk result (m.new ≡ m.old ++ related_line uri.now line said.now) }
 {
     m.put_all(&[
         Part::Key("relatedInformation"),
@@ -125,20 +130,25 @@ fn put_related_line(m: &mut Message, uri: &str, line: u32) -> Result<(), AllocEr
     m.put_all(&[
         Part::EndObject,
         Part::Key("message"),
-        Part::Text("the first definition is here"),
+        Part::Text(said),
         Part::EndObject,
         Part::EndArray,
     ])?;
     Ok(())
 }
 
-// Writes where a name is defined, if it is.
-fn put_related_place(m: &mut Message, uri: &str, place: DefinitionPlace) -> Result<(), AllocError>
-    ensures { OnOk result (m.new ≡ m.old ++ related_place uri.now place) }
+// Writes where a name is defined, if it is, and what is said of that.
+fn put_related_place(
+    m: &mut Message,
+    uri: &str,
+    place: DefinitionPlace,
+    said: &str,
+) -> Result<(), AllocError>
+    ensures { OnOk result (m.new ≡ m.old ++ related_place uri.now place said.now) }
 {
     match place {
-        DefinitionPlace::Label(line, _) => put_related_line(m, uri, line),
-        DefinitionPlace::Equ(line) => put_related_line(m, uri, line),
+        DefinitionPlace::Label(line, _) => put_related_line(m, uri, line, said),
+        DefinitionPlace::Equ(line) => put_related_line(m, uri, line, said),
         DefinitionPlace::Nowhere => Ok(()),
     }
 }
@@ -153,7 +163,10 @@ fn put_related(
     ensures { OnOk result (m.new ≡ m.old ++ related_of uri.now number place) }
 {
     match number {
-        FaultNumber::Duplicate | FaultNumber::FaultyEqu => put_related_place(m, uri, place),
+        FaultNumber::Duplicate => {
+            put_related_place(m, uri, place, "the first definition is here")
+        }
+        FaultNumber::FaultyEqu => put_related_place(m, uri, place, "its definition is here"),
         _ => Ok(()),
     }
 }
