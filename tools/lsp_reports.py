@@ -113,7 +113,7 @@ def reports_of(rvas, folder, texts, encoding):
         names.append(os.path.join(folder, f"{number}.s"))
         with open(names[-1], "wb") as file:
             file.write(b"\n".join(assembled(text)))
-    said = subprocess.run(rvas + ["check", "--no-line-marks"] + names, capture_output=True, check=False).stderr.split(b"\n")
+    said = subprocess.run(rvas + ["check", "--all", "--no-line-marks"] + names, capture_output=True, check=False).stderr.split(b"\n")
     found = [[] for _ in texts]
     hidden = [0] * len(texts)
     lines = [assembled(text) for text in texts]
@@ -175,7 +175,9 @@ def difference(published, reported, hidden):
     lost, added = reported - published, published - reported
     if more:
         count = int(more[0][5].split()[0])
+        has_faults = any(item[3] == 1 for item in lost) or hidden > sum(added.values())
         right = len(more) == 1 and sum(published.values()) == MAX_SHOWN and sum(reported.values()) == sum(lost.values()) + sum(published.values()) - sum(added.values())
+        right = right and more[0][3] == (1 if has_faults else 2)
         return None if right and count > 0 else (more, lost, added)
     if any(item[4] != "OddAddress" for item in added) or sum(added.values()) != hidden or lost:
         return (lost, added, hidden)

@@ -95,7 +95,7 @@ long_line encoding line text =
 unfoldable pub many_lines : List Token
 many_lines = diagnostic MAX_LINES 0 0 1 (codes "too-many-lines") (codes "a text has at most 16384 lines") []
 
--- the diagnostic that says how many others are not shown, at a line
-unfoldable pub more_diagnostics : (line more : ℕ) → List Token
-more_diagnostics line more =
-    diagnostic line 0 0 1 (codes "more") (decimal more ++ codes " more faults and warnings are not shown") []
+-- the diagnostic that says how many others are not shown, at a line, and is as grave as they are
+unfoldable pub more_diagnostics : (line severity more : ℕ) → List Token
+more_diagnostics line severity more =
+    diagnostic line 0 0 severity (codes "more") (decimal more ++ codes " more faults and warnings are not shown") []

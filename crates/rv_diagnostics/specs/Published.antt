@@ -135,9 +135,15 @@ abbrev pub some_warnings : Encoding → Shown → (most at : ℕ) → List Token
 some_warnings encoding shown most at =
     shown_in (nearest most (warnings_before shown at) (warning_count shown)) (all_warnings encoding shown)
 
--- how many of so many are not shown, if there are any
-abbrev pub left_out : (all at : ℕ) → List Token
-left_out all at = if nat_lt MOST all then more_diagnostics at (all - MOST) else []
+-- How grave are those that are not shown, of so many faults and lines that are too long: 1 where one of these is among them, and 2 where all are
+-- warnings, since warnings are shown last.
+abbrev pub gravest_left_out : (faults : ℕ) → ℕ
+gravest_left_out faults = if nat_lt MOST faults then 1 else 2
+
+-- how many of so many faults, lines that are too long among them, and warnings are not shown, if there are any
+abbrev pub left_out : (faults warnings at : ℕ) → List Token
+left_out faults warnings at =
+    if nat_lt MOST (faults + warnings) then more_diagnostics at (gravest_left_out faults) (faults + warnings - MOST) else []
 
 -- The diagnostics of a document, by its lines and by what is shown of it and given in it as a text: all of them, or those that are nearest to
 -- a line, by its number from 0 on, where there are more than are shown.
@@ -147,7 +153,7 @@ diagnostics_of encoding uri given shown lines at =
     ++ (some_long encoding lines at
     ++ (fault_diagnostics encoding uri given shown (MOST - long_count (take MAX_LINES lines)) at
     ++ (some_warnings encoding shown (MOST - long_count (take MAX_LINES lines) - fault_count shown) at
-    ++ left_out (long_count (take MAX_LINES lines) + fault_count shown + warning_count shown) at)))
+    ++ left_out (long_count (take MAX_LINES lines) + fault_count shown) (warning_count shown) at)))
 
 -- Messages
 

@@ -31,10 +31,11 @@ pub struct Context<'a> {
     pub uri: &'a str,
 }
 
-// How grave a diagnostic is. (Language Server Protocol 3.17, DiagnosticSeverity)
-const ERROR: u64 = 1;
+/// How grave a fault is. (Language Server Protocol 3.17, DiagnosticSeverity)
+pub const ERROR: u64 = 1;
 
-const WARNING: u64 = 2;
+/// How grave a warning is.
+pub const WARNING: u64 = 2;
 
 // What a warning says behind the label. `rv_report` says the same.
 const LABEL_AS_REGISTER: &[u8] =
@@ -366,10 +367,16 @@ pub fn put_many_lines(m: &mut Message) -> Result<(), AllocError>
     Ok(())
 }
 
-/// Writes the diagnostic that says how many others are not shown, at a line.
+/// Writes the diagnostic that says how many others are not shown, at a line, and is as grave as they are.
 #[tactic(auto, unfolding(crate::specs::Diagnostics::more_diagnostics))]
-pub fn put_more(m: &mut Message, alloc: Global, line: u32, more: usize) -> Result<(), AllocError>
-    ensures { OnOk result (m.new ≡ m.old ++ more_diagnostics line more) }
+pub fn put_more(
+    m: &mut Message,
+    alloc: Global,
+    line: u32,
+    severity: u64,
+    more: usize,
+) -> Result<(), AllocError>
+    ensures { OnOk result (m.new ≡ m.old ++ more_diagnostics line severity more) }
 {
     let place = Place {
         line,
@@ -377,6 +384,6 @@ pub fn put_more(m: &mut Message, alloc: Global, line: u32, more: usize) -> Resul
         to: 0,
     };
     let said = format!(in alloc; "{more} more faults and warnings are not shown")?;
-    put_diagnostic(m, place, ERROR, "more", said.as_str())?;
+    put_diagnostic(m, place, severity, "more", said.as_str())?;
     Ok(())
 }

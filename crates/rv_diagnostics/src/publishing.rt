@@ -1,6 +1,6 @@
 //! The diagnostics of a document that is assembled.
 
-ghost use Rattle.std.specs.Prelude.{◌≡◌, ◌≤◌, ◌∷◌, ◌++◌, ◌*◌, [], length, map, take, None, IfOk, OnOk};
+ghost use Rattle.std.specs.Prelude.{◌≡◌, ◌≤◌, ◌∷◌, ◌+◌, ◌++◌, ◌*◌, ◌^◌, ◌<◌, [], length, map, take, None, IfOk, OnOk};
 ghost use Rattle.std.specs.List.{flat_map};
 ghost use Rattle.rv_list.specs.Faults.{found};
 ghost use Rattle.rv_list.specs.Shown.{shown_line};
@@ -8,14 +8,14 @@ ghost use Rattle.json.specs.Print.{print};
 ghost use Rattle.json.specs.Token.{end_array, end_object};
 ghost use Rattle.rv_doc.specs.Positions.{lines_of};
 ghost use Rattle.rv_diagnostics.specs.Json.{frame};
-ghost use Rattle.rv_diagnostics.specs.Published.{all_diagnostics, all_warnings, diagnostics_of, fault_count, fault_diagnostics, left_out, line_diagnostic, long_count, long_lines, publication, publication_head, searched_names, shown_in, some_long, some_warnings, too_many, version_member, warning_count, warning_diagnostics};
+ghost use Rattle.rv_diagnostics.specs.Published.{all_diagnostics, all_warnings, diagnostics_of, fault_count, fault_diagnostics, gravest_left_out, left_out, line_diagnostic, long_count, long_lines, publication, publication_head, searched_names, shown_in, some_long, some_warnings, too_many, version_member, warning_count, warning_diagnostics};
 ghost use Rattle.rv_doc.specs.Windows.{passed};
 
 use crate::counting::{
     count_faults, count_long_lines, count_warnings, has_too_many_lines, is_long,
 };
 use crate::diagnostics::{
-    Context, put_faults, put_long_line, put_many_lines, put_more, put_warning,
+    Context, ERROR, WARNING, put_faults, put_long_line, put_many_lines, put_more, put_warning,
 };
 use crate::message::Message;
 use crate::part::Part;
@@ -265,12 +265,27 @@ fn put_long_list(
     Ok(counted.all)
 }
 
-// Writes the diagnostic that says how many of so many others are not shown, if there are any.
-fn put_left_out(m: &mut Message, alloc: Global, all: usize, at: u32) -> Result<(), AllocError>
-    ensures { OnOk result (m.new ≡ m.old ++ left_out all at) }
+// How grave are those that are not shown, of so many faults: warnings are shown last.
+fn gravest_left_out(faults: usize) -> u64
+    ensures { result ≡ gravest_left_out faults }
 {
+    if faults > MOST { ERROR } else { WARNING }
+}
+
+// Writes the diagnostic that says how many of so many faults and warnings are not shown, if there are any.
+fn put_left_out(
+    m: &mut Message,
+    alloc: Global,
+    faults: usize,
+    warnings: usize,
+    at: u32,
+) -> Result<(), AllocError>
+    requires { faults + warnings < 2 ^ 64 }
+    ensures { OnOk result (m.new ≡ m.old ++ left_out faults warnings at) }
+{
+    let all = faults + warnings;
     if all > MOST {
-        put_more(m, alloc, at, all - MOST)
+        put_more(m, alloc, at, gravest_left_out(faults), all - MOST)
     } else {
         Ok(())
     }
@@ -294,7 +309,7 @@ fn put_nearest<T: Told>(
     let faults = put_fault_list(m, context, told, most, at)?;
     let left = most.saturating_sub(faults);
     let warnings = put_warning_list(m, context, told, left, at)?;
-    put_left_out(m, context.alloc, long + faults + warnings, at)?;
+    put_left_out(m, context.alloc, long + faults, warnings, at)?;
     Ok(())
 }
 

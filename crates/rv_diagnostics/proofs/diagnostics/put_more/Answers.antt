@@ -7,5 +7,5 @@ use Rattle.rv_diagnostics.proofs.diagnostics.put_more.Goals as goal
 pub returns : goal.returns
 unfolding more_diagnostics
 returns c =
-    let head = same_head _ _ _ _ _ _ 1 _ _ _ _ refl refl refl refl (c.as_str.ensures.value ∙ c.in_ok-said.ensures.ok) in
+    let head = same_head _ _ _ _ _ _ c.args.severity _ _ _ _ refl refl refl refl (c.as_str.ensures.value ∙ c.in_ok-said.ensures.ok) in
     c.in_ok-put_diagnostic.ensures ∙ ap (λ h. c.args.m.now ++ (h ++ end_object ∷ [])) head
