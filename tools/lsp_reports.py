@@ -124,6 +124,10 @@ def reports_of(rvas, folder, texts, encoding):
             number = int(os.path.basename(row[1])[:-2])
             line, at = int(row[2]) - 1, int(row[3]) - 1
             mark = len(said[k + 2].split(b"|", 1)[1].strip())
+            if lines[number][line].endswith(b"\r"):
+                # The mark covers the 0x0D as well, behind which no column is.
+                shown = line_widths(lines[number][line])
+                mark = max(1, min(mark, shown[-2] - shown[at]))
             message, code = row[5].decode(), row[6].decode()
             start = byte_columns(lines[number][line], encoding)[at]
             faulty = FAULTY.fullmatch(message)

@@ -21,12 +21,12 @@ use Rattle.rv_report.specs.Messages.{message_of, operand_of_line}
 use Rattle.rv_report.specs.Warnings.{Warning, warning_message}
 use Rattle.rv_program.specs.declared.limits.TheConstants.{MAX_LINES}
 use Rattle.rv_doc.specs.declared.encoding.Encoding.{Encoding}
-use Rattle.rv_doc.specs.Positions.{columns}
+use Rattle.rv_doc.specs.Positions.{columns, without_return}
 use Rattle.rv_diagnostics.specs.Json.{number_member, string_member, range}
 
--- the column at a place of a line, in bytes
+-- the column at a place of a line, in bytes: no column is behind the 0x0D that belongs to its end
 abbrev pub column_at : Encoding → (line : List ℕ) → (at : ℕ) → ℕ
-column_at encoding line at = columns encoding (take at line)
+column_at encoding line at = columns encoding (take at (without_return line))
 
 -- what a diagnostic begins with: where it is, how grave, its code and what it says
 unfoldable pub diagnostic_head : (line from to severity : ℕ) → (code message : List ℕ) → List Token

@@ -3,6 +3,7 @@
 ghost use Rattle.std.specs.Prelude.{◌≡◌, ◌≤◌, ◌<◌, ◌^◌, ◌++◌, [], length, option_map, string_bytes, IfOk, OnOk};
 ghost use Rattle.std.specs.List.{flat_map};
 ghost use Rattle.std.specs.Str.Lossy.{utf8_lossy};
+ghost use Rattle.rv_doc.specs.Positions.{without_return};
 ghost use Rattle.rv_list.specs.Faults.{body_faults, found};
 ghost use Rattle.rv_report.specs.FaultyNames.{name_used};
 ghost use Rattle.rv_report.specs.Lines.{line_of};
@@ -49,11 +50,23 @@ struct Place {
     to: u32,
 }
 
-/// The column at a place of a line, in bytes.
+// A line without the 0x0D that belongs to its end.
+fn without_return(line: &[u8]) -> &[u8]
+    ensures value { result.now ≡ without_return line.entry.now }
+    ensures within { length result.now ≤ length line.entry.now }
+{
+    match line.split_last() {
+        Some((b'\r', before)) => before,
+        _ => line,
+    }
+}
+
+/// The column at a place of a line, in bytes: no column is behind the 0x0D that belongs to its end.
 pub fn column_at(encoding: Encoding, line: &[u8], at: u32) -> u32
     requires { length line.now < 2 ^ 31 }
     ensures { result ≡ column_at encoding line.now at }
 {
+    let line = without_return(line);
     let (front, _) = line.split_at(line.len().min(at as usize));
     column_of(encoding, front)
 }
@@ -62,6 +75,7 @@ pub fn column_at(encoding: Encoding, line: &[u8], at: u32) -> u32
 fn limit_column(encoding: Encoding, line: &[u8]) -> u32
     ensures { result ≡ column_at encoding line.now MAX_LINE_LENGTH }
 {
+    let line = without_return(line);
     let (front, _) = line.split_at(line.len().min(MAX_LINE_LENGTH));
     column_of(encoding, front)
 }
