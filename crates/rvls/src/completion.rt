@@ -237,6 +237,16 @@ fn put_statements(m: &mut Message, alloc: Global, word: &Word<'_>) -> Result<(),
     put_directives(m, word, &DIRECTIVES, KEYWORD)
 }
 
+// Which names may stand in an operand where this was typed.
+fn names_typed(typed: &Typed<'_>) -> NameKinds {
+    let kinds = names_taken(typed.statement, typed.operand, typed.depth > 0);
+    if typed.begins {
+        kinds
+    } else {
+        kinds.behind_operator()
+    }
+}
+
 // Writes the names that may stand where this was typed.
 fn put_expected<V: View>(
     m: &mut Message,
@@ -248,8 +258,7 @@ fn put_expected<V: View>(
     match typed.expected {
         Expected::Statement => put_statements(m, alloc, word),
         Expected::Operand | Expected::Modifier => {
-            let kinds = names_taken(typed.statement, typed.operand, typed.depth > 0);
-            put_names(m, alloc, view, word, kinds)
+            put_names(m, alloc, view, word, names_typed(typed))
         }
         Expected::Base => put_registers(m, word),
         Expected::Sign => Ok(()),

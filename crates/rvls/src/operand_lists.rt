@@ -36,6 +36,14 @@ const NONE: NameKinds = NameKinds {
 };
 
 impl NameKinds {
+    /// Those of them that may stand behind an operator.
+    pub fn behind_operator(self) -> NameKinds {
+        NameKinds {
+            symbols: self.symbols,
+            ..NONE
+        }
+    }
+
     // Those of either.
     fn or(self, other: NameKinds) -> NameKinds {
         NameKinds {

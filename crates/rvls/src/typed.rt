@@ -19,15 +19,27 @@ pub struct Typed<'a> {
     pub operand: usize,
     /// How many parentheses are open.
     pub depth: u32,
+    /// Whether the operand begins there: nothing of it stands before the word but parentheses, or the `%` of a modifier.
+    pub begins: bool,
     /// Where the word begins that ends at the place; with the `%` of a modifier.
     pub from: u32,
 }
 
 impl<'a> Typed<'a> {
+    // Whether an operand begins behind a token more.
+    fn begins_behind(&self, text: &[u8]) -> bool {
+        match text {
+            b"," => self.depth == 0,
+            b"(" | b"%" => self.begins,
+            _ => matches!(self.expected, Expected::Statement),
+        }
+    }
+
     // What stands before the end of a line behind a token more.
     fn behind(self, token: &Token, text: &'a [u8]) -> Typed<'a> {
         let mut typed = Typed {
             expected: expected_after(self.expected, token.kind, text),
+            begins: self.begins_behind(text),
             from: token.span.from,
             ..self
         };
@@ -62,6 +74,7 @@ fn typed_by<'a>(front: &'a [u8], mut left: &[Token]) -> Typed<'a> {
         statement: b"",
         operand: 0,
         depth: 0,
+        begins: true,
         from: 0,
     };
     'tokens: while let [token, later @ ..] = left {
