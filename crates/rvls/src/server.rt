@@ -3,6 +3,7 @@
 ghost use Rattle.std.specs.Prelude.{◌≡◌, ◌≤◌, ◌<◌, length, IfSome, vec_len};
 
 use crate::assembly::Assembly;
+use crate::bodies::message_in;
 use crate::hints::put_hints;
 use crate::hover::hover_text;
 use crate::looking_up::{Question, put_answer, question_in};
@@ -530,12 +531,9 @@ impl Server {
     ///
     /// `AllocError` if there is no memory for it.
     pub fn answer(&mut self, body: &[u8], out: &mut Vec<u8>) -> Result<Next, AllocError> {
-        match Value::from_slice(self.alloc, body) {
-            Ok(message) => self.answer_message(&message, out),
-            Err(error) => {
-                if error.is_memory() {
-                    return Err(AllocError);
-                }
+        match message_in(self.alloc, body)? {
+            Some(message) => self.answer_message(&message, out),
+            None => {
                 refuse(self.alloc, None, Refusal::NotJson, out)?;
                 Ok(Next::Go)
             }
