@@ -1,17 +1,37 @@
 //! What the server writes.
 
 use rv_diagnostics::{Message, Part};
-use serde_json::Value;
+use serde_json::{Number, Value};
 use std::alloc::{AllocError, Global};
+use std::num::{nearest_i64_to_f64, saturating_f64_to_i64};
+
+// The whole number that a number of JSON is, if it is one with a point or an exponent, as 1.0.
+fn whole_number(number: &Number) -> Option<i64> {
+    let number = number.as_f64()?;
+    let whole = saturating_f64_to_i64(number);
+    if whole < i64::MAX && nearest_i64_to_f64(whole) == number {
+        Some(whole)
+    } else {
+        None
+    }
+}
+
+// Writes a number by which a client knows a request, or null where it is no whole number of 64 bits.
+fn put_number(message: &mut Message, number: &Number) -> Result<(), AllocError> {
+    if let Some(whole) = number.as_u64() {
+        return message.number(whole);
+    }
+    match number.as_i64().or_else(|| whole_number(number)) {
+        Some(whole) => message.signed(whole),
+        None => message.null(),
+    }
+}
 
 // Writes which request a message answers: a number or a text, or null where it is neither.
 fn put_id(message: &mut Message, id: Option<&Value>) -> Result<(), AllocError> {
     message.key("id")?;
     match id {
-        Some(Value::Number(number)) => match number.as_i64() {
-            Some(number) => message.signed(number),
-            None => message.null(),
-        },
+        Some(Value::Number(number)) => put_number(message, number),
         Some(Value::String(text)) => message.string(text.as_str()),
         _ => message.null(),
     }
