@@ -82,7 +82,12 @@ fn push_line(text: &mut Text, alloc: Global, line: &LineView<'_>) -> Result<(), 
     push_place(text, line, HOVER_BYTES)?;
     text.push(b" (")?;
     text.push_number(line.place.size)?;
-    text.push(b" bytes)")?;
+    let unit = if line.place.size == 1 {
+        b" byte)".as_slice()
+    } else {
+        b" bytes)".as_slice()
+    };
+    text.push(unit)?;
     match &line.stmt.body {
         Body::Instr(_) | Body::Pseudo(_) => push_instructions(text, alloc, line),
         _ => Ok(()),
