@@ -13,7 +13,7 @@ use rv_store::{Store, SymValue};
 use rv_text::{Failed, StdSink};
 use std::alloc::{AllocError, Global};
 use std::fs::{self, File};
-use std::io::{self, Write};
+use std::io::{self, ErrorKind, Write};
 use std::os::unix::fs::PermissionsExt;
 
 /// What is written.
@@ -105,6 +105,23 @@ impl<'a> Output<'a> {
         self.write_out(file)
     }
 
+    // Writes it into a file that was made for it, and that goes if not all is written.
+    fn write_new(&self, rt: &HostRuntime, name: &str, file: File) -> Result<(), Failure> {
+        let written = self.write_into(file);
+        if written.is_err() {
+            let _ = fs::remove_file(rt, name);
+        }
+        written
+    }
+
+    // Writes it into what is there, in its place.
+    fn write_over(&self, rt: &HostRuntime, name: &str) -> Result<(), Failure> {
+        match fs::create(rt, name) {
+            Ok(file) => self.write_into(file),
+            Err(error) => Err(Failure::of_writing(error.kind())),
+        }
+    }
+
     // Writes it into a file. A plain file that is there stays as it was until all is written.
     fn write_file(&self, rt: &HostRuntime, name: &str) -> Result<(), Failure> {
         if !was_text(name) {
@@ -114,8 +131,9 @@ impl<'a> Output<'a> {
             let written = self.write_into(file);
             return replacement.settle(rt, written);
         }
-        match fs::create(rt, name) {
-            Ok(file) => self.write_into(file),
+        match File::create_new(rt, name) {
+            Ok(file) => self.write_new(rt, name, file),
+            Err(error) if error.kind() == ErrorKind::AlreadyExists => self.write_over(rt, name),
             Err(error) => Err(Failure::of_writing(error.kind())),
         }
     }
