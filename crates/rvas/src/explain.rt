@@ -144,8 +144,8 @@ pub const EXPLANATIONS: [Explanation; 21] = [
     },
 ];
 
-// The reports that are about a file and no fault of its text, and what they mean.
-const LIMITS: [(&str, &str); 2] = [
+// The reports that are of no fault of a text, and what they mean.
+const OTHER_REPORTS: [(&str, &str); 3] = [
     (
         "line-too-long",
         "A line has at most 1000 bytes. Nothing is said of the other lines of a file with a longer one.",
@@ -153,6 +153,10 @@ const LIMITS: [(&str, &str); 2] = [
     (
         "too-many-lines",
         "A text has at most 16384 lines. Nothing is said of the lines of a file with more of them.",
+    ),
+    (
+        "label-as-register",
+        "A label stands where a control and status register is wanted: its address is taken as the number of the register. An .equ gives such a number a name.",
     ),
 ];
 
@@ -190,21 +194,21 @@ fn explain_fault(rt: &HostRuntime, explanation: &Explanation) -> io::Result<()> 
     println!(rt; "{name}: {meaning}\n\n    {wrong}    # {name}\n    {right}")
 }
 
-// Says what a limit of files means, if it has this name.
-fn explain_limit(rt: &HostRuntime, name: &str) -> Option<io::Result<()>> {
-    for (limit, meaning) in &LIMITS {
-        if limit.eq_ignore_ascii_case(name) {
-            return Some(println!(rt; "{limit}: {meaning}"));
+// Says what a report means that is of no fault, if one has this name.
+fn explain_other(rt: &HostRuntime, name: &str) -> Option<io::Result<()>> {
+    for (other, meaning) in &OTHER_REPORTS {
+        if other.eq_ignore_ascii_case(name) {
+            return Some(println!(rt; "{other}: {meaning}"));
         }
     }
     None
 }
 
-/// Says what the fault of a name, or of a number, means.
+/// Says what the fault of a name or of a number, the warning or the limit of a name means.
 pub fn explain(rt: &HostRuntime, name: &str) -> Result<(), Failure> {
     let said = match explanation_of(name) {
         Some(explanation) => Some(explain_fault(rt, explanation)),
-        None => explain_limit(rt, name),
+        None => explain_other(rt, name),
     };
     match said {
         Some(Ok(())) => Ok(()),
