@@ -4,6 +4,7 @@ vim.filetype.add({ extension = { s = 'riscv', S = 'riscv' } })
 
 -- This Neovim knows no hints: they are shown as virtual text.
 local space = vim.api.nvim_create_namespace('rvls')
+local group = vim.api.nvim_create_augroup('rvls', { clear = true })
 
 local function show_hints(client, buffer)
   if not client.server_capabilities.inlayHintProvider then
@@ -36,7 +37,9 @@ local function attached(client, buffer)
   -- Completion by CTRL-X CTRL-O.
   vim.bo[buffer].omnifunc = 'v:lua.vim.lsp.omnifunc'
   show_hints(client, buffer)
+  vim.api.nvim_clear_autocmds({ group = group, buffer = buffer })
   vim.api.nvim_create_autocmd({ 'TextChanged', 'TextChangedI' }, {
+    group = group,
     buffer = buffer,
     callback = function()
       show_hints(client, buffer)
@@ -44,24 +47,37 @@ local function attached(client, buffer)
   })
 end
 
+-- One server for all buffers: each FileType event, as that of :e, asks for it again.
+local running
+
+local function server()
+  local client = running and vim.lsp.get_client_by_id(running)
+  if client and not client.is_stopped() then
+    return running
+  end
+  local capabilities = vim.lsp.protocol.make_client_capabilities()
+  capabilities.general = { positionEncodings = { 'utf-8', 'utf-16' } }
+  running = vim.lsp.start_client({
+    name = 'rvls',
+    cmd = { vim.env.RVLS or 'rvls' },
+    capabilities = capabilities,
+    root_dir = vim.fn.getcwd(),
+    flags = { debounce_text_changes = 0 },
+    -- This Neovim does not read the encoding that was agreed on by itself.
+    on_init = function(client, result)
+      client.offset_encoding = result.capabilities.positionEncoding or 'utf-16'
+    end,
+    on_attach = attached,
+  })
+  return running
+end
+
 vim.api.nvim_create_autocmd('FileType', {
+  group = group,
   pattern = 'riscv',
   callback = function(args)
     vim.bo[args.buf].commentstring = '# %s'
-    local capabilities = vim.lsp.protocol.make_client_capabilities()
-    capabilities.general = { positionEncodings = { 'utf-8', 'utf-16' } }
-    local client = vim.lsp.start_client({
-      name = 'rvls',
-      cmd = { vim.env.RVLS or 'rvls' },
-      capabilities = capabilities,
-      root_dir = vim.fn.getcwd(),
-      flags = { debounce_text_changes = 0 },
-      -- This Neovim does not read the encoding that was agreed on by itself.
-      on_init = function(client, result)
-        client.offset_encoding = result.capabilities.positionEncoding or 'utf-16'
-      end,
-      on_attach = attached,
-    })
+    local client = server()
     if client then
       vim.lsp.buf_attach_client(args.buf, client)
     end
