@@ -6,12 +6,22 @@ vim.filetype.add({ extension = { s = 'riscv', S = 'riscv' } })
 local space = vim.api.nvim_create_namespace('rvls')
 local group = vim.api.nvim_create_augroup('rvls', { clear = true })
 
+-- The first and the last line of a buffer that windows show, from 0 on.
+local function lines_shown(buffer)
+  local first, last = math.huge, -1
+  for _, window in ipairs(vim.fn.win_findbuf(buffer)) do
+    first = math.min(first, vim.fn.line('w0', window) - 1)
+    last = math.max(last, vim.fn.line('w$', window) - 1)
+  end
+  return first, last
+end
+
 local function show_hints(client, buffer)
-  if not client.server_capabilities.inlayHintProvider then
+  local first, last = lines_shown(buffer)
+  if last < 0 or not client.server_capabilities.inlayHintProvider then
     return
   end
-  local last = vim.api.nvim_buf_line_count(buffer)
-  local range = { start = { line = 0, character = 0 }, ['end'] = { line = last, character = 0 } }
+  local range = { start = { line = first, character = 0 }, ['end'] = { line = last + 1, character = 0 } }
   local document = { uri = vim.uri_from_bufnr(buffer) }
   client.request('textDocument/inlayHint', { textDocument = document, range = range }, function(fault, hints)
     if fault or not vim.api.nvim_buf_is_valid(buffer) then
@@ -38,7 +48,7 @@ local function attached(client, buffer)
   vim.bo[buffer].omnifunc = 'v:lua.vim.lsp.omnifunc'
   show_hints(client, buffer)
   vim.api.nvim_clear_autocmds({ group = group, buffer = buffer })
-  vim.api.nvim_create_autocmd({ 'TextChanged', 'TextChangedI' }, {
+  vim.api.nvim_create_autocmd({ 'TextChanged', 'TextChangedI', 'WinScrolled', 'BufWinEnter' }, {
     group = group,
     buffer = buffer,
     callback = function()
