@@ -132,7 +132,7 @@ large_immediate : message (codes "addi a0, a0, 2048") (Ok (pos 2048) ∷ []) (fa
 unfolding message_of advice separation_of no_register quoted about did_you_mean suggestions some_numbers from_to gap_text limits_text operand_count register_range undefined_near quoted_from later_equ line_of_equ faulty_equ_of no_partner beyond_reach out_of_range not_multiple odd_distance odd_address digits operation_named operation_names row_of layout_of register_named register_names csr_named csr_names other_forms slots_of set_named set_names modifier_named modifier_names directive_named directive_names section_named section_names
 large_immediate = refl
 
-no_zero : message (codes "c.addi a0, 0") (Ok (pos 0) ∷ []) (fault_at fault.Range 11 12) ≡ codes "0 is out of range (-32 to 31, not 0); write the instruction without 'c.'"
+no_zero : message (codes "c.addi a0, 0") (Ok (pos 0) ∷ []) (fault_at fault.Range 11 12) ≡ codes "0 is out of range (-32 to 31, not 0); write 'addi' with the register twice"
 unfolding message_of advice separation_of no_register quoted about did_you_mean suggestions some_numbers from_to gap_text limits_text operand_count register_range undefined_near quoted_from later_equ line_of_equ faulty_equ_of no_partner beyond_reach out_of_range not_multiple odd_distance odd_address digits operation_named operation_names row_of layout_of register_named register_names csr_named csr_names other_forms slots_of set_named set_names modifier_named modifier_names directive_named directive_names section_named section_names
 no_zero = refl
 

@@ -200,7 +200,9 @@ pub const NUMBER_GIVEN: [AdviceRow; 23] = [
         "; write '(REGISTER)' behind the offset",
     ),
     (
-        &["mul", "mulh", "mulhu", "div", "divu", "rem", "remu"],
+        &[
+            "mul", "mulh", "mulhsu", "mulhu", "div", "divu", "rem", "remu",
+        ],
         "; load the number by 'li' into a register",
     ),
 ];
@@ -214,12 +216,49 @@ pub const NAME_GIVEN: [AdviceRow; 2] = [
     (
         &[
             "lr.w",
+            "lr.w.aq",
+            "lr.w.rl",
+            "lr.w.aqrl",
             "sc.w",
+            "sc.w.aq",
+            "sc.w.rl",
+            "sc.w.aqrl",
             "amoswap.w",
+            "amoswap.w.aq",
+            "amoswap.w.rl",
+            "amoswap.w.aqrl",
             "amoadd.w",
+            "amoadd.w.aq",
+            "amoadd.w.rl",
+            "amoadd.w.aqrl",
             "amoxor.w",
+            "amoxor.w.aq",
+            "amoxor.w.rl",
+            "amoxor.w.aqrl",
             "amoand.w",
+            "amoand.w.aq",
+            "amoand.w.rl",
+            "amoand.w.aqrl",
             "amoor.w",
+            "amoor.w.aq",
+            "amoor.w.rl",
+            "amoor.w.aqrl",
+            "amomin.w",
+            "amomin.w.aq",
+            "amomin.w.rl",
+            "amomin.w.aqrl",
+            "amomax.w",
+            "amomax.w.aq",
+            "amomax.w.rl",
+            "amomax.w.aqrl",
+            "amominu.w",
+            "amominu.w.aq",
+            "amominu.w.rl",
+            "amominu.w.aqrl",
+            "amomaxu.w",
+            "amomaxu.w.aq",
+            "amomaxu.w.rl",
+            "amomaxu.w.aqrl",
         ],
         "; write the register with the address in parentheses",
     ),
@@ -268,7 +307,7 @@ pub const REGISTER_LETTERS: [AdviceRow; 5] = [
 ];
 
 /// The statements, and what takes a value that is out of their range.
-pub const RANGE_EXCEEDED: [AdviceRow; 12] = [
+pub const RANGE_EXCEEDED: [AdviceRow; 14] = [
     (&["lui"], "; write '%hi(..)', or 'li'"),
     (&["auipc"], "; write '%pcrel_hi(..)', or 'la'"),
     (
@@ -289,13 +328,15 @@ pub const RANGE_EXCEEDED: [AdviceRow; 12] = [
     (&["j"], "; write 'tail', which uses 't1'"),
     (&["jal"], "; write 'call', which links in 'ra'"),
     (&[".byte"], "; write '.half' or '.word'"),
-    (&[".half", ".short"], "; write '.word'"),
+    (&[".half", ".short", ".2byte"], "; write '.word'"),
     (
         &[
-            "c.beqz", "c.bnez", "c.j", "c.jal", "c.addi", "c.andi", "c.li", "c.lui", "c.lw", "c.sw",
+            "c.beqz", "c.bnez", "c.j", "c.jal", "c.li", "c.lui", "c.lw", "c.sw",
         ],
         "; write the instruction without 'c.'",
     ),
+    (&["c.addi"], "; write 'addi' with the register twice"),
+    (&["c.andi"], "; write 'andi' with the register twice"),
     (&["c.lwsp"], "; write 'lw'"),
     (&["c.swsp"], "; write 'sw'"),
 ];
