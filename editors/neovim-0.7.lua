@@ -1,4 +1,5 @@
--- Neovim 0.7, which Debian 12 has. Put this into init.lua; rvls has to be on the PATH, or RVLS has to name it.
+-- Neovim 0.7, which Debian 12 has. Put this into init.lua; rvls has to be on the PATH, or RVLS has to name it. RVLS_BASE is where the first
+-- section begins, as 0x80000000, or 0 without it.
 vim.g.do_filetype_lua = 1
 vim.filetype.add({ extension = { s = 'riscv', S = 'riscv' } })
 
@@ -71,6 +72,7 @@ local function server()
     name = 'rvls',
     cmd = { vim.env.RVLS or 'rvls' },
     capabilities = capabilities,
+    init_options = { base = vim.env.RVLS_BASE or '0' },
     root_dir = vim.fn.getcwd(),
     flags = { debounce_text_changes = 0 },
     -- This Neovim does not read the encoding that was agreed on by itself.

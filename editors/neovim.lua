@@ -1,11 +1,17 @@
--- Neovim 0.8 and later. Put this into init.lua; rvls has to be on the PATH, or RVLS has to name it.
+-- Neovim 0.8 and later. Put this into init.lua; rvls has to be on the PATH, or RVLS has to name it. RVLS_BASE is where the first section
+-- begins, as 0x80000000, or 0 without it.
 vim.filetype.add({ extension = { s = 'riscv', S = 'riscv' } })
 
 vim.api.nvim_create_autocmd('FileType', {
   pattern = 'riscv',
   callback = function(args)
     vim.bo[args.buf].commentstring = '# %s'
-    vim.lsp.start({ name = 'rvls', cmd = { vim.env.RVLS or 'rvls' }, root_dir = vim.fs.dirname(args.file) })
+    vim.lsp.start({
+      name = 'rvls',
+      cmd = { vim.env.RVLS or 'rvls' },
+      init_options = { base = vim.env.RVLS_BASE or '0' },
+      root_dir = vim.fs.dirname(args.file),
+    })
   end,
 })
 

@@ -106,14 +106,14 @@ def assembled(text):
     return [line if len(line) <= MAX_LINE_LENGTH else b"" for line in lines]
 
 
-def reports_of(rvas, folder, texts, encoding):
-    """What `rvas check` says of each text, as diagnostics, and how many instructions at odd addresses it does not show."""
+def reports_of(rvas, folder, texts, encoding, base=0):
+    """What `rvas check` says of each text at a base, as diagnostics, and how many instructions at odd addresses it does not show."""
     names = []
     for number, text in enumerate(texts):
         names.append(os.path.join(folder, f"{number}.s"))
         with open(names[-1], "wb") as file:
             file.write(b"\n".join(assembled(text)))
-    said = subprocess.run(rvas + ["check", "--all", "--no-line-marks"] + names, capture_output=True, check=False).stderr.split(b"\n")
+    said = subprocess.run(rvas + ["check", "--all", "--no-line-marks", f"--base={base}"] + names, capture_output=True, check=False).stderr.split(b"\n")
     found = [[] for _ in texts]
     hidden = [0] * len(texts)
     lines = [assembled(text) for text in texts]
@@ -188,13 +188,13 @@ def difference(published, reported, hidden):
     return None
 
 
-def listed_hints(rvas, folder, text, encoding):
-    """The end, the address and the first bytes of each line as `rvas list` has them: no bytes of a line in .bss, or without any."""
+def listed_hints(rvas, folder, text, encoding, base):
+    """The end, the address and the first bytes of each line as `rvas list` has them at a base: no bytes of a line in .bss, or without any."""
     name = os.path.join(folder, "listed.s")
     lines = assembled(text)
     with open(name, "wb") as file:
         file.write(b"\n".join(lines))
-    rows = subprocess.run(rvas + ["list", "--no-line-marks", name], capture_output=True, check=False).stdout.split(b"\n")[1:]
+    rows = subprocess.run(rvas + ["list", "--no-line-marks", f"--base={base}", name], capture_output=True, check=False).stdout.split(b"\n")[1:]
     listed = []
     for line, row in zip(lines, rows):
         digits = row[15:31].strip().decode()

@@ -11,8 +11,9 @@ const documentSelector = [
 let client;
 
 exports.activate = () => {
-  const command = workspace.getConfiguration("rvls").get("path");
-  client = new LanguageClient("rvls", "rvls", { command }, { documentSelector });
+  const settings = workspace.getConfiguration("rvls");
+  const initializationOptions = { base: settings.get("base") };
+  client = new LanguageClient("rvls", "rvls", { command: settings.get("path") }, { documentSelector, initializationOptions });
   return client.start();
 };
 

@@ -13,6 +13,6 @@ assembled_line line = if nat_lt MAX_LINE_LENGTH (length line) then [] else line
 abbrev pub assembled_lines : (document : List ℕ) → List (List ℕ)
 assembled_lines document = map assembled_line (take MAX_LINES (lines_of document))
 
--- the text of these lines, the first section of which begins at 0
-abbrev pub assembled : (document : List ℕ) → Text
-assembled document = record { base = 0; lines = assembled_lines document }
+-- the text of these lines, the first section of which begins at a base
+abbrev pub assembled : (base : ℕ) → (document : List ℕ) → Text
+assembled base document = record { base = base; lines = assembled_lines document }

@@ -1,4 +1,4 @@
--- The diagnostics of a document, by its bytes alone.
+-- The diagnostics of a document, by its bytes and its base alone.
 use Rattle.std.specs.Prelude.{ℕ, List}
 use Rattle.json.specs.Token.{Token}
 use Rattle.rv_expr.specs.Value.{Environment}
@@ -8,13 +8,13 @@ use Rattle.rv_program.specs.Text.{Text}
 use Rattle.rv_store.specs.LinesOfTexts.{names_from}
 use Rattle.rv_store.specs.Shown.{shown_of}
 use Rattle.rv_diagnostics.specs.Published.{diagnostics_of}
-use Rattle.rv_changes.specs.Assembled.{assembled}
+use Rattle.rvls.specs.PlacedDocuments.{PlacedDocument, text_of}
 
 -- what names give on a line of a text, by its number, where `.` is an address
 abbrev pub names_in : Text → (number here : ℕ) → Environment
 names_in text number = names_from (record { text = text; line = number })
 
--- what is published of a document, by its bytes
-abbrev pub document_diagnostics : Encoding → (uri document : List ℕ) → (at : ℕ) → List Token
-document_diagnostics encoding uri document at =
-    diagnostics_of encoding uri (names_in (assembled document)) (shown_of (assembled document)) (lines_of document) at
+-- what is published of a document
+abbrev pub document_diagnostics : Encoding → (uri : List ℕ) → PlacedDocument → (at : ℕ) → List Token
+document_diagnostics encoding uri d at =
+    diagnostics_of encoding uri (names_in (text_of d)) (shown_of (text_of d)) (lines_of d.document) at

@@ -2,4 +2,5 @@ pub mod DocumentSymbols
 pub mod Frames
 pub mod Names
 pub mod NewNames
+pub mod PlacedDocuments
 pub mod DocumentDiagnostics

@@ -4,14 +4,12 @@ ghost use Rattle.std.specs.Prelude.{◌≡◌, ◌+◌, ◌<◌, ◌≤◌, ◌+
 ghost use Rattle.std.specs.List.{list_any, list_all};
 ghost use Rattle.rv_changes.specs.Assembled.{assembled, assembled_line};
 
+use crate::base::Base;
 use rv_changes::assembled_line;
 use rv_doc::Lines;
 use rv_store::{MAX_LINES, Store};
 use rv_text::Tally;
 use std::alloc::{AllocError, Global};
-
-/// Where the first section begins.
-pub const BASE: u32 = 0;
 
 // Puts a line at the end of a text.
 fn append(store: &mut Store, line: &[u8]) -> Result<(), AllocError>
@@ -42,15 +40,15 @@ fn append_first(store: &mut Store, mut lines: Lines<'_>, most: usize) -> Result<
     Ok(())
 }
 
-/// The text of the lines of a document that are assembled.
+/// The text of the lines of a document that are assembled, from a base on.
 ///
 /// # Errors
 ///
 /// `AllocError` if there is no memory for it.
-pub fn load(alloc: Global, document: &[u8]) -> Result<Store, AllocError>
-    ensures { IfOk result (λ store. store ≡ assembled document.now) }
+pub fn load(alloc: Global, base: Base, document: &[u8]) -> Result<Store, AllocError>
+    ensures { IfOk result (λ store. store ≡ assembled base document.now) }
 {
-    let Ok(mut store) = Store::new(alloc, BASE) else {
+    let Ok(mut store) = Store::new(alloc, base.address()) else {
         unreachable!()
     };
     append_first(&mut store, Lines::new(document), MAX_LINES)?;

@@ -2,6 +2,7 @@
 #![tactic(auto)]
 
 mod assembly;
+mod base;
 mod bodies;
 mod comments;
 mod completion;

@@ -3,6 +3,7 @@
 ghost use Rattle.std.specs.Prelude.{◌≡◌, ◌≤◌, ◌<◌, length, IfSome, vec_len};
 
 use crate::assembly::Assembly;
+use crate::base::{Base, base_in};
 use crate::bodies::message_in;
 use crate::hints::put_hints;
 use crate::hover::hover_text;
@@ -51,10 +52,16 @@ pub struct Open {
 }
 
 impl Open {
-    // A document of this text.
-    fn new(alloc: Global, uri: &str, version: Option<i64>, text: &str) -> Result<Open, AllocError> {
+    // A document of this text, which begins at a base.
+    fn new(
+        alloc: Global,
+        base: Base,
+        uri: &str,
+        version: Option<i64>,
+        text: &str,
+    ) -> Result<Open, AllocError> {
         let uri = String::from_str(alloc, uri)?;
-        let document = Assembly::new(alloc, text.as_bytes())?;
+        let document = Assembly::new(alloc, base, text.as_bytes())?;
         Ok(Open {
             uri,
             version,
@@ -87,6 +94,7 @@ impl Open {
 pub struct Server {
     alloc: Global,
     encoding: Encoding,
+    base: Base,
     phase: Phase,
     documents: Vec<Open>,
 }
@@ -253,6 +261,7 @@ impl Server {
         Server {
             alloc,
             encoding: Encoding::Utf16,
+            base: Base::zero(),
             phase: Phase::Fresh,
             documents: Vec::new(alloc),
         }
@@ -302,11 +311,16 @@ impl Server {
         Ok(Next::Exit(MALFORMED))
     }
 
-    // Begins the session.
+    // Begins the session, if the base that is asked for is one.
     fn initialize(&mut self, message: &Value, out: &mut Vec<u8>) -> Result<(), AllocError> {
+        let id = message.get("id");
+        let Some(base) = base_in(message) else {
+            return refuse(self.alloc, id, Refusal::WrongBase, out);
+        };
+        self.base = base;
         self.encoding = encoding_for(message);
         self.phase = Phase::Running;
-        let mut m = begin_result(self.alloc, message.get("id"))?;
+        let mut m = begin_result(self.alloc, id)?;
         m.begin_object()?;
         put_capabilities(&mut m, self.encoding, message)?;
         put_server(&mut m)?;
@@ -320,7 +334,7 @@ impl Server {
             return self.give_up("rvls: a malformed didOpen ends the session", out);
         };
         let _ = self.take(uri);
-        let open = Open::new(self.alloc, uri, version_in(message), text)?;
+        let open = Open::new(self.alloc, self.base, uri, version_in(message), text)?;
         self.keep(open, out)?;
         Ok(Next::Go)
     }

@@ -81,6 +81,8 @@ pub enum Refusal {
     NoRequest,
     UnknownMethod,
     WrongParameters,
+    /// The first section cannot begin there.
+    WrongBase,
     NotInitialized,
     ShutDown,
     InitializedTwice,
@@ -115,7 +117,7 @@ impl Refusal {
             Refusal::NotJson => -32700,
             Refusal::NoRequest | Refusal::ShutDown | Refusal::InitializedTwice => -32600,
             Refusal::UnknownMethod => -32601,
-            Refusal::WrongParameters => -32602,
+            Refusal::WrongParameters | Refusal::WrongBase => -32602,
             Refusal::NotInitialized => -32002,
             Refusal::NoName
             | Refusal::NoSymbolName
@@ -132,6 +134,7 @@ impl Refusal {
             Refusal::NoRequest => "this is no request",
             Refusal::UnknownMethod => "this method is not known",
             Refusal::WrongParameters => "the parameters are wrong",
+            Refusal::WrongBase => "the base is a multiple of 4096, at most 0x80000000",
             Refusal::NotInitialized => "'initialize' comes first",
             Refusal::ShutDown => "the server was shut down",
             Refusal::InitializedTwice => "the server is initialized",

@@ -35,5 +35,5 @@ returns c =
     let after = assembled_after old new touched.new.now touched.first touched.count few few-new c.requires.lines in
     c.in_ok-put_lines.ensures
     ∙ ap (λ (t : Text). record { base = t.base; lines = spliced t.lines touched.first touched.count (map assembled_line c.new-lines.result) }) c.requires.store
-    ∙ ap (λ l. record { base = 0; lines = spliced (assembled_lines old) touched.first touched.count (map assembled_line l) }) c.new-lines.ensures
-    ∙ ap (λ l. record { base = 0; lines = l }) after
+    ∙ ap (λ l. record { base = c.args.base; lines = spliced (assembled_lines old) touched.first touched.count (map assembled_line l) }) c.new-lines.ensures
+    ∙ ap (λ l. record { base = c.args.base; lines = l }) after
