@@ -21,6 +21,10 @@ bounds-before-k-in-Replace c =
     let has = subst (λ e. HasPlace (lines_before before) (edit_of e)) c.in-Replace.is (place before c.requires) in
     omega (arith, has.0, has.1, shape_count before c.requires)
 
+pub returns-then-k-before : goal.returns-then-k-before
+returns-then-k-before c = λ equal.
+    subst (λ e. MovesNone c.args.before.now.shapes.now (edit_of e) c.args.shape.now) (sym c.in-Insert.is) (omega (arith, c.if-k-before.true), c.take_same_room.ensures equal)
+
 pub returns-in-Replace : goal.returns-in-Replace
 returns-in-Replace c = λ equal.
     let before = c.args.before.now in
