@@ -1,7 +1,6 @@
 mod Examples
 pub mod Exits
 pub mod Fewest
-pub mod Heights
 pub mod LeftOver
 pub mod Prefixes
 pub mod Rows

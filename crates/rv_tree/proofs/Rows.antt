@@ -1,8 +1,9 @@
 -- The items of a row.
-use Rattle.std.proofs.Common.{◌≡◌, ℕ, zero, suc, ◌+◌, ◌-◌, ◌≤◌, ◌<◌, List, [], ◌∷◌, ◌++◌, length, take, drop, Some, arith, ap, ap₂, sym, ◌∙◌, refl, add-one}
+use Rattle.std.proofs.Common.{◌≡◌, ℕ, zero, suc, ◌+◌, ◌-◌, ◌≤◌, ◌<◌, List, [], ◌∷◌, ◌++◌, length, take, drop, Some, arith, ap, ap₂, sym, ◌∙◌, refl}
 use Rattle.std.specs.Prelude.{slice_get, slice_index_or}
 use Rattle.std.specs.List.{insert, remove, AllZip}
 use Rattle.std.proofs.lemmas.List.{map-append, take-map, drop-map, drop-drop, drop-take, drop_more, take-append-drop}
+use Rattle.std.proofs.lemmas.Option.{get_or_from_slice_get, slice_get_within}
 use Rattle.std.specs.declared.rc.Rc.{Rc}
 use Rattle.std.specs.declared.alloc.Global.{Global}
 use Rattle.rv_tree.specs.Rows.{values, some_behind}
@@ -18,14 +19,10 @@ pub values-append : {T : Type 0} (xs ys : List (Rc T Global)) → values (xs ++ 
 values-append xs ys = map-append (λ x. x.value) xs ys
 
 pub values-insert : {T : Type 0} (xs : List (Rc T Global)) (i : ℕ) (x : Rc T Global) → values (insert xs i x) ≡ insert (values xs) i x.value
-values-insert xs i x =
-    map-append (λ y. y.value) (take i xs) (x ∷ drop i xs)
-    ∙ ap₂ (λ ys zs. ys ++ x.value ∷ zs) (sym (take-map (λ y. y.value) i xs)) (sym (drop-map (λ y. y.value) i xs))
+values-insert xs i x = simp (map-append, take-map, drop-map)
 
 pub values-remove : {T : Type 0} (xs : List (Rc T Global)) (i : ℕ) → values (remove xs i) ≡ remove (values xs) i
-values-remove xs i =
-    map-append (λ y. y.value) (take i xs) (drop (suc i) xs)
-    ∙ ap₂ (λ ys zs. ys ++ zs) (sym (take-map (λ y. y.value) i xs)) (sym (drop-map (λ y. y.value) (suc i) xs))
+values-remove xs i = simp (map-append, take-map, drop-map)
 
 -- a shared item, and those behind it
 pub values-from : {T : Type 0} (xs : List (Rc T Global)) (i : ℕ) (x : Rc T Global) → i < length xs → x ≡ slice_index_or xs i x → drop i (values xs) ≡ x.value ∷ drop (i + 1) (values xs)
@@ -45,14 +42,9 @@ drop_get (y ∷ ys) (suc i) (suc n) x lt e = drop_get ys i n x (omega arith) e
 pub taken_behind : {X : Type 0} (xs : List X) (i e : ℕ) → i ≤ e → drop i (take e xs) ≡ some_behind i (e - i) xs
 taken_behind xs i e le = let all : e ≡ i + (e - i) = omega (arith, le) in ap (λ n. drop i (take n xs)) all ∙ drop-take i (e - i) xs
 
-drop_from : {X : Type 0} (xs : List X) (i : ℕ) (x : X) → slice_get xs i ≡ Some x → drop i xs ≡ x ∷ drop (suc i) xs
-drop_from [] i x e = absurd (cc e)
-drop_from (y ∷ ys) zero x e = let same : y ≡ x = cc e in ap (λ z. z ∷ ys) same
-drop_from (y ∷ ys) (suc i) x e = drop_from ys i x e
-
 -- the same in the whole list
 pub drop_at : {X : Type 0} (xs : List X) (i : ℕ) (x : X) → slice_get xs i ≡ Some x → drop i xs ≡ x ∷ drop (i + 1) xs
-drop_at xs i x e = rw add-one (drop_from xs i x e)
+drop_at xs i x e = drop_more xs i x (slice_get_within xs i x e) ∙ ap (λ y. y ∷ drop (i + 1) xs) (get_or_from_slice_get xs i x x e)
 
 -- some items, and those behind them
 pub some_and_rest : {X : Type 0} (xs : List X) (i n : ℕ) → some_behind i n xs ++ drop (i + n) xs ≡ drop i xs

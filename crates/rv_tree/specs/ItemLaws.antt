@@ -1,11 +1,9 @@
 -- The items of some subtrees, one more and one less.
-use Rattle.std.proofs.Common.{◌≡◌, ℕ, suc, ◌+◌, ◌≤◌, List, [], ◌∷◌, ◌++◌, length, Option, Some, None, arith, ap, sym, ◌∙◌}
-use Rattle.std.proofs.lemmas.List.{append_assoc, append-nil}
+use Rattle.std.proofs.Common.{◌≡◌, ℕ, suc, ◌+◌, ◌≤◌, List, [], ◌∷◌, ◌++◌, length, Option, Some, None, Bor, arith, ap, sym, ◌∙◌}
+use Rattle.std.proofs.lemmas.List.{append_assoc, append-nil, length-map, map-append}
 use Rattle.rv_tree.specs.declared.limits.TheConstants.{MAX_HEIGHT}
 use Rattle.rv_tree.specs.Contents.{Contents}
-use Rattle.std.proofs.Common.{Bor}
 use Rattle.std.specs.Option.{option_map}
-use Rattle.std.proofs.lemmas.List.{map-append, length-map}
 use Rattle.rv_tree.specs.Items.{subtrees, items_left, AreLow}
 
 pub left_pushed : {T : Type 0} (cs : List (Option (Contents T))) (c : Contents T) → items_left (cs ++ Some c ∷ []) ≡ c.items ++ items_left cs

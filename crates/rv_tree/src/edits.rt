@@ -4,7 +4,7 @@ ghost use Rattle.std.specs.Prelude.{◌≡◌, ◌+◌, ◌≤◌, ◌<◌, leng
 ghost use Rattle.rv_tree.specs.Shape.{IsNear, IsSettled};
 
 use crate::limits::MAX_ITEMS;
-use crate::node::{Node, Subtree};
+use crate::node::Subtree;
 use crate::sums::Summed;
 use std::alloc::{AllocError, Global};
 use std::rc::Rc;
@@ -23,19 +23,17 @@ impl<T: Summed> Subtree<T> {
         ensures height { IfOk result (λ t. (tree.now.value.height ≤ t.value.height) × (t.value.height ≤ tree.now.value.height + 1)) }
     {
         let here: &Subtree<T> = tree;
-        match &here.node {
-            Node::Leaf { row, .. } => Subtree::inserted_in_leaf(alloc, tree, row, before, item),
-            Node::Fork { left, right, .. } => {
-                let left_len = left.len();
-                if before <= left_len {
-                    let side = Subtree::inserted(alloc, left, before, item)?;
-                    Subtree::balanced_left(alloc, side, right)
-                } else {
-                    let side = Subtree::inserted(alloc, right, before - left_len, item)?;
-                    Subtree::balanced_right(alloc, left, side)
-                }
-            }
+        if here.height() == 1 {
+            return Subtree::inserted_in_leaf(alloc, tree, here.row(), before, item);
         }
+        let (left, right) = here.sides();
+        let left_len = left.len();
+        if before <= left_len {
+            let side = Subtree::inserted(alloc, left, before, item)?;
+            return Subtree::balanced(alloc, side, Rc::clone(right)?);
+        }
+        let side = Subtree::inserted(alloc, right, before - left_len, item)?;
+        Subtree::balanced(alloc, Rc::clone(left)?, side)
     }
 
     // Takes out the item behind the first `before`. Of a single item nothing is left, and two leaves whose items fit in one
@@ -53,19 +51,17 @@ impl<T: Summed> Subtree<T> {
         if tree.is_thin() {
             return Ok(Some(Subtree::united(alloc, tree, before)?));
         }
-        match &tree.node {
-            Node::Leaf { row, .. } => Subtree::deleted_from_leaf(alloc, row, before),
-            Node::Fork { left, right, .. } => {
-                let left_len = left.len();
-                if before < left_len {
-                    let side = Subtree::deleted(alloc, left, before)?;
-                    Ok(Some(Subtree::left_over(alloc, side, right)?))
-                } else {
-                    let side = Subtree::deleted(alloc, right, before - left_len)?;
-                    Ok(Some(Subtree::right_over(alloc, left, side)?))
-                }
-            }
+        if tree.height() == 1 {
+            return Subtree::deleted_from_leaf(alloc, tree.row(), before);
         }
+        let (left, right) = tree.sides();
+        let left_len = left.len();
+        if before < left_len {
+            let side = Subtree::deleted(alloc, left, before)?;
+            return Ok(Some(Subtree::left_over(alloc, side, right)?));
+        }
+        let side = Subtree::deleted(alloc, right, before - left_len)?;
+        Ok(Some(Subtree::right_over(alloc, left, side)?))
     }
 
     // The tree of what is left of a left side, and a right side.
@@ -81,7 +77,7 @@ impl<T: Summed> Subtree<T> {
     {
         match left {
             None => Rc::clone(right),
-            Some(left) => Subtree::balanced_left(alloc, left, right),
+            Some(left) => Subtree::balanced(alloc, left, Rc::clone(right)?),
         }
     }
 
@@ -98,7 +94,7 @@ impl<T: Summed> Subtree<T> {
     {
         match right {
             None => Rc::clone(left),
-            Some(right) => Subtree::balanced_right(alloc, left, right),
+            Some(right) => Subtree::balanced(alloc, Rc::clone(left)?, right),
         }
     }
 
@@ -114,18 +110,16 @@ impl<T: Summed> Subtree<T> {
         ensures items { IfOk result (λ t. t.value.items ≡ slice_set tree.now.items before item.value) }
         ensures height { IfOk result (λ t. t.value.height ≡ tree.now.height) }
     {
-        match &tree.node {
-            Node::Leaf { row, .. } => Subtree::replaced_in_leaf(alloc, row, before, item),
-            Node::Fork { left, right, .. } => {
-                let left_len = left.len();
-                if before < left_len {
-                    let side = Subtree::replaced(alloc, left, before, item)?;
-                    Subtree::joined_left(alloc, side, right)
-                } else {
-                    let side = Subtree::replaced(alloc, right, before - left_len, item)?;
-                    Subtree::joined_right(alloc, left, side)
-                }
-            }
+        if tree.height() == 1 {
+            return Subtree::replaced_in_leaf(alloc, tree.row(), before, item);
         }
+        let (left, right) = tree.sides();
+        let left_len = left.len();
+        if before < left_len {
+            let side = Subtree::replaced(alloc, left, before, item)?;
+            return Subtree::joined(alloc, side, Rc::clone(right)?);
+        }
+        let side = Subtree::replaced(alloc, right, before - left_len, item)?;
+        Subtree::joined(alloc, Rc::clone(left)?, side)
     }
 }

@@ -6,7 +6,7 @@ ghost use Rattle.rv_tree.specs.Items.{subtrees, items_left, AreLow};
 ghost use Rattle.rv_tree.specs.Rows.{values};
 
 use crate::limits::MAX_HEIGHT;
-use crate::node::{Node, Subtree};
+use crate::node::Subtree;
 use crate::sums::Summed;
 use arrayvec::ArrayVec;
 use std::marker::Model;
@@ -75,17 +75,12 @@ fn first_below<'a, T: Summed>(
     ensures some { 1 ≤ length result.now }
     ensures low { AreLow 0 (subtrees left.new.items) }
 {
-    match &node.node {
-        Node::Leaf { row, .. } => row.items(),
-        Node::Fork {
-            left: first,
-            right,
-            ..
-        } => {
-            left.push(Some(right));
-            first_below(first, left)
-        }
+    if node.height() == 1 {
+        return node.row().items();
     }
+    let (first, right) = node.sides();
+    left.push(Some(right));
+    first_below(first, left)
 }
 
 impl<'a, T: Summed> Iterator for Items<'a, T> {

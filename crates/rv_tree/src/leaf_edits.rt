@@ -3,7 +3,7 @@
 ghost use Rattle.std.specs.Prelude.{◌≡◌, ◌+◌, ◌≤◌, ◌<◌, length, [], ◌++◌, IfOk, IfSome, IsTrue, MatchOption, slice_set, insert, remove};
 
 use crate::limits::{HALF, MAX_ITEMS, WIDTH};
-use crate::node::{Node, Subtree};
+use crate::node::Subtree;
 use crate::row::Row;
 use crate::sums::Summed;
 use std::alloc::{AllocError, Global};
@@ -47,11 +47,11 @@ impl<T: Summed> Subtree<T> {
     {
         if before == 0 {
             let new = Subtree::of_one(alloc, item)?;
-            return Subtree::joined_left(alloc, new, tree);
+            return Subtree::joined(alloc, new, Rc::clone(tree)?);
         }
         if before == WIDTH {
             let new = Subtree::of_one(alloc, item)?;
-            return Subtree::joined_right(alloc, tree, new);
+            return Subtree::joined(alloc, Rc::clone(tree)?, new);
         }
         Subtree::cut_in_two(alloc, row, before, item)
     }
@@ -130,9 +130,7 @@ impl<T: Summed> Subtree<T> {
         ensures items { IfOk result (λ t. t.value.items ≡ remove tree.now.items before) }
         ensures height { IfOk result (λ t. t.value.height ≡ 1) }
     {
-        let Node::Fork { left, right, .. } = &tree.node else {
-            unreachable!()
-        };
+        let (left, right) = tree.sides();
         let mut row = left.row().joined(alloc, right.row())?;
         row.remove(before);
         Subtree::of_row(alloc, row)

@@ -120,6 +120,20 @@ impl<T: Summed> Subtree<T> {
         row
     }
 
+    // The two sides of a node that is no leaf.
+    pub(crate) fn sides(&self) -> (&Rc<Subtree<T>>, &Rc<Subtree<T>>)
+        requires { 2 ≤ self.now.height }
+        ensures items { result.0.now.value.items ++ result.1.now.value.items ≡ self.now.items }
+        ensures height { max result.0.now.value.height result.1.now.value.height + 1 ≡ self.now.height }
+        ensures balanced { IsBalanced result.0.now.value.height result.1.now.value.height }
+        ensures high { (1 ≤ result.0.now.value.height) × (1 ≤ result.1.now.value.height) }
+    {
+        let Node::Fork { left, right, .. } = &self.node else {
+            unreachable!()
+        };
+        (left, right)
+    }
+
     // The sum of all items.
     pub(crate) fn sum(&self) -> &T::Sum
         ensures value { result.now ≡ total T.Sum.empty T.Sum.op T.sum_of self.now.items }

@@ -6,7 +6,7 @@ ghost use Rattle.rv_tree.specs.Shape.{IsBalanced};
 ghost use Rattle.rv_tree.specs.Sums.{total, AllSums};
 
 use crate::limits::MAX_ITEMS;
-use crate::node::{Node, Subtree};
+use crate::node::Subtree;
 use crate::passes::Pass;
 use crate::row::Row;
 use crate::sums::{Joined, Summed};
@@ -71,15 +71,14 @@ impl<T: Summed> Subtree<T> {
         if here.is_left_out(before, pass) {
             return Rewritten::kept(tree);
         }
-        match &here.node {
-            Node::Leaf { row, .. } => Subtree::rewritten_leaf(alloc, tree, row, before, pass),
-            Node::Fork { left, right, .. } => {
-                let first = Subtree::rewritten(alloc, left, before, pass)?;
-                let middle = first.sum_behind(before);
-                let second = Subtree::rewritten(alloc, right, &middle, pass)?;
-                Subtree::rejoined(alloc, tree, first, second)
-            }
+        if here.height() == 1 {
+            return Subtree::rewritten_leaf(alloc, tree, here.row(), before, pass);
         }
+        let (left, right) = here.sides();
+        let first = Subtree::rewritten(alloc, left, before, pass)?;
+        let middle = first.sum_behind(before);
+        let second = Subtree::rewritten(alloc, right, &middle, pass)?;
+        Subtree::rejoined(alloc, tree, first, second)
     }
 
     // A leaf of the items of `row`.

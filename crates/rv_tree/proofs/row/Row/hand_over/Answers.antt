@@ -1,5 +1,6 @@
-use Rattle.std.proofs.Common.{◌≡◌, ◌+◌, ◌∷◌, [], ◌++◌, ◌∙◌, drop, length, take, ap, arith, refl, sym}
+use Rattle.std.proofs.Common.{◌≡◌, ℕ, ◌+◌, ◌<◌, List, ◌∷◌, [], ◌++◌, ◌∙◌, drop, length, take, ap, arith, refl, sym}
 use Rattle.std.specs.Prelude.{unwrap_or}
+use Rattle.std.proofs.Math.ListN.{set}
 use Rattle.std.proofs.lemmas.List.{drop-set, drop-set-lt, length-set, take-set}
 use Rattle.rv_tree.specs.Passes.{none, one_more, Stops, here, refused, later}
 use Rattle.rv_tree.specs.Rows.{some_behind}
@@ -7,6 +8,10 @@ use Rattle.rv_tree.specs.Sums.{total}
 use Rattle.rv_tree.proofs.Exits.{on_err}
 use Rattle.rv_tree.proofs.Rows.{alike_behind, drop_at}
 use Rattle.rv_tree.proofs.row.Row.hand_over.Goals as goal
+
+-- the item at a place where it was put
+put : {X : Type 0} {new : List X} (was : List X) (i n : ℕ) (y : X) → new ≡ set was i y → length was ≡ n → i < n → some_behind i 1 new ≡ y ∷ []
+put was i n y is same within = ap (some_behind i 1) is ∙ ap (take 1) (drop-set was i y (rw same within))
 
 pub visit-requires : goal.visit-requires
 visit-requires g c =
@@ -56,32 +61,24 @@ pub returns-in_ok-change-in-Some-clause-runs : goal.returns-in_ok-change-in-Some
 returns-in_ok-change-in-Some-clause-runs g c =
     let self = c.args.self.now in
     let x = c.get-item.result.now in
-    let y = c.in-Some.item in
-    let was = unwrap_or c.args.made.now self in
-    let new = ap (drop c.args.at) c.in_ok-change-in-Some.ensures ∙ drop-set was c.args.at y (rw c.requires.same c.requires.within) in
     let one : some_behind c.args.at 1 self ≡ x ∷ [] = ap (take 1) (drop_at self c.args.at x c.get-item.ensures) in
-    let made : some_behind c.args.at 1 (unwrap_or c.change.new.made self) ≡ y ∷ [] = ap (take 1) new in
+    let made = put (unwrap_or c.args.made.now c.args.self.now) c.args.at (length c.args.self.now) c.in-Some.item c.in_ok-change-in-Some.ensures c.requires.same c.requires.within in
     rw (one, made) (one_more (rw c.in-Some.is at c.in_ok-visit.ensures.given) none)
 
 pub returns-in_ok-change-in-Some-clause-sum : goal.returns-in_ok-change-in-Some-clause-sum
 returns-in_ok-change-in-Some-clause-sum g c =
     let j = g.T.Sum.Joined in
     let of = g.T.Summed.sum_of in
-    let self = c.args.self.now in
     let y = c.in-Some.item in
-    let was = unwrap_or c.args.made.now self in
-    let made : some_behind c.args.at 1 (unwrap_or c.change.new.made self) ≡ y ∷ [] = ap (take 1) (ap (drop c.args.at) c.in_ok-change-in-Some.ensures ∙ drop-set was c.args.at y (rw c.requires.same c.requires.within)) in
+    let made = put (unwrap_or c.args.made.now c.args.self.now) c.args.at (length c.args.self.now) c.in-Some.item c.in_ok-change-in-Some.ensures c.requires.same c.requires.within in
     let value : j.IsValue (of y) = rw c.sum-sum-in-Some.ensures at c.known-in-Some.ensures in
     let sum = c.sum-sum-in-Some.ensures ∙ sym (g.met.T.Sum.Joined.laws.right_unit (of y) value) ∙ ap (total j.empty j.op of) (sym made) in
     c.join-in-Some.ensures ∙ ap (j.op c.args.before.now) sum
 
 pub returns-in_ok-change-in-Some-clause-sums : goal.returns-in_ok-change-in-Some-clause-sums
 returns-in_ok-change-in-Some-clause-sums g c =
-    let self = c.args.self.now in
-    let y = c.in-Some.item in
-    let was = unwrap_or c.args.made.now self in
-    let made : some_behind c.args.at 1 (unwrap_or c.change.new.made self) ≡ y ∷ [] = ap (take 1) (ap (drop c.args.at) c.in_ok-change-in-Some.ensures ∙ drop-set was c.args.at y (rw c.requires.same c.requires.within)) in
-    let value : g.T.Sum.Joined.IsValue (g.T.Summed.sum_of y) = rw c.sum-sum-in-Some.ensures at c.known-in-Some.ensures in
+    let made = put (unwrap_or c.args.made.now c.args.self.now) c.args.at (length c.args.self.now) c.in-Some.item c.in_ok-change-in-Some.ensures c.requires.same c.requires.within in
+    let value : g.T.Sum.Joined.IsValue (g.T.Summed.sum_of c.in-Some.item) = rw c.sum-sum-in-Some.ensures at c.known-in-Some.ensures in
     rw made (value, tt)
 
 pub returns-in-None-clause-front : goal.returns-in-None-clause-front
