@@ -1,9 +1,8 @@
 -- The lines of a text have the sizes of their places, and hold bytes.
 use Rattle.std.proofs.Common.{◌≡◌, ℕ, zero, suc, ◌-◌, ◌≤◌, ◌<◌, List, [], ◌∷◌, length, take, get_or, refl, ap, sym, ◌∙◌, ◌⊎◌, inl, inr, arith}
 use Rattle.std.specs.Prelude.{⊤, All}
-use Rattle.std.proofs.Math.Seq.{get_or-append_seam}
 use Rattle.std.proofs.lemmas.Bool.{cases_lt}
-use Rattle.std.proofs.lemmas.List.{length-append, get_or_append_left, take-append-le, take_all}
+use Rattle.std.proofs.lemmas.List.{take-append-le, take_all}
 use Rattle.rv_text.specs.declared.lexeme.Span.{Span}
 use Rattle.rv_text.specs.Lexing.{text_at}
 use Rattle.rv_stmt.specs.declared.statement.Body.{Body}
@@ -15,6 +14,7 @@ use Rattle.rv_program.specs.declared.line_values.LineValues.TheVariants as value
 use Rattle.rv_program.specs.Codes.{values_at, code_by_values, code_at}
 use Rattle.rv_program.specs.Layout.{shape_at, shapes_of, size_at}
 use Rattle.rv_program.specs.Program.{Program, program_of, no_statement, body_at, for_lines}
+use Rattle.rv_program.specs.lemmas.Programs.{length-for_lines as length_lines, at-for_lines as answer_at}
 use Rattle.rv_files.specs.Segments.{AreBytes}
 use Rattle.rv_files.proofs.PayloadBytes.{code_bytes, padding_bytes}
 use Rattle.rv_files.proofs.PayloadSizes.{SizeLaws, body_sized}
@@ -22,21 +22,6 @@ use Rattle.rv_files.proofs.RegularBodies.{IsRegular, IsSpelled, body_regular}
 use Rattle.rv_files.proofs.StringBytes.{bytes_spelled, bytes_at}
 
 -- What lines answer
-
-pub length_lines : {A : Type 0} (f : ℕ → A) (n : ℕ) → length (for_lines f n) ≡ n
-length_lines f zero = refl
-length_lines f (suc n) = omega (arith, length-append (for_lines f n) (f (suc n) ∷ []), length_lines f n)
-
-pub answer_at : {A : Type 0} (f : ℕ → A) (n k : ℕ) (d : A) → k < n → get_or (for_lines f n) k d ≡ f (suc k)
-answer_at f zero k d within = absurd (omega (arith, within))
-answer_at f (suc n) k d within = at (cases_lt k n) (answer_at f n k d)
-  where
-    at : (k < n) ⊎ (n ≤ k) → (k < n → get_or (for_lines f n) k d ≡ f (suc k)) → get_or (for_lines f (suc n)) k d ≡ f (suc k)
-    at (inl less) earlier = get_or_append_left (for_lines f n) (f (suc n) ∷ []) d k (omega (arith, less, length_lines f n)) ∙ earlier less
-    at (inr more) earlier =
-        let last : k ≡ n = omega (arith, more, within) in
-        let place : k ≡ length (for_lines f n) = omega (arith, last, length_lines f n) in
-        ap (λ j. get_or (for_lines f (suc n)) j d) place ∙ get_or-append_seam (for_lines f n) (f (suc n)) [] d ∙ ap (λ j. f (suc j)) (sym last)
 
 pub first_answers : {A : Type 0} (f : ℕ → A) (n k : ℕ) → k ≤ n → take k (for_lines f n) ≡ for_lines f k
 first_answers f zero k within = let none : k ≡ 0 = omega (arith, within) in rw none refl

@@ -23,7 +23,7 @@ use Rattle.rv_files.specs.ElfLoading.{AreLoadable}
 use Rattle.rv_files.specs.Segments.{Segment, AreBytes, HoldBytes, segment_at, segments_of}
 use Rattle.rv_files.specs.TextLimits.{IsWithinLimits}
 use Rattle.rv_files.proofs.Bytes.{bytes_none}
-use Rattle.rv_files.proofs.LineSizes.{length_lines}
+use Rattle.rv_program.specs.lemmas.Programs.{length-for_lines}
 use Rattle.rv_files.proofs.SectionSizes.{section_holds_bytes}
 use Rattle.rv_files.proofs.SegmentOrder.{few_below, bytes_below, ascending_below, loadable_below}
 
@@ -101,6 +101,6 @@ module _ (laws : TextLaws) (text : Text) where
 
   pub loadable_segments : IsWithinLimits text → AreLoadable (segments_of (shown_of text))
   loadable_segments within =
-      let count : length (shapes_of program) ≡ length text.lines = length_lines (shape_at program) (length program) ∙ length-map text.lines statement_of in
+      let count : length (shapes_of program) ≡ length text.lines = length-for_lines (shape_at program) (length program) ∙ length-map text.lines statement_of in
       let together = ends_together (shapes_of program) (limited_shapes laws text.lines within.short) in
       loadable_below segment text.base end begins sized sections sections (omega arith) (omega arith) (base-bound text.base within.based) (omega (arith, together, count, within.few))

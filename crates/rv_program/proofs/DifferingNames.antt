@@ -1,7 +1,9 @@
 -- Symbols that give the same before an edit and after it.
-use Rattle.std.proofs.Common.{◌≡◌, ℕ, ℤ, eqb, ◌+◌, ◌-◌, ◌<◌, ◌≤◌, ◌⊎◌, inl, inr, true, false, not, ◌||◌, List, length, Option, Some, None, Ok, Err, pos, arith, ap, sym, subst, ◌∙◌, refl}
+use Rattle.std.proofs.Common.{◌≡◌, ℕ, ℤ, eqb, ◌+◌, ◌<◌, ◌≤◌, ◌⊎◌, inl, inr, true, false, not, ◌||◌, List, length, Option, Some, None, Ok, Err, pos, arith, ap, sym, subst, ◌∙◌, refl}
 use Rattle.std.specs.Option.{option_eq}
 use Rattle.std.proofs.lemmas.Bool.{cases_lt, eqb-true, false≢true}
+use Rattle.std.proofs.lemmas.Bool.Decides.{nat_tests}
+use Rattle.std.proofs.lemmas.Grind.{common_steps}
 use Rattle.rv_expr.specs.declared.faults.ValueFault.TheVariants.{Undefined}
 use Rattle.rv_list.specs.declared.view.DefinitionPlace.{DefinitionPlace}
 use Rattle.rv_list.specs.declared.view.DefinitionPlace.TheVariants.{Nowhere, Label as ByLabel, Equ}
@@ -22,12 +24,11 @@ use Rattle.rv_program.specs.Program.{Program, program_of, body_at}
 use Rattle.rv_program.specs.References.{by_definition, equ_value, reference_of}
 use Rattle.rv_program.specs.internal.Rows.{number_of, entry_at, in_row, AreConstants}
 use Rattle.rv_program.specs.internal.SymbolRows.{AreSymbolRows}
-use Rattle.rv_program.specs.Text.{Edit, Insert, Delete, Replace}
+use Rattle.rv_program.specs.Text.{Edit, Insert}
 use Rattle.rv_program.specs.internal.TextRows.{program_in}
 use Rattle.rv_program.specs.Uses.{is_equ}
 use Rattle.rv_program.specs.lemmas.ConstantLaws.{constant-of_other, constant-of_later, constant-of_earlier}
 use Rattle.rv_program.specs.lemmas.DefinitionLaws.{IsWithin, definition-within}
-use Rattle.rv_program.specs.lemmas.EarlierLines.{insert_before, delete_before, replace_before}
 use Rattle.rv_program.proofs.LinePairLaws.{symbol_at_end, reference-open, body-before}
 use Rattle.rv_program.specs.lemmas.NameRows.{number-below}
 use Rattle.rv_program.specs.lemmas.Programs.{length-program}
@@ -41,24 +42,8 @@ pub record IsInOrder (k j l d : ℕ) : Type 0 where
   pub above : k ≤ l → j ≤ d
 
 in-order : (edit : Edit) (k j l d : ℕ) → line_before_edit edit k ≡ Some j → line_before_edit edit l ≡ Some d → IsInOrder k j l d
-in-order (Insert place line) k j l d e f = at (insert_before place line k j e) (insert_before place line l d f)
-  where
-    at : ((k < place) × (j ≡ k)) ⊎ ((place < k) × (j ≡ k - 1)) → ((l < place) × (d ≡ l)) ⊎ ((place < l) × (d ≡ l - 1)) → IsInOrder k j l d
-    at (inl x) (inl y) = record { below = λ h. omega (arith, x, y, h); above = λ h. omega (arith, x, y, h) }
-    at (inl x) (inr y) = record { below = λ h. omega (arith, x, y, h); above = λ h. omega (arith, x, y, h) }
-    at (inr x) (inl y) = record { below = λ h. omega (arith, x, y, h); above = λ h. omega (arith, x, y, h) }
-    at (inr x) (inr y) = record { below = λ h. omega (arith, x, y, h); above = λ h. omega (arith, x, y, h) }
-in-order (Delete place) k j l d e f = at (delete_before place k j e) (delete_before place l d f)
-  where
-    at : ((k < place) × (j ≡ k)) ⊎ ((place ≤ k) × (j ≡ k + 1)) → ((l < place) × (d ≡ l)) ⊎ ((place ≤ l) × (d ≡ l + 1)) → IsInOrder k j l d
-    at (inl x) (inl y) = record { below = λ h. omega (arith, x, y, h); above = λ h. omega (arith, x, y, h) }
-    at (inl x) (inr y) = record { below = λ h. omega (arith, x, y, h); above = λ h. omega (arith, x, y, h) }
-    at (inr x) (inl y) = record { below = λ h. omega (arith, x, y, h); above = λ h. omega (arith, x, y, h) }
-    at (inr x) (inr y) = record { below = λ h. omega (arith, x, y, h); above = λ h. omega (arith, x, y, h) }
-in-order (Replace place line) k j l d e f =
-    let x = (replace_before place line k j e).1 in
-    let y = (replace_before place line l d f).1 in
-    record { below = λ h. omega (arith, x, y, h); above = λ h. omega (arith, x, y, h) }
+in-order (Insert place line) k j l d e f = record { below = λ h. grind (arith, nat_tests, common_steps); above = λ h. grind (arith, nat_tests, common_steps) }
+in-order _ k j l d e f = record { below = λ h. grind (arith, nat_tests, common_steps); above = λ h. grind (arith, nat_tests, common_steps) }
 
 -- Places of definitions
 
@@ -69,8 +54,7 @@ none-equ (Equ line) e = absurd (let no : Some line ≡ None = e in cc)
 
 some-equ : (place : DefinitionPlace) (line : ℕ) → equ_line place ≡ Some line → place ≡ Equ line
 some-equ (Equ d) line e = ap Equ (let is : Some d ≡ Some line = e in cc)
-some-equ Nowhere line e = absurd (let no : None ≡ Some line = e in cc)
-some-equ (ByLabel d index) line e = absurd (let no : None ≡ Some line = e in cc)
+some-equ _ line e = absurd (let no : None ≡ Some line = e in cc)
 
 -- the `.equ` is on a line of the text
 pub equ-within : (program : Program) (name : List ℕ) (line : ℕ) → equ_line (definition_of program name) ≡ Some line → line ≤ length program
@@ -184,25 +168,15 @@ module _ (base : ℕ) (lines : List (List ℕ)) (edit : Edit) (shift : ℤ) (nam
   tells-more Unknown Unknown below tells = tells
   tells-more Unknown Same below tells = tells.0
   tells-more Unknown Moved below tells = tells.1
-  tells-more Unknown Changed below tells = tt
-  tells-more Same Unknown below tells = absurd below
   tells-more Same Same below tells = tells
-  tells-more Same Moved below tells = absurd below
-  tells-more Same Changed below tells = tt
-  tells-more Moved Unknown below tells = absurd below
-  tells-more Moved Same below tells = absurd below
   tells-more Moved Moved below tells = tells
-  tells-more Moved Changed below tells = tt
-  tells-more Changed Unknown below tells = absurd below
-  tells-more Changed Same below tells = absurd below
-  tells-more Changed Moved below tells = absurd below
-  tells-more Changed Changed below tells = tt
+  tells-more _ Changed below tells = tt
+  tells-more _ _ below tells = absurd below
 
   differs-or : (mark : Mark) → Tells base lines edit shift mark name → (differs mark ≡ true) ⊎ DiffersNowhere base lines edit name
   differs-or Unknown tells = inr tells.0
   differs-or Same tells = inr tells
-  differs-or Moved tells = inl refl
-  differs-or Changed tells = inl refl
+  differs-or _ tells = inl refl
 
 -- A loop over the names
 

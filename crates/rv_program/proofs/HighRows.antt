@@ -1,5 +1,5 @@
 -- The row of high halves, which holds those of the first lines, and nothing for the lines after them.
-use Rattle.std.proofs.Common.{◌≡◌, ℕ, zero, suc, ◌+◌, ◌<◌, ◌≤◌, ◌⊎◌, inl, inr, List, length, get_or, set, replicate, is_some, Err, arith, ap, sym, ◌∙◌, refl, get_or-set_same, get_or-set_other}
+use Rattle.std.proofs.Common.{◌≡◌, ℕ, suc, ◌+◌, ◌<◌, ◌≤◌, ◌⊎◌, inl, inr, List, length, get_or, set, replicate, is_some, Err, arith, ap, sym, ◌∙◌, get_or-set_same, get_or-set_other}
 use Rattle.std.proofs.lemmas.Bool.{cases_lt}
 use Rattle.rv_expr.specs.declared.faults.ValueFault.TheVariants.{NoPartner}
 use Rattle.rv_fix.specs.Values.{Entry}
@@ -10,11 +10,7 @@ use Rattle.rv_program.specs.Program.{Program, body_at}
 use Rattle.rv_program.specs.References.{references_at}
 use Rattle.rv_program.specs.internal.Rows.{AreHighs}
 use Rattle.rv_program.proofs.HighLaws.{no-high}
-
-pub none_at : (n k : ℕ) (none : Entry) → get_or (replicate n none) k none ≡ none
-none_at zero k none = refl
-none_at (suc n) zero none = refl
-none_at (suc n) (suc k) none = none_at n k none
+use Rattle.rv_program.specs.lemmas.Lists.{get_or-same}
 
 module _ (base : ℕ) (program : Program) where
   pub record AreHighsThrough (i : ℕ) (row : List Entry) : Type 0 where
@@ -24,7 +20,7 @@ module _ (base : ℕ) (program : Program) where
   pub highs-none : (n : ℕ) → AreHighsThrough 0 (replicate n (Err NoPartner))
   highs-none n = record {
     done = λ k below. absurd (let no : k < 0 = below in omega (arith, no));
-    left = λ k from. none_at n k (Err NoPartner);
+    left = λ k from. get_or-same n k (Err NoPartner);
   }
 
   -- a line without a high half has none in the row

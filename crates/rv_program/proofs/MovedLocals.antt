@@ -1,6 +1,7 @@
 -- The lines of local labels after an edit.
-use Rattle.std.proofs.Common.{◌≡◌, ℕ, zero, suc, ◌+◌, ◌-◌, ◌<◌, ◌≤◌, ◌^◌, min, nat_lt, Bool, true, false, List, [], ◌∷◌, ◌++◌, length, get_or, Option, Some, None, if◌then◌else◌, arith, ap, sym, ◌∙◌, refl}
-use Rattle.std.proofs.lemmas.Bool.{le-ltb, ne_eqb, or_from}
+use Rattle.std.proofs.Common.{◌≡◌, ℕ, zero, suc, ◌+◌, ◌-◌, ◌<◌, ◌≤◌, nat_lt, Bool, true, false, List, [], ◌∷◌, ◌++◌, ◌⊎◌, inl, inr, length, get_or, set, Option, Some, None, if◌then◌else◌, arith, ap, sym, ◌∙◌, refl}
+use Rattle.std.specs.Prelude.{insert, remove}
+use Rattle.std.proofs.lemmas.Bool.{cases_lt, le-ltb, ne_eqb, or_from}
 use Rattle.std.proofs.lemmas.Bool.Decides.{nat_tests}
 use Rattle.std.proofs.lemmas.Grind.{common_steps}
 use Rattle.std.proofs.lemmas.List.{append-nil, append_assoc, get_or-map, get_or-set_same, length-set, get_or_past}
@@ -18,6 +19,7 @@ use Rattle.rv_program.specs.Program.{program_of, lines_that, no_statement}
 use Rattle.rv_program.specs.References.{among_local, has_local, is_local}
 use Rattle.rv_program.specs.internal.Rows.{AreLocals}
 use Rattle.rv_program.specs.Text.{Edit, Insert, Delete, Replace, refusal_of, lines_after}
+use Rattle.rv_program.specs.lemmas.LineRows.{lines_that-same as same-lines}
 use Rattle.rv_program.specs.lemmas.LocalLines.{first-below}
 use Rattle.rv_program.specs.lemmas.EarlierLines.{stood, statement-stood, insert_within, delete_within, replace_within}
 use Rattle.rv_program.specs.lemmas.Programs.{length-program}
@@ -78,70 +80,64 @@ none-moved test edit (suc n) stay =
     nothing true = refl
     nothing false = refl
 
--- lines that pass the same test
-same-lines : (test test' : ℕ → Bool) (n : ℕ) → ((k : ℕ) → k < n → test' (suc k) ≡ test (suc k)) → lines_that test' n ≡ lines_that test n
-same-lines test test' zero same = refl
-same-lines test test' (suc n) same =
-    ap (λ ls. ls ++ (if test' (suc n) then suc n ∷ [] else [])) (same-lines test test' n (λ k within. same k (omega (arith, within))))
-    ∙ ap (λ b. lines_that test n ++ (if b then suc n ∷ [] else [])) (same n (omega arith))
-
--- the lines up to the place of an edit, by those that it has nothing to do with
-up-to-place : (edit : Edit) (labelled : Bool) (test : ℕ → Bool) (n : ℕ) (ls : List ℕ) → lines_below (place_of_edit edit) ls ≡ lines_that test n → lines_moved edit ls ≡ [] → row_after edit labelled ls ≡ lines_that test n ++ (if labelled then place_of_edit edit ∷ [] else [])
-up-to-place edit labelled test n ls below moved =
-    let new : List ℕ = if labelled then place_of_edit edit ∷ [] else [] in
-    ap (λ xs. xs ++ (new ++ lines_moved edit ls)) below
-    ∙ ap (λ xs. lines_that test n ++ (new ++ xs)) moved
-    ∙ ap (λ xs. lines_that test n ++ xs) (append-nil new)
-
 -- Lines of a text
-
-insert_stays : (place k : ℕ) (line : List ℕ) → k < place → line_before_edit (Insert place line) k ≡ Some k
-insert_stays place k line l = grind (arith, nat_tests, common_steps)
-
-insert_moves : (place k : ℕ) (line : List ℕ) → place < k → line_before_edit (Insert place line) k ≡ Some (k - 1)
-insert_moves place k line l = grind (arith, nat_tests, common_steps)
-
-delete_stays : (place k : ℕ) → k < place → line_before_edit (Delete place) k ≡ Some k
-delete_stays place k l = grind (arith, nat_tests, common_steps)
-
-delete_moves : (place k : ℕ) → place ≤ k → line_before_edit (Delete place) k ≡ Some (k + 1)
-delete_moves place k l = grind (arith, nat_tests, common_steps)
-
-replace_stays : (place k : ℕ) (line : List ℕ) → (k ≡ place → ⊥) → line_before_edit (Replace place line) k ≡ Some k
-replace_stays place k line l = grind (arith, nat_tests, common_steps)
 
 unchanged : (lines : List (List ℕ)) (edit : Edit) (number k j : ℕ) → refusal_of lines edit ≡ None → 1 ≤ k → k ≤ length (lines_after lines edit) → line_before_edit edit k ≡ Some j → has_local (program_of (lines_after lines edit)) number k ≡ has_local (program_of lines) number j
 unchanged lines edit number k j allowed first last is =
     ap (λ s. among_local number s.labels) (statement-stood lines edit k j first last (stood lines edit k j allowed first last is))
 
--- the labels of a line
-on-line : (lines : List (List ℕ)) (number i : ℕ) → i < length lines → has_local (program_of lines) number (suc i) ≡ among_local number (statement_of (get_or lines i [])).labels
-on-line lines number i l =
-    let same : suc i - 1 ≡ i = omega arith in
+-- a line that an edit puts in, by its labels
+put-in : (lines : List (List ℕ)) (number n place : ℕ) (line : List ℕ) → n < length lines → get_or lines n [] ≡ line → suc n ≡ place → lines_that (has_local (program_of lines) number) (suc n) ≡ lines_that (has_local (program_of lines) number) n ++ (if among_local number (statement_of line).labels then place ∷ [] else [])
+put-in lines number n place line within is at =
+    let test = has_local (program_of lines) number in
+    let same : suc n - 1 ≡ n = omega arith in
+    let here : test (suc n) ≡ among_local number (statement_of line).labels =
     ap (λ k. among_local number (get_or (program_of lines) k no_statement).labels) same
-    ∙ ap (λ s. among_local number s.labels) (get_or-map statement_of lines i [] no_statement l)
+    ∙ ap (λ s. among_local number s.labels) (get_or-map statement_of lines n [] no_statement within ∙ ap statement_of is) in
+    (λ i. lines_that test n ++ (if here i then at i ∷ [] else []))
 
--- Where lines move to
+-- an edit behind the first `n` lines: those behind the first `from` lines follow the first `to` lines of the text after it
+record IsBehind (edit : Edit) (n from to count : ℕ) : Type 0 where
+  place : suc n ≡ place_of_edit edit
+  old : n ≤ from
+  new : n ≤ to
+  stays : (k : ℕ) → k < n → line_before_edit edit (suc k) ≡ Some (suc k)
+  stood : (k : ℕ) → line_before_edit edit (suc (k + to)) ≡ Some (suc (k + from))
+  taken : (l : ℕ) → l ≤ from → line_moved edit l ≡ None
+  moves : (k : ℕ) → k + from < count → line_moved edit (suc (k + from)) ≡ Some (suc (k + to))
 
-insert_down : (place l : ℕ) (line : List ℕ) → place ≤ l → l < 2 ^ 32 - 1 → line_moved (Insert place line) l ≡ Some (l + 1)
-insert_down place l line behind few =
-    let no_more : min (l + 1) (2 ^ 32 - 1) ≡ l + 1 = omega (arith, few) in
-    ap (λ b. if b then None else Some (min (l + 1) (2 ^ 32 - 1))) (le-ltb l place behind) ∙ ap Some no_more
+inserts : (place n count : ℕ) (line : List ℕ) → suc n ≡ place → count ≤ MAX_LINES → IsBehind (Insert place line) n n (suc n) count
+inserts place n count line at few = record {
+  place = at;
+  old = omega arith;
+  new = omega arith;
+  stays = λ k l. grind (arith, nat_tests, common_steps);
+  stood = λ k. grind (arith, nat_tests, common_steps);
+  taken = λ l m. grind (arith, nat_tests, common_steps);
+  moves = λ k l. grind (arith, nat_tests, common_steps);
+}
 
-insert_none : (place l : ℕ) (line : List ℕ) → l < place → line_moved (Insert place line) l ≡ None
-insert_none place l line before = grind (arith, nat_tests, common_steps)
+deletes : (place n count : ℕ) → suc n ≡ place → IsBehind (Delete place) n (suc n) n count
+deletes place n count at = record {
+  place = at;
+  old = omega arith;
+  new = omega arith;
+  stays = λ k l. grind (arith, nat_tests, common_steps);
+  stood = λ k. grind (arith, nat_tests, common_steps);
+  taken = λ l m. grind (arith, nat_tests, common_steps);
+  moves = λ k l. grind (arith, nat_tests, common_steps);
+}
 
-delete_up : (place l : ℕ) → place < l → line_moved (Delete place) l ≡ Some (l - 1)
-delete_up place l behind = grind (arith, nat_tests, common_steps)
-
-delete_none : (place l : ℕ) → l ≤ place → line_moved (Delete place) l ≡ None
-delete_none place l before = grind (arith, nat_tests, common_steps)
-
-replace_behind : (place l : ℕ) (line : List ℕ) → place < l → line_moved (Replace place line) l ≡ Some l
-replace_behind place l line behind = grind (arith, nat_tests, common_steps)
-
-replace_none : (place l : ℕ) (line : List ℕ) → l ≤ place → line_moved (Replace place line) l ≡ None
-replace_none place l line before = grind (arith, nat_tests, common_steps)
+replaces : (place n count : ℕ) (line : List ℕ) → suc n ≡ place → IsBehind (Replace place line) n (suc n) (suc n) count
+replaces place n count line at = record {
+  place = at;
+  old = omega arith;
+  new = omega arith;
+  stays = λ k l. grind (arith, nat_tests, common_steps);
+  stood = λ k. grind (arith, nat_tests, common_steps);
+  taken = λ l m. grind (arith, nat_tests, common_steps);
+  moves = λ k l. grind (arith, nat_tests, common_steps);
+}
 
 -- Edits: the lines up to the place, and those behind it one by one
 
@@ -162,117 +158,63 @@ later-rows edit labelled test test' n n' (suc count) before each =
     ∙ sym (row-more edit labelled (test (suc (count + n))) (suc (count + n)) (suc (count + n')) (lines_that test (count + n)) last.1 last.2)
     ∙ ap (λ k. row_after edit labelled (lines_that test k)) (sym next)
 
-inserted : (lines : List (List ℕ)) (place : ℕ) (line : List ℕ) (number : ℕ) → length lines ≤ MAX_LINES → refusal_of lines (Insert place line) ≡ None → lines_that (has_local (program_of (lines_after lines (Insert place line))) number) (length (lines_after lines (Insert place line))) ≡ row_after (Insert place line) (among_local number (statement_of line).labels) (lines_that (has_local (program_of lines) number) (length lines))
-inserted lines place line number few allowed =
-    let edit = Insert place line in
+-- the lines before the place of an edit
+below-from : (test : ℕ → Bool) (place n from : ℕ) → suc n ≡ place → n ≤ from → lines_below place (lines_that test from) ≡ lines_that test n
+below-from test place n zero at up = ap (lines_that test) (let e : 0 ≡ n = omega (arith, up) in e)
+below-from test place n (suc m) at up = by (cases_lt n (suc m)) (below-from test place n m at)
+  where
+    by : (n < suc m) ⊎ (suc m ≤ n) → (n ≤ m → lines_below place (lines_that test m) ≡ lines_that test n) → lines_below place (lines_that test (suc m)) ≡ lines_that test n
+    by (inl more) before =
+        filter-append (λ l. nat_lt l place) (lines_that test m) (if test (suc m) then suc m ∷ [] else [])
+        ∙ (λ i. before (omega (arith, more)) i ++ below-one (test (suc m)) place (suc m) (le-ltb (suc m) place (omega (arith, at, more))) i)
+        ∙ append-nil (lines_that test n)
+    by (inr all) before = first-below test place (suc m) (omega (arith, at, all)) ∙ ap (lines_that test) (let e : suc m ≡ n = omega (arith, up, all) in e)
+
+edited : (lines : List (List ℕ)) (edit : Edit) (number n from to : ℕ) (labelled : Bool) → IsBehind edit n from to (length lines) → refusal_of lines edit ≡ None → from ≤ length lines → length (lines_after lines edit) + from ≡ length lines + to → lines_that (has_local (program_of (lines_after lines edit)) number) to ≡ lines_that (has_local (program_of (lines_after lines edit)) number) n ++ (if labelled then place_of_edit edit ∷ [] else []) → lines_that (has_local (program_of (lines_after lines edit)) number) (length (lines_after lines edit)) ≡ row_after edit labelled (lines_that (has_local (program_of lines) number) (length lines))
+edited lines edit number n from to labelled is allowed room count put =
     let after = lines_after lines edit in
     let test = has_local (program_of lines) number in
     let test' = has_local (program_of after) number in
-    let labelled = among_local number (statement_of line).labels in
-    let within = insert_within lines place line allowed in
-    let n = place - 1 in
-    let at : suc n ≡ place = omega (arith, within.0) in
-    let room : n ≤ length lines = omega (arith, within.1) in
-    let count : length after ≡ length lines + 1 = length-insert lines n line room in
-    let here : test' (suc n) ≡ labelled =
-    on-line after number n (omega (arith, room, count))
-    ∙ ap (λ l. among_local number (statement_of l).labels) (get_or-insert_at lines n line [] room) in
-    let before = same-lines test test' n (λ k l.
-    unchanged lines edit number (suc k) (suc k) allowed (omega arith) (omega (arith, l, room, count)) (insert_stays place (suc k) line (omega (arith, l, within.0)))) in
-    let up_to : lines_that test' (suc n) ≡ row_after edit labelled (lines_that test n) =
-    ap (λ ls. ls ++ (if test' (suc n) then suc n ∷ [] else [])) before
-    ∙ ap (λ b. lines_that test n ++ (if b then suc n ∷ [] else [])) here
-    ∙ ap (λ k. lines_that test n ++ (if labelled then k ∷ [] else [])) at
-    ∙ sym (up-to-place edit labelled test n (lines_that test n) (first-below test place n (omega (arith, within.0)))
-    (none-moved test edit n (λ l m. insert_none place l line (omega (arith, m, within.0))))) in
-    let all : length lines - n + n ≡ length lines = omega (arith, room) in
-    let all' : length after ≡ length lines - n + suc n = omega (arith, room, count) in
-    ap (lines_that test') all'
-    ∙ later-rows edit labelled test test' n (suc n) (length lines - n) up_to (λ k l.
-    let back : suc (k + suc n) - 1 ≡ suc (k + n) = omega arith in
-    let next : suc (k + n) + 1 ≡ suc (k + suc n) = omega arith in (
-      unchanged lines edit number (suc (k + suc n)) (suc (k + n)) allowed (omega arith) (omega (arith, l, room, count))
-          (insert_moves place (suc (k + suc n)) line (omega (arith, within.0)) ∙ ap Some back),
-      le-ltb (suc (k + n)) place (omega (arith, within.0)),
-      insert_down place (suc (k + n)) line (omega (arith, within.0)) (omega (arith, l, few, room)) ∙ ap Some next,
-    ))
-    ∙ ap (λ k. row_after edit labelled (lines_that test k)) all
-
--- the lines up to one that an edit takes out or replaces
-up-to-taken : (edit : Edit) (labelled : Bool) (test : ℕ → Bool) (n : ℕ) → suc n ≡ place_of_edit edit → ((l : ℕ) → l ≤ suc n → line_moved edit l ≡ None) → row_after edit labelled (lines_that test (suc n)) ≡ lines_that test n ++ (if labelled then place_of_edit edit ∷ [] else [])
-up-to-taken edit labelled test n at stay =
-    up-to-place edit labelled test n (lines_that test (suc n))
-    (filter-append (λ l. nat_lt l (place_of_edit edit)) (lines_that test n) (if test (suc n) then suc n ∷ [] else [])
-    ∙ ap (λ ls. ls ++ lines_below (place_of_edit edit) (if test (suc n) then suc n ∷ [] else [])) (first-below test (place_of_edit edit) n (omega (arith, at)))
-    ∙ ap (λ ls. lines_that test n ++ ls) (below-one (test (suc n)) (place_of_edit edit) (suc n) (le-ltb (suc n) (place_of_edit edit) (omega (arith, at))))
-    ∙ append-nil (lines_that test n))
-    (none-moved test edit (suc n) stay)
-
-removed : (lines : List (List ℕ)) (place number : ℕ) → refusal_of lines (Delete place) ≡ None → lines_that (has_local (program_of (lines_after lines (Delete place))) number) (length (lines_after lines (Delete place))) ≡ row_after (Delete place) false (lines_that (has_local (program_of lines) number) (length lines))
-removed lines place number allowed =
-    let edit = Delete place in
-    let after = lines_after lines edit in
-    let test = has_local (program_of lines) number in
-    let test' = has_local (program_of after) number in
-    let within = delete_within lines place allowed in
-    let n = place - 1 in
-    let at : suc n ≡ place = omega (arith, within.0) in
-    let room : n < length lines = omega (arith, within.0, within.1) in
-    let count : length after + 1 ≡ length lines = length-remove lines n room in
-    let before = same-lines test test' n (λ k l.
-    unchanged lines edit number (suc k) (suc k) allowed (omega arith) (omega (arith, l, room, count)) (delete_stays place (suc k) (omega (arith, l, within.0)))) in
-    let up_to : lines_that test' n ≡ row_after edit false (lines_that test (suc n)) =
-    before ∙ sym (append-nil (lines_that test n)) ∙ sym (up-to-taken edit false test n at (λ l m. delete_none place l (omega (arith, m, at)))) in
-    let rest : length lines - suc n + suc n ≡ length lines = omega (arith, room) in
-    let rest' : length after ≡ length lines - suc n + n = omega (arith, room, count) in
+    let new : List ℕ = if labelled then place_of_edit edit ∷ [] else [] in
+    let same = same-lines test test' n (λ k l. unchanged lines edit number (suc k) (suc k) allowed (omega arith) (omega (arith, l, room, count, is.new)) (is.stays k l)) in
+    let below = below-from test (place_of_edit edit) n from is.place is.old in
+    let up_to : lines_that test' to ≡ row_after edit labelled (lines_that test from) =
+    put ∙ ap (λ ls. ls ++ new) same ∙ sym ((λ i. below i ++ (new ++ none-moved test edit from is.taken i)) ∙ ap (λ ls. lines_that test n ++ ls) (append-nil new)) in
+    let rest : length lines - from + from ≡ length lines = omega (arith, room) in
+    let rest' : length after ≡ length lines - from + to = omega (arith, room, count) in
     ap (lines_that test') rest'
-    ∙ later-rows edit false test test' (suc n) n (length lines - suc n) up_to (λ k l.
-    let next : suc (k + n) + 1 ≡ suc (k + suc n) = omega arith in
-    let back : suc (k + suc n) - 1 ≡ suc (k + n) = omega arith in (
-      unchanged lines edit number (suc (k + n)) (suc (k + suc n)) allowed (omega arith) (omega (arith, l, room, count))
-          (delete_moves place (suc (k + n)) (omega (arith, within.0)) ∙ ap Some next),
-      le-ltb (suc (k + suc n)) place (omega (arith, within.0)),
-      delete_up place (suc (k + suc n)) (omega (arith, within.0)) ∙ ap Some back,
-    ))
-    ∙ ap (λ k. row_after edit false (lines_that test k)) rest
-
-replaced : (lines : List (List ℕ)) (place : ℕ) (line : List ℕ) (number : ℕ) → refusal_of lines (Replace place line) ≡ None → lines_that (has_local (program_of (lines_after lines (Replace place line))) number) (length (lines_after lines (Replace place line))) ≡ row_after (Replace place line) (among_local number (statement_of line).labels) (lines_that (has_local (program_of lines) number) (length lines))
-replaced lines place line number allowed =
-    let edit = Replace place line in
-    let after = lines_after lines edit in
-    let test = has_local (program_of lines) number in
-    let test' = has_local (program_of after) number in
-    let labelled = among_local number (statement_of line).labels in
-    let within = replace_within lines place line allowed in
-    let n = place - 1 in
-    let at : suc n ≡ place = omega (arith, within.0) in
-    let room : n < length lines = omega (arith, within.0, within.1) in
-    let count : length after ≡ length lines = length-set lines n line in
-    let here : test' (suc n) ≡ labelled =
-    on-line after number n (omega (arith, room, count))
-    ∙ ap (λ l. among_local number (statement_of l).labels) (get_or-set_same lines n line [] room) in
-    let before = same-lines test test' n (λ k l.
-    unchanged lines edit number (suc k) (suc k) allowed (omega arith) (omega (arith, l, room, count)) (replace_stays place (suc k) line (λ e. omega (arith, e, l, at)))) in
-    let up_to : lines_that test' (suc n) ≡ row_after edit labelled (lines_that test (suc n)) =
-    ap (λ ls. ls ++ (if test' (suc n) then suc n ∷ [] else [])) before
-    ∙ ap (λ b. lines_that test n ++ (if b then suc n ∷ [] else [])) here
-    ∙ ap (λ k. lines_that test n ++ (if labelled then k ∷ [] else [])) at
-    ∙ sym (up-to-taken edit labelled test n at (λ l m. replace_none place l line (omega (arith, m, at)))) in
-    let rest : length lines - suc n + suc n ≡ length lines = omega (arith, room) in
-    let rest' : length after ≡ length lines - suc n + suc n = omega (arith, room, count) in
-    ap (lines_that test') rest'
-    ∙ later-rows edit labelled test test' (suc n) (suc n) (length lines - suc n) up_to (λ k l. (
-      unchanged lines edit number (suc (k + suc n)) (suc (k + suc n)) allowed (omega arith) (omega (arith, l, room, count))
-          (replace_stays place (suc (k + suc n)) line (λ e. omega (arith, e, at))),
-      le-ltb (suc (k + suc n)) place (omega (arith, at)),
-      replace_behind place (suc (k + suc n)) line (omega (arith, at)),
+    ∙ later-rows edit labelled test test' from to (length lines - from) up_to (λ k l. (
+      unchanged lines edit number (suc (k + to)) (suc (k + from)) allowed (omega arith) (omega (arith, l, rest')) (is.stood k),
+      le-ltb (suc (k + from)) (place_of_edit edit) (omega (arith, is.place, is.old)),
+      is.moves k (omega (arith, l)),
     ))
     ∙ ap (λ k. row_after edit labelled (lines_that test k)) rest
 
 moved : (lines : List (List ℕ)) (edit : Edit) (number : ℕ) → length lines ≤ MAX_LINES → refusal_of lines edit ≡ None → lines_that (has_local (program_of (lines_after lines edit)) number) (length (lines_after lines edit)) ≡ row_after edit (among_local number (labels_put_in edit)) (lines_that (has_local (program_of lines) number) (length lines))
-moved lines (Insert place line) number few allowed = inserted lines place line number few allowed
-moved lines (Delete place) number few allowed = removed lines place number allowed
-moved lines (Replace place line) number few allowed = replaced lines place line number allowed
+moved lines (Insert place line) number few allowed =
+    let within = insert_within lines place line allowed in
+    let n = place - 1 in
+    let at : suc n ≡ place = omega (arith, within.0) in
+    let room : n ≤ length lines = omega (arith, within.1) in
+    let count = length-insert lines n line room in
+    edited lines (Insert place line) number n n (suc n) (among_local number (statement_of line).labels) (inserts place n (length lines) line at few) allowed room (omega (arith, count))
+    (put-in (insert lines n line) number n place line (omega (arith, room, count)) (get_or-insert_at lines n line [] room) at)
+moved lines (Delete place) number few allowed =
+    let within = delete_within lines place allowed in
+    let n = place - 1 in
+    let at : suc n ≡ place = omega (arith, within.0) in
+    let room : n < length lines = omega (arith, within.0, within.1) in
+    let count = length-remove lines n room in
+    edited lines (Delete place) number n (suc n) n false (deletes place n (length lines) at) allowed (omega (arith, room)) (omega (arith, count))
+    (sym (append-nil (lines_that (has_local (program_of (remove lines n)) number) n)))
+moved lines (Replace place line) number few allowed =
+    let within = replace_within lines place line allowed in
+    let n = place - 1 in
+    let at : suc n ≡ place = omega (arith, within.0) in
+    let room : n < length lines = omega (arith, within.0, within.1) in
+    let count = length-set lines n line in
+    edited lines (Replace place line) number n (suc n) (suc n) (among_local number (statement_of line).labels) (replaces place n (length lines) line at) allowed (omega (arith, room)) (omega (arith, count))
+    (put-in (set lines n line) number n place line (omega (arith, room, count)) (get_or-set_same lines n line [] room) at)
 
 -- the rows after an edit are those of the text after it
 pub moved-locals : (lines after : List (List ℕ)) (edit : Edit) (labels : List Label) (rows rows' : List (List ℕ)) → AreLocals (program_of lines) (length (program_of lines)) rows → length lines ≤ MAX_LINES → refusal_of lines edit ≡ None → after ≡ lines_after lines edit → labels ≡ labels_put_in edit → ((number : ℕ) → get_or rows' number [] ≡ row_after edit (among_local number labels) (get_or rows number [])) → AreLocals (program_of after) (length after) rows'

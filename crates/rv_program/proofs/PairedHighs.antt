@@ -13,7 +13,7 @@ use Rattle.rv_program.specs.Program.{Program, body_at, first_line}
 use Rattle.rv_program.specs.References.{references_at}
 use Rattle.rv_program.specs.internal.Rows.{AreHighs, ArePairedHighs}
 use Rattle.rv_program.proofs.HighLaws.{no-high}
-use Rattle.rv_program.proofs.HighRows.{none_at}
+use Rattle.rv_program.specs.lemmas.Lists.{get_or-same}
 use Rattle.rv_program.specs.lemmas.Programs.{kept-past}
 
 -- The first line of one line more
@@ -132,28 +132,24 @@ module _ (base : ℕ) (program : Program) where
   pub paired-none : (n : ℕ) → n ≡ length program → ArePairedThrough base program 0 (replicate n (Err NoPartner))
   paired-none n same = record {
     many = length-replicate n (Err NoPartner) ∙ same;
-    each = λ k below. none_at n k (Err NoPartner)
+    each = λ k below. get_or-same n k (Err NoPartner)
         ∙ sym (ap (λ m. high_at_line base program (first_line (has_bytes_in program (section_behind program k)) k m)) (let e : 0 - k ≡ 0 = omega arith in e));
   }
 
-  kept : (i : ℕ) (row : List Entry) → ((k : ℕ) → paired_high_through base program (i + 1) k ≡ paired_high_through base program i k) → ArePairedThrough base program i row → ArePairedThrough base program (i + 1) row
-  kept i row same are = record { many = are.many; each = λ k below. are.each k below ∙ sym (same k) }
+  kept : (i : ℕ) (row : List Entry) → ((k : ℕ) → k ≤ i → paired_high_through base program (i + 1) k ≡ paired_high_through base program i k) → ArePairedThrough base program i row → ArePairedThrough base program (i + 1) row
+  kept i row same are = record { many = are.many; each = λ k below. are.each k below ∙ sym (at k (cases_lt i k)) }
+    where
+      at : (k : ℕ) → (i < k) ⊎ (k ≤ i) → paired_high_through base program (i + 1) k ≡ paired_high_through base program i k
+      at k (inl before) = kept-before i k before
+      at k (inr up) = same k up
 
   -- a line without bytes gives nothing
   pub paired-empty : (i : ℕ) (row : List Entry) → size_at program (suc i) ≡ 0 → ArePairedThrough base program i row → ArePairedThrough base program (i + 1) row
-  paired-empty i row none = kept i row (λ k. at k (cases_lt i k))
-    where
-      at : (k : ℕ) → (i < k) ⊎ (k ≤ i) → paired_high_through base program (i + 1) k ≡ paired_high_through base program i k
-      at k (inl before) = kept-before i k before
-      at k (inr up) = kept-false i k up (bytes-none (section_behind program k) (suc i) none)
+  paired-empty i row none = kept i row (λ k up. kept-false i k up (bytes-none (section_behind program k) (suc i) none))
 
   -- a line without a high half gives nothing
   paired-next : (i : ℕ) (row : List Entry) → high_at base program (suc i) ≡ Err NoPartner → ArePairedThrough base program i row → ArePairedThrough base program (i + 1) row
-  paired-next i row none = kept i row (λ k. at k (cases_lt i k))
-    where
-      at : (k : ℕ) → (i < k) ⊎ (k ≤ i) → paired_high_through base program (i + 1) k ≡ paired_high_through base program i k
-      at k (inl before) = kept-before i k before
-      at k (inr up) = kept-none i k up none
+  paired-next i row none = kept i row (λ k up. kept-none i k up none)
 
   pub paired-past : (i j : ℕ) (row : List Entry) → i ≤ j → AreWithout (λ b. is_some (pcrel_high_of b)) program i j → ArePairedThrough base program i row → ArePairedThrough base program j row
   paired-past i j row up passed =
@@ -181,7 +177,7 @@ module _ (base : ℕ) (program : Program) where
       let none : (k : ℕ) → k < n → high_at base program (suc k) ≡ Err NoPartner = λ k below. sym (highs.each k below) in
       let all = paired-all (replicate n (Err NoPartner)) (none-through n (replicate n (Err NoPartner)) none (paired-none n refl)) in
       record {
-        each = λ k below. sym (none_at n k (Err NoPartner)) ∙ all.each k below;
+        each = λ k below. sym (get_or-same n k (Err NoPartner)) ∙ all.each k below;
         within = omega arith;
       }
 
@@ -216,13 +212,21 @@ module _ (base : ℕ) (program : Program) where
           ∙ sym (given-here i i (omega arith) (λ m from' before. absurd (omega (arith, from', before))) (bytes-here (section_behind program i) (suc i) refl some))
           ∙ ap (paired_high_through base program (i + 1)) (sym same)
 
+  -- past a line of another section, or without bytes
+  past-line : (i k : ℕ) (row : List Entry) → IsBack i (suc k) row → has_bytes_in program (section_behind program i) (suc k) ≡ false → (j : ℕ) → k ≤ j → j < i → has_bytes_in program (section_behind program i) (suc j) ≡ false
+  past-line i k row back fails j from before = at (cases_lt k j)
+    where
+      at : (k < j) ⊎ (j ≤ k) → has_bytes_in program (section_behind program i) (suc j) ≡ false
+      at (inl after) = back.none j (omega (arith, after)) before
+      at (inr to) = ap (λ n. has_bytes_in program (section_behind program i) (suc n)) (let e : j ≡ k = omega (arith, from, to) in e) ∙ fails
+
   -- past a line of another section
   pub back-elsewhere : (i k : ℕ) (row : List Entry) → section_behind program k ≢ section_behind program i → IsBack i (suc k) row → IsBack i k row
   back-elsewhere i k row other back = record {
     many = back.many;
     done = λ j from below. at j below from (cases_lt k j);
     left = λ j before. back.left j (omega (arith, before));
-    none = λ j from before. none j from before (cases_lt k j);
+    none = past-line i k row back (bytes-elsewhere (section_behind program i) (suc k) other);
     up = omega (arith, back.up);
     within = back.within;
     here = back.here;
@@ -236,30 +240,18 @@ module _ (base : ℕ) (program : Program) where
           ∙ sym (kept-false i k (omega (arith, back.up)) (bytes-elsewhere (section_behind program k) (suc i) (λ e. other (sym e))))
           ∙ ap (paired_high_through base program (i + 1)) (sym same)
 
-      none : (j : ℕ) → k ≤ j → j < i → (k < j) ⊎ (j ≤ k) → has_bytes_in program (section_behind program i) (suc j) ≡ false
-      none j from before (inl after) = back.none j (omega (arith, after)) before
-      none j from before (inr to) =
-          ap (λ n. has_bytes_in program (section_behind program i) (suc n)) (let e : j ≡ k = omega (arith, from, to) in e)
-          ∙ bytes-elsewhere (section_behind program i) (suc k) other
-
   -- a line of the section without bytes is given the high half
   pub back-empty : (i k : ℕ) (row : List Entry) (high : Entry) → section_behind program k ≡ section_behind program i → size_at program (suc k) ≡ 0 → high ≡ high_at base program (suc i) → IsBack i (suc k) row → IsBack i k (set row k high)
   back-empty i k row high alike empty is back = record {
     many = length-set row k high ∙ back.many;
     done = λ j from below. at j below from (cases_lt k j);
     left = λ j before. get_or-set_other row k j high (Err NoPartner) (λ e. omega (arith, e, before)) ∙ back.left j (omega (arith, before));
-    none = λ j from before. none j from before (cases_lt k j);
+    none = past-line i k row back (bytes-none (section_behind program i) (suc k) empty);
     up = omega (arith, back.up);
     within = back.within;
     here = back.here;
   }
     where
-      none : (j : ℕ) → k ≤ j → j < i → (k < j) ⊎ (j ≤ k) → has_bytes_in program (section_behind program i) (suc j) ≡ false
-      none j from before (inl after) = back.none j (omega (arith, after)) before
-      none j from before (inr to) =
-          ap (λ n. has_bytes_in program (section_behind program i) (suc n)) (let e : j ≡ k = omega (arith, from, to) in e)
-          ∙ bytes-none (section_behind program i) (suc k) empty
-
       at : (j : ℕ) → j < length program → k ≤ j → (k < j) ⊎ (j ≤ k) → get_or (set row k high) j (Err NoPartner) ≡ paired_high_through base program (i + 1) j
       at j below from (inl after) =
           get_or-set_other row k j high (Err NoPartner) (λ e. omega (arith, e, after)) ∙ back.done j (omega (arith, after)) below
@@ -268,7 +260,7 @@ module _ (base : ℕ) (program : Program) where
           ap (λ n. get_or (set row k high) n (Err NoPartner)) same
           ∙ get_or-set_same row k high (Err NoPartner) (omega (arith, back.many, back.up, back.within)) ∙ is
           ∙ sym (given-here i k (omega (arith, back.up))
-          (λ m from' before. ap (λ s. has_bytes_in program s (suc m)) alike ∙ none m from' before (cases_lt k m))
+          (λ m from' before. ap (λ s. has_bytes_in program s (suc m)) alike ∙ past-line i k row back (bytes-none (section_behind program i) (suc k) empty) m from' before)
           (bytes-here (section_behind program k) (suc i) (sym alike) back.here))
           ∙ ap (paired_high_through base program (i + 1)) (sym same)
 

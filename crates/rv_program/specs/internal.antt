@@ -4,6 +4,7 @@ pub mod Briefs
 pub mod Compared
 pub mod Defining
 pub mod Differing
+pub mod EditedRows
 pub mod Fits
 pub mod Former
 pub mod Groups

@@ -38,10 +38,7 @@ impl Names for LineConstants<'_> {
     ghost environment = { λ c here. constants (in_row c.names.now c.row.now None) };
 
     fn symbol(&self, _here: u32, name: &[u8]) -> Result<i64, ValueFault> {
-        match self.constant(name) {
-            Some(value) => Ok(value),
-            None => Err(ValueFault::NotConstant),
-        }
+        self.constant(name).ok_or(ValueFault::NotConstant)
     }
 
     fn local(&self, _here: u32, _number: u16, _direction: Direction) -> Result<i64, ValueFault> {

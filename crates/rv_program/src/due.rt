@@ -55,8 +55,8 @@ fn differs_in_symbol(
     ensures { result ≡ not (same_values (values_of_body after.now.text.base (program_in after.now.text) line (EquBody definition.now)) (values_of_body before.now.text.base (program_in before.now.text) stood (EquBody definition.now))) }
 {
     let number = after.text.names.number(definition.symbol.bytes());
-    let value = symbol_value(after, definition, number, line);
-    !value.is_same(&symbol_value(before, definition, number, stood))
+    let value = symbol_value(after, number, line);
+    !value.is_same(&symbol_value(before, number, stood))
 }
 
 // Whether an `.equ` is due: it is new, or its symbol has another value than it had. All `.equ`s are invalidated.
@@ -171,7 +171,7 @@ fn is_carried(
     }
 }
 
-// It is as for `is_due`, by the brief of the line, which is mostly enough.
+// Like `is_due`, but usually decides from the line's brief alone.
 #[inline(always)]
 fn is_due_by_brief<C: Count>(
     before: &Before<'_, '_>,

@@ -14,6 +14,7 @@ use crate::definitions::defining_equ_on;
 use crate::groups::{Groups, Kind};
 use crate::line_names::references_before;
 use crate::lines_of_kind::lines_up_to;
+use crate::text_lines::place_on;
 use crate::text_rows::TextRows;
 use rv_expr::ValueFault;
 use rv_fix::Entry;
@@ -42,7 +43,8 @@ fn value_on<C: Count>(
     ensures encoded { C.encoded_count counter.new ≡ C.encoded_count counter.old }
 {
     let names = references_before(text, row, line);
-    defined_value(definition, &names, text.address(line), counter)
+    let here = place_on(text, line).address;
+    defined_value(definition, &names, here, counter)
 }
 
 /// Goes from the values of the first `i` lines to those of one line more: if the next line has the `.equ` that defines its

@@ -15,8 +15,8 @@ ghost use Rattle.rv_program.specs.Uses.{is_equ};
 
 use crate::symbol_rows::SymbolRows;
 use crate::text_lines::place_on;
-use crate::text_rows::{TextRows, address_in};
-use rv_expr::{Direction, Expr, Node, ValueFault};
+use crate::text_rows::{TextRows, address_of_found};
+use rv_expr::{Direction, Expr, Node};
 use rv_fix::{Entry, displacement, is_same_entry};
 use rv_stmt::{Body, Operand, OperandValue, Role};
 use rv_text::Count;
@@ -125,10 +125,10 @@ fn local_address(
     requires last { line ≤ length text.now.lines.now }
     ensures { result ≡ address_of_line text.now.base (program_in text.now) (local_line (program_in text.now) line number direction) }
 {
-    match text.locals.line_near(line, number, direction, near) {
-        Some(label) => Ok(i64::from(address_in(text.places, label))),
-        None => Err(ValueFault::Undefined),
-    }
+    address_of_found(
+        text.places,
+        text.locals.line_near(line, number, direction, near),
+    )
 }
 
 // How far a local label is from a line. `near` is as for `local_address`.

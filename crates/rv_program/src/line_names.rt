@@ -10,7 +10,7 @@ ghost use Rattle.rv_program.specs.internal.TextRows.{address_in, program_in, Are
 
 use crate::locals::Locals;
 use crate::names::{NameTable, entry_at, entry_of};
-use crate::text_rows::{TextRows, address_in};
+use crate::text_rows::{TextRows, address_in, address_of_found};
 use rv_expr::{Direction, LabelReference, Names, ValueFault};
 use rv_fix::Entry;
 use rv_list::{DefinitionPlace, LinePlace};
@@ -42,10 +42,7 @@ impl Names for LineNames<'_> {
     }
 
     fn local(&self, _here: u32, number: u16, direction: Direction) -> Result<i64, ValueFault> {
-        match self.locals.line(self.line, number, direction) {
-            Some(line) => Ok(i64::from(address_in(self.places, line))),
-            None => Err(ValueFault::Undefined),
-        }
+        address_of_found(self.places, self.locals.line(self.line, number, direction))
     }
 
     fn here(&self, here: u32) -> Result<i64, ValueFault> {
@@ -83,10 +80,10 @@ impl LineNames<'_> {
 pub(crate) fn high_in(highs: &[Entry], line: u32) -> Entry
     ensures { result ≡ high_in highs.now line }
 {
-    match highs.get((line as usize).saturating_sub(1)) {
-        Some(entry) => *entry,
-        None => Err(ValueFault::NoPartner),
-    }
+    highs
+        .get((line as usize).saturating_sub(1))
+        .copied()
+        .unwrap_or(Err(ValueFault::NoPartner))
 }
 
 // The line of the label that a name is.

@@ -1,6 +1,7 @@
 //! The values from which the code of a line is made.
 
 ghost use Rattle.std.specs.Prelude.{◌≡◌, ◌≤◌, ◌<◌, ◌+◌, ◌^◌, length, IfOk, IsTrue, ◌↔◌};
+ghost use Rattle.rv_stmt.specs.declared.directive.Definition.{Definition};
 ghost use Rattle.rv_stmt.specs.declared.statement.Body.{Body};
 ghost use Rattle.rv_stmt.specs.Statement.{operands_of};
 ghost use Rattle.rv_program.specs.declared.limits.TheConstants.{MAX_LINES};
@@ -21,7 +22,7 @@ use rv_expr::ValueFault;
 use rv_fix::{Entry, FixError, Values, is_same_entry, operand_values};
 use rv_layout::{Measured, is_code};
 use rv_list::DefinitionPlace;
-use rv_stmt::{Body, Definition};
+use rv_stmt::Body;
 use rv_text::Count;
 use std::alloc::Global;
 
@@ -63,19 +64,13 @@ impl LineValues {
     }
 }
 
-/// The value of the symbol of an `.equ`, if this defines it, by the symbol's number.
-pub(crate) fn symbol_value(
-    rows: &SymbolRows<'_>,
-    definition: &Definition,
-    number: Option<usize>,
-    line: u32,
-) -> LineValues
-    requires numbered { number_of rows.now.text.names.now definition.now.symbol ≡ number }
+/// The value of the symbol of the `.equ` on a line, if this defines it, by the symbol's number.
+pub(crate) fn symbol_value(rows: &SymbolRows<'_>, number: Option<usize>, line: u32) -> LineValues
     requires rows { AreSymbolRows rows.now }
     requires first { 1 ≤ line }
     requires last { line ≤ length rows.now.text.lines.now }
-    requires equ { body_at (program_in rows.now.text) line ≡ Body.Equ definition.now }
-    ensures { result ≡ values_of_body rows.now.text.base (program_in rows.now.text) line (Body.Equ definition.now) }
+    ensures { (d : Definition) → number_of rows.now.text.names.now d.symbol ≡ number → body_at (program_in rows.now.text) line ≡ Body.Equ d
+        → result ≡ values_of_body rows.now.text.base (program_in rows.now.text) line (Body.Equ d) }
 {
     let place = entry_at(rows.text.definitions, DefinitionPlace::Nowhere, number);
     let DefinitionPlace::Equ(equ) = place else {
@@ -112,7 +107,7 @@ fn values_of_body<C: Count>(
         Body::Align(_) => Ok(LineValues::Padding(is_code(place.section), place.size)),
         Body::Equ(definition) => {
             let number = rows.symbols.text.names.number(definition.symbol.bytes());
-            Ok(symbol_value(&rows.symbols, definition, number, line))
+            Ok(symbol_value(&rows.symbols, number, line))
         }
         _ => {
             let names = names_at(

@@ -32,7 +32,7 @@ fn lines_up_to_end(groups: &[Groups], begin: usize, end: usize, wanted: Groups) 
     end
 }
 
-// It is as for `lines_up_to_groups`, block by block.
+// Like `lines_up_to_groups`, but block by block.
 fn lines_up_by_blocks(groups: &[Groups], i: usize, wanted: Groups) -> usize
     requires within { i ≤ length groups.now }
     ensures up { i ≤ result }

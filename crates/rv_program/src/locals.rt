@@ -34,6 +34,16 @@ impl Model for Locals {
     ghost invariant = { λ l. AreRising l.rows.items };
 }
 
+/// The lines that rows of local labels have for a number: none where it has no row.
+pub fn lines_of(rows: &[Sequence<u32>], number: usize) -> &[u32]
+    ensures { result.now ≡ get_or rows.now number [] }
+{
+    match rows.get(number) {
+        Some(row) => row.as_slice(),
+        None => &[],
+    }
+}
+
 /// Whether one of some labels is a local one.
 pub fn has_local_labels(mut labels: LabelSlice<'_>) -> bool
     ensures { result ≡ has_local_labels labels.entry }
@@ -113,11 +123,10 @@ fn count_near(lines: &[u32], line: u32, near: usize) -> usize
     count_up_to(lines, line)
 }
 
-// The line among those of a local label, of which so many are this one or earlier ones.
-fn line_among(lines: &[u32], line: u32, direction: Direction, count: usize) -> Option<u32>
-    requires bound { count ≤ length lines.now }
-    requires parted { AreParted line lines.now count }
-    ensures { result ≡ line_among lines.now line direction }
+// The line of a local label among those that have it, of which so many are up to the line that names it.
+fn line_among(lines: &[u32], direction: Direction, count: usize) -> Option<u32>
+    requires { count ≤ length lines.now }
+    ensures { (line : ℕ) → AreParted line lines.now count → result ≡ line_among lines.now line direction }
 {
     let (up_to, above) = lines.split_at(count);
     match direction {
@@ -165,16 +174,19 @@ impl Locals {
         self.rows.as_slice()
     }
 
+    // The lines that have the local label of a number.
+    fn row(&self, number: u16) -> &[u32]
+        ensures lines { result.now ≡ get_or self.now number [] }
+        ensures rising { IsNonDecreasing result.now }
+    {
+        lines_of(self.rows.as_slice(), usize::from(number))
+    }
+
     /// How many lines up to this one have the local label of a number: looked for first where it would be if they stood evenly. A guess
     /// for `line_near`: no contract says that it is right.
     pub fn count(&self, line: u32, number: u16) -> usize {
-        match self.rows.get(usize::from(number)) {
-            Some(lines) => {
-                let lines = lines.as_slice();
-                count_near(lines, line, count_if_even(lines, line))
-            }
-            None => 0,
-        }
+        let lines = self.row(number);
+        count_near(lines, line, count_if_even(lines, line))
     }
 
     /// The same as `line`. `near` is a guess of how many lines up to this one have the label; the answer does not depend on it.
@@ -187,26 +199,23 @@ impl Locals {
     ) -> Option<u32>
         ensures { result ≡ local_line_in self.now line number direction }
     {
-        let lines = self.rows.get(usize::from(number))?.as_slice();
-        line_among(lines, line, direction, count_near(lines, line, near))
+        let lines = self.row(number);
+        line_among(lines, direction, count_near(lines, line, near))
     }
 
     /// The line of a local label as a line names it: `b` is the last one up to this line, `f` the first one after it.
     pub fn line(&self, line: u32, number: u16, direction: Direction) -> Option<u32>
         ensures { result ≡ local_line_in self.now line number direction }
     {
-        let lines = self.rows.get(usize::from(number))?.as_slice();
-        line_among(lines, line, direction, count_up_to(lines, line))
+        let lines = self.row(number);
+        line_among(lines, direction, count_up_to(lines, line))
     }
 
     // The last line that has the local label of a number, or 0.
     fn last(&self, number: u16) -> u32
         ensures { (i : ℕ) → i < result → is_some (local_line_in self.now i number Forward) ≡ true }
     {
-        match self.rows.get(usize::from(number)) {
-            Some(lines) => lines.as_slice().last().copied().unwrap_or(0),
-            None => 0,
-        }
+        self.row(number).last().copied().unwrap_or(0)
     }
 
     /// From which line on `f` may name the line `end`, which is behind all others and has these labels: each line before that finds each

@@ -16,7 +16,7 @@ use crate::edit::LineEdit;
 use crate::limits::MAX_LINES;
 use crate::line::Line;
 use crate::lines::Lines;
-use crate::locals::Locals;
+use crate::locals::{Locals, lines_of};
 use rv_stmt::{LabelName, LabelSlice};
 use rv_text::Sequence;
 use std::alloc::{AllocError, Global};
@@ -146,16 +146,6 @@ fn row_after(
     }
     push_moved(&mut row, lines, edit)?;
     Ok(row)
-}
-
-// The lines of a number before an edit.
-fn lines_of(rows: &[Sequence<u32>], number: usize) -> &[u32]
-    ensures { result.now ≡ get_or rows.now number [] }
-{
-    match rows.get(number) {
-        Some(row) => row.as_slice(),
-        None => &[],
-    }
 }
 
 // The lines of all numbers after an edit, by those before it. The line that the edit puts in has these labels.

@@ -4,12 +4,12 @@
 ghost use Rattle.std.specs.Prelude.{◌≡◌, ◌≤◌, ◌<◌, ◌-◌, ℕ, List, Some, None, length, IfOk};
 ghost use Rattle.rv_stmt.specs.Statement.{statement_of};
 ghost use Rattle.rv_list.specs.declared.view.DefinitionPlace.TheVariants.{Nowhere};
-ghost use Rattle.rv_program.specs.internal.Defining.{also_on, Holds};
+ghost use Rattle.rv_program.specs.internal.Defining.{also_on};
 ghost use Rattle.rv_program.specs.Definitions.{place_in_statement};
 ghost use Rattle.rv_program.specs.Edits.{edit_of, place_of_edit};
 ghost use Rattle.rv_program.specs.internal.MovedDefinitions.{is_on, takes_out, line_after_edit, moved_place, place_after, found_after, kept_after, put_in};
 ghost use Rattle.rv_program.specs.Program.{program_of};
-ghost use Rattle.rv_program.specs.internal.Rows.{number_of, in_row, Grows, AreDefinitions};
+ghost use Rattle.rv_program.specs.internal.Rows.{number_of, in_row, Grows, HoldsByName, AreDefinitions};
 ghost use Rattle.rv_program.specs.Text.{refusal_of, lines_after};
 
 use crate::definitions::{define_line, number_line};
@@ -129,7 +129,7 @@ fn define_with_numbers(
     row: &mut Vec<DefinitionPlace>,
 ) -> Result<(), AllocError>
     requires { length row.old.items ≤ length names.old }
-    ensures row { IfOk result (λ _. Holds names.new row.new.items (also_on number (in_row names.old row.old.items Nowhere) (place_in_statement number (statement_of line.now)))) }
+    ensures row { IfOk result (λ _. HoldsByName names.new row.new.items Nowhere (also_on number (in_row names.old row.old.items Nowhere) (place_in_statement number (statement_of line.now)))) }
     ensures names { Grows names.old names.new }
 {
     number_line(alloc, line, names)?;
@@ -150,7 +150,7 @@ fn define_put_in(
     requires allowed { refusal_of old.now (edit_of edit.now) ≡ None }
     requires edited { lines.now ≡ lines_after old.now (edit_of edit.now) }
     requires named { length row.old.items ≤ length names.old }
-    ensures row { IfOk result (λ _. Holds names.new row.new.items (also_on (place_of_edit (edit_of edit.now)) (in_row names.old row.old.items Nowhere) (put_in (edit_of edit.now)))) }
+    ensures row { IfOk result (λ _. HoldsByName names.new row.new.items Nowhere (also_on (place_of_edit (edit_of edit.now)) (in_row names.old row.old.items Nowhere) (put_in (edit_of edit.now)))) }
     ensures names { Grows names.old names.new }
 {
     match *edit {

@@ -158,10 +158,10 @@ impl NameSet {
         ensures { result ≡ mark_of self.now bucket }
     {
         match &self.marks {
-            Some(marks) => match marks.get(usize::from(bucket)) {
-                Some(mark) => *mark,
-                None => Mark::Unknown,
-            },
+            Some(marks) => marks
+                .get(usize::from(bucket))
+                .copied()
+                .unwrap_or(Mark::Unknown),
             None => Mark::Changed,
         }
     }

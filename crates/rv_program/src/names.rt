@@ -108,8 +108,5 @@ pub fn entry_at<T: Copy>(row: &[T], other: T, number: Option<usize>) -> T
     let Some(number) = number else {
         return other;
     };
-    match row.get(number) {
-        Some(entry) => *entry,
-        None => other,
-    }
+    row.get(number).copied().unwrap_or(other)
 }

@@ -50,10 +50,7 @@ fn ahead_of_next(ahead: &[u32], k: u32) -> Option<&[u32]>
 fn first_of(lines: &[u32]) -> u32
     ensures { result ≡ get_or lines.now 0 (2 ^ 32 - 1) }
 {
-    match lines {
-        [line, ..] => *line,
-        [] => u32::MAX,
-    }
+    lines.first().copied().unwrap_or(u32::MAX)
 }
 
 impl<'a, 'e, C: Count> Pass<Item> for Renewal<'a, 'e, C> {

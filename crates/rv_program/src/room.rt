@@ -5,8 +5,7 @@ ghost use Rattle.std.specs.Prelude.{◌≡◌, ◌≤◌, [], replicate, vec_cap
 use rv_fix::Entry;
 use std::alloc::{AllocError, Global};
 
-// Rows have room for a multiple of so many lines, so that those of a text that grows line by line mostly fit where the rows before
-// them lay.
+// Capacity is rounded up to a multiple of this, so that a text growing line by line can usually reuse its previous allocation.
 const STEP: usize = 1024;
 
 /// How many entries there is room for in a row of so many.

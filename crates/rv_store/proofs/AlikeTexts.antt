@@ -17,8 +17,8 @@ use Rattle.rv_store.specs.internal.StillLines.{IsStillLine}
 use Rattle.rv_program.specs.Text.{Replace}
 use Rattle.rv_store.proofs.AlikeLaws.{nothing_touched, put, shape-put, ends-same, place-same, alike-still}
 use Rattle.rv_store.proofs.ApartLines.{untouched}
+use Rattle.rv_program.specs.lemmas.LineRows.{row-through}
 use Rattle.rv_program.specs.lemmas.Programs.{length-program}
-use Rattle.rv_store.proofs.StillLaws.{lines_that-still}
 use Rattle.rv_store.proofs.StillTexts.{set-set_or_push}
 
 pub replaced-put : (lines : List (List ℕ)) (k : ℕ) (line : List ℕ) → 1 ≤ k → k ≤ length lines → IsPutEdit lines (Replace k line) k line
@@ -31,9 +31,9 @@ replaced-put lines k line first last = record {
 -- line k alone is due, where no name is touched, and local labels are for no line
 one-line : (touched : Touched) (p : Program) (k n : ℕ) → 1 ≤ k → k ≤ n → ((name : List ℕ) → touched.names name ≡ false) → n < touched.from → lines_that (is_put_or_uses touched p k) n ≡ k ∷ []
 one-line touched p k n first last none beyond =
-    lines_that-still (is_put_or_uses touched p k) (is_put_or_uses touched p k) k n last (λ i from to. refl) (λ i past to. apart i to (λ e. omega (arith, e, past)))
+    sym (row-through (is_put_or_uses touched p k) k n last (λ i past to. apart i to (λ e. omega (arith, e, past))))
     ∙ ap (lines_that (is_put_or_uses touched p k)) (sym next)
-    ∙ (λ j. lines_that-still (is_put_or_uses touched p k) (is_put_or_uses touched p k) 0 (k - 1) (omega arith) (λ i from to. refl) (λ i from to. apart i (omega (arith, to, last)) (λ e. omega (arith, e, to, first))) j
+    ∙ (λ j. sym (row-through (is_put_or_uses touched p k) 0 (k - 1) (omega arith) (λ i from to. apart i (omega (arith, to, last)) (λ e. omega (arith, e, to, first)))) j
     ++ (if here j then next j ∷ [] else []))
   where
     next : suc (k - 1) ≡ k

@@ -1,10 +1,7 @@
 -- Edits of a column of lines, and the edits that take them back.
-use Rattle.std.proofs.Common.{◌≡◌, ℕ, zero, suc, ◌<◌, ◌≤◌, List, [], ◌∷◌, length, set, get_or, None, arith, ap, ◌∙◌, refl}
+use Rattle.std.proofs.Common.{◌≡◌, ℕ, zero, suc, ◌<◌, ◌≤◌, List, [], ◌∷◌, length, set, get_or, arith, ap, ◌∙◌, refl}
 use Rattle.std.specs.Prelude.{insert, remove}
 use Rattle.std.proofs.lemmas.List.{set-get_or, set-set}
-use Rattle.rv_store.specs.internal.Column.{HasPlace}
-use Rattle.rv_program.specs.Text.{Edit, Insert, Delete, Replace, refusal_of}
-use Rattle.rv_program.specs.lemmas.EarlierLines.{insert_within, delete_within, replace_within}
 
 -- what was put in is taken out
 pub removed-inserted : {A : Type 0} (xs : List A) (i : ℕ) (x : A) → i ≤ length xs → remove (insert xs i x) i ≡ xs
@@ -25,9 +22,3 @@ set-same xs i a there = ap (set xs i) there ∙ set-get_or xs i a
 -- what was there is put back
 pub set-back : {A : Type 0} (xs : List A) (i : ℕ) (a b : A) → b ≡ get_or xs i b → set (set xs i a) i b ≡ xs
 set-back xs i a b there = set-set xs i a b ∙ set-same xs i b there
-
--- an edit that is not refused has its place
-pub has_place : (lines : List (List ℕ)) (edit : Edit) → refusal_of lines edit ≡ None → HasPlace lines edit
-has_place lines (Insert place line) allowed = insert_within lines place line allowed
-has_place lines (Delete place) allowed = delete_within lines place allowed
-has_place lines (Replace place line) allowed = replace_within lines place line allowed

@@ -25,12 +25,10 @@ counted-after base lines after edit old new surveyed is parsed least few work_fe
       encoded_most = codes;
     }
 
--- the same, where the lines of the text are known by another name
-pub counted-renewed : (base : ℕ) (lines after text : List (List ℕ)) (edit : Edit) (old surveyed new : Counts) → after ≡ lines_after lines edit → text ≡ after → surveyed.parsed ≡ old.parsed → old.valued ≤ surveyed.valued → surveyed.valued ≤ old.valued + 4 * length after → surveyed.valued + shape_operands edit ≤ old.valued + work survey_operands base lines edit (length after) → surveyed.encoded ≡ old.encoded
-    → AreCountedRenewed (record { base = base; lines = lines; edit = edit }) (length text) surveyed new → AreCountedAfter base lines edit old new
-counted-renewed base lines after text edit old surveyed new is same parsed least few work_few encoded counted =
-    let count : length text ≡ length after = ap length same in
-    let all = subst (λ n. AreCountedRenewed (record { base = base; lines = lines; edit = edit }) n surveyed new) count counted in
+-- the same by what the codes take together
+pub counted-renewed : (base : ℕ) (lines after : List (List ℕ)) (edit : Edit) (old surveyed new : Counts) → after ≡ lines_after lines edit → surveyed.parsed ≡ old.parsed → old.valued ≤ surveyed.valued → surveyed.valued ≤ old.valued + 4 * length after → surveyed.valued + shape_operands edit ≤ old.valued + work survey_operands base lines edit (length after) → surveyed.encoded ≡ old.encoded
+    → AreCountedRenewed (record { base = base; lines = lines; edit = edit }) (length after) surveyed new → AreCountedAfter base lines edit old new
+counted-renewed base lines after edit old surveyed new is parsed least few work_few encoded all =
     let codes = subst (λ ls. new.encoded ≤ surveyed.encoded + length (lines_that (is_reencoded base lines edit) (length ls))) is all.encoded_most in
     counted-after base lines after edit old new surveyed.valued is (all.parsed ∙ parsed) least few work_few all.valued_least all.valued_few all.valued_most
     (let fewest = all.encoded_least in omega (arith, fewest, encoded)) (let most = all.encoded_few in omega (arith, most, encoded)) (omega (arith, codes, encoded))

@@ -27,7 +27,8 @@ use Rattle.rv_store.proofs.AppendLaws.{end-still}
 use Rattle.rv_store.proofs.EndBases.{ends-together, base-ends}
 use Rattle.rv_store.proofs.LongerPrograms.{more, shape-last, shapes-more}
 use Rattle.rv_store.proofs.LongerTexts.{program-longer}
-use Rattle.rv_store.proofs.StillLaws.{lines_that-same, equ_value-still}
+use Rattle.rv_program.specs.lemmas.LineRows.{lines_that-same}
+use Rattle.rv_store.proofs.StillLaws.{equ_value-still}
 use Rattle.rv_store.proofs.StillTexts.{end-set_or_push}
 use Rattle.rv_program.specs.lemmas.Programs.{length-for_lines, length-program}
 use Rattle.rv_store.proofs.ShapeRows.{limited-push}
@@ -109,8 +110,8 @@ ending-line base lines line from shapes before given due are limited few apart n
       ends = all ∙ ap ends_of rows ∙ ap (λ r. ends_of (shapes_of r)) after;
       place = place ∙ (λ i. place_by_shapes base (rows i) (suc (length shapes))) ∙ ap (place_by_shapes base (shapes_of (more p s))) (ap suc (count ∙ sym from_program)) ∙ (λ j. place_at base (after j) (number j));
       nothing = nothing;
-      those = those ∙ lines_that-same (uses_any (touches p s from) p) (is_put_or_uses (touches p s from) p (length lines + 1)) (length lines)
-          (λ i first last. ap (λ b. b || uses_any (touches p s from) p i) (sym (ne_eqb i (length lines + 1) (λ e. omega (arith, e, last)))));
+      those = those ∙ lines_that-same (is_put_or_uses (touches p s from) p (length lines + 1)) (uses_any (touches p s from) p) (length lines)
+          (λ i less. ap (λ b. b || uses_any (touches p s from) p (suc i)) (sym (ne_eqb (suc i) (length lines + 1) (λ e. omega (arith, e, less)))));
       last = λ defines. (
         omega arith,
         ap (λ r. equ_value base r (length lines)) (program-longer lines line) ∙ equ_value-still still (length lines) (omega (arith, from_program)),

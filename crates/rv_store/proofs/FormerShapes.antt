@@ -1,11 +1,10 @@
 -- The shapes of the lines of a text after an edit, line by line from those before it.
-use Rattle.std.proofs.Common.{◌≡◌, ℕ, suc, ℤ, ◌+◌, ◌-◌, ◌<◌, ◌≤◌, ◌⊎◌, inl, inr, Bool, true, false, ◌&&◌, List, [], ◌∷◌, ◌++◌, length, get_or, set, drop, Option, Some, None, arith, ap, sym, ◌∙◌, refl}
-use Rattle.std.specs.Prelude.{insert, remove}
+use Rattle.std.proofs.Common.{◌≡◌, ℕ, suc, ℤ, ◌+◌, ◌-◌, ◌<◌, ◌≤◌, Bool, true, false, ◌&&◌, List, [], ◌∷◌, ◌++◌, length, get_or, set, drop, Option, Some, None, arith, ap, sym, ◌∙◌, refl}
 use Rattle.std.specs.List.{list_any}
 use Rattle.std.proofs.Math.Seq.{get_or-append_seam, set-append_seam}
 use Rattle.std.proofs.lemmas.List.{append-nil, append_assoc, drop_all, drop_more, length-append, length-drop}
-use Rattle.std.proofs.lemmas.List.Edits.{length-insert, get_or-insert_at, get_or-insert_below, get_or-insert_above, length-remove, get_or-remove_below, get_or-remove_above}
-use Rattle.std.proofs.lemmas.List.{length-set, get_or-set_same, get_or-set_other}
+use Rattle.std.proofs.lemmas.List.Edits.{get_or-insert_at}
+use Rattle.std.proofs.lemmas.List.{get_or-set_same}
 use Rattle.rv_stmt.specs.declared.directive.Definition.{Definition}
 use Rattle.rv_stmt.specs.declared.statement.Body.{Body}
 use Rattle.rv_stmt.specs.declared.statement.Body.TheVariants.{Equ as EquBody}
@@ -14,71 +13,22 @@ use Rattle.rv_layout.specs.declared.measured.Measured.{Measured}
 use Rattle.rv_layout.specs.declared.measured.Measured.TheVariants.{Nothing}
 use Rattle.rv_program.specs.declared.before.Before.{Before}
 use Rattle.rv_program.specs.internal.Before.{IsBefore, lines_before, edit_on}
-use Rattle.rv_store.specs.internal.Column.{HasPlace}
+use Rattle.rv_program.specs.internal.EditedRows.{HasPlace, edited_row}
 use Rattle.rv_program.specs.Constants.{constant_through, constant_of}
 use Rattle.rv_program.specs.Edits.{line_before_edit, place_of_edit}
-use Rattle.rv_store.specs.internal.EditedRows.{edited_row, shape_or, former_shape, shapes_through}
+use Rattle.rv_store.specs.internal.EditedRows.{shape_or, former_shape, shapes_through}
 use Rattle.rv_program.specs.Layout.{shape_at}
 use Rattle.rv_program.specs.internal.NewShapes.{IsNewShape}
 use Rattle.rv_program.specs.Program.{Program, program_of, body_at, for_lines}
 use Rattle.rv_program.specs.internal.Rows.{AreConstants}
 use Rattle.rv_program.specs.Text.{Edit, Insert, Delete, Replace, lines_after}
 use Rattle.rv_program.specs.Uses.{names_used, is_sized, is_equ, uses_symbols}
-use Rattle.rv_store.proofs.Columns.{has_place}
 use Rattle.rv_program.specs.lemmas.ConstantRows.{constants-kept}
-use Rattle.rv_program.specs.lemmas.EarlierLines.{insert_before, delete_before, replace_before}
+use Rattle.rv_program.specs.lemmas.EarlierLines.{has_place, length-edited, edited-at, count-after}
 use Rattle.rv_program.specs.lemmas.KeptShapes.{body-on, differs_from, shape-before, shape-stays}
 use Rattle.rv_program.specs.lemmas.NewShapeLaws.{deleted-stood, new-place, shape-at_place}
 use Rattle.rv_program.specs.lemmas.TextLines.{length_of_shapes}
 use Rattle.rv_program.specs.lemmas.Programs.{length-for_lines}
-
--- How many there are
-
-former-count : {A : Type 0} (ms : List A) (lines : List (List ℕ)) (edit : Edit) (shape : A) → length ms ≡ length lines → HasPlace lines edit → length (edited_row ms edit shape) ≡ length (lines_after lines edit)
-former-count ms lines (Insert place line) shape count has =
-    length-insert ms (place - 1) shape (omega (arith, has.0, has.1, count))
-    ∙ ap (λ n. n + 1) count
-    ∙ sym (length-insert lines (place - 1) line (omega (arith, has.0, has.1)))
-former-count ms lines (Delete place) shape count has =
-    let shapes = length-remove ms (place - 1) (omega (arith, has.0, has.1, count)) in
-    let texts = length-remove lines (place - 1) (omega (arith, has.0, has.1)) in
-    omega (arith, shapes, texts, count)
-former-count ms lines (Replace place line) shape count has =
-    length-set ms (place - 1) shape ∙ count ∙ sym (length-set lines (place - 1) line)
-
--- That of a line that stood in the text before
-
-pub former-at : {A B : Type 0} (ms : List A) (lines : List B) (edit : Edit) (shape : A) (k j : ℕ) (other : A) → length ms ≡ length lines → HasPlace lines edit → 1 ≤ k → line_before_edit edit k ≡ Some j → get_or (edited_row ms edit shape) (k - 1) other ≡ get_or ms (j - 1) other
-former-at ms lines (Insert place line) shape k j other count has first h = at (insert_before place line k j h)
-  where
-    room : place - 1 ≤ length ms
-    room = omega (arith, has.0, has.1, count)
-
-    at : ((k < place) × (j ≡ k)) ⊎ ((place < k) × (j ≡ k - 1)) → get_or (insert ms (place - 1) shape) (k - 1) other ≡ get_or ms (j - 1) other
-    at (inl (less, same)) =
-        get_or-insert_below ms (place - 1) shape other (k - 1) (omega (arith, first, less)) room ∙ ap (λ i. get_or ms (i - 1) other) (sym same)
-    at (inr (more, same)) =
-        let back : k - 2 + 1 ≡ k - 1 = omega (arith, more, has.0) in
-        let above : place - 1 ≤ k - 2 = omega (arith, more) in
-        let one : k - 2 ≡ j - 1 = omega (arith, same) in
-        ap (λ i. get_or (insert ms (place - 1) shape) i other) (sym back)
-        ∙ get_or-insert_above ms (place - 1) shape other (k - 2) above room
-        ∙ ap (λ i. get_or ms i other) one
-former-at ms lines (Delete place) shape k j other count has first h = at (delete_before place k j h)
-  where
-    there : place - 1 < length ms
-    there = omega (arith, has.0, has.1, count)
-
-    at : ((k < place) × (j ≡ k)) ⊎ ((place ≤ k) × (j ≡ k + 1)) → get_or (remove ms (place - 1)) (k - 1) other ≡ get_or ms (j - 1) other
-    at (inl (less, same)) =
-        get_or-remove_below ms (place - 1) other (k - 1) (omega (arith, first, less)) there ∙ ap (λ i. get_or ms (i - 1) other) (sym same)
-    at (inr (more, same)) =
-        let one : k - 1 + 1 ≡ j - 1 = omega (arith, first, same) in
-        get_or-remove_above ms (place - 1) other (k - 1) (omega (arith, more)) there ∙ ap (λ i. get_or ms i other) one
-former-at ms lines (Replace place line) shape k j other count has first h =
-    let is = replace_before place line k j h in
-    let apart : k - 1 ≡ place - 1 → ⊥ = λ e. is.0 (omega (arith, e, first, has.0)) in
-    get_or-set_other ms (place - 1) (k - 1) shape other apart ∙ ap (λ i. get_or ms (i - 1) other) (sym is.1)
 
 -- That of the line that the edit puts in
 
@@ -106,13 +56,14 @@ module _ (before : Before) (is : IsBefore before) (lines : List (List ℕ)) (aft
 
   pub former-length : length former ≡ length lines
   former-length =
-      former-count before.shapes.now (lines_before before) (edit_on before) shape (shape_count before is) (place before is) ∙ sym (ap length after)
+      length-edited before.shapes.now (lines_before before) (edit_on before) shape (shape_count before is) (place before is)
+      ∙ sym (ap length after ∙ count-after (lines_before before) (edit_on before) (place before is))
 
   pub former-stood : (i j : ℕ) (other : Measured) → i < length lines → line_before_edit (edit_on before) (i + 1) ≡ Some j → get_or former i other ≡ shape_at (program_of (lines_before before)) j
   former-stood i j other within stood =
       let back : i ≡ i + 1 - 1 = omega arith in
       ap (λ n. get_or former n other) back
-      ∙ former-at before.shapes.now (lines_before before) (edit_on before) shape (i + 1) j other (shape_count before is) (place before is) (omega arith) stood
+      ∙ edited-at before.shapes.now (lines_before before) (edit_on before) shape (i + 1) j other (shape_count before is) (place before is) (omega arith) stood
       ∙ shape-before before is lines after i j within stood other
 
   module _ (new : IsNewShape (lines_before before) (edit_on before) shape) where

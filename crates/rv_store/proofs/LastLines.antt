@@ -41,7 +41,8 @@ use Rattle.rv_store.proofs.EndLaws.{at-section, ends_of-push}
 use Rattle.rv_store.proofs.Endings.{ending-line}
 use Rattle.rv_store.proofs.LongerPrograms.{shapes-more, for_lines-same}
 use Rattle.rv_store.proofs.LongerTexts.{count-longer, program-longer}
-use Rattle.rv_store.proofs.StillLaws.{lines_that-still, shape-still, locals-put, highs-back, paired_highs-back, values-still, code-still, constant-all, equ_value-all}
+use Rattle.rv_program.specs.lemmas.LineRows.{row-through}
+use Rattle.rv_store.proofs.StillLaws.{shape-still, locals-put, highs-back, paired_highs-back, values-still, code-still, constant-all, equ_value-all}
 use Rattle.rv_store.proofs.StillTexts.{end-set_or_push}
 
 -- Rows without their last value
@@ -282,10 +283,10 @@ module _ {base : ℕ} {lines : List (List ℕ)} {line : List ℕ} {there : Still
   -- it changes no other line
   pub nothing_changed : changed_lines base (lines ++ line ∷ []) deletion ≡ []
   nothing_changed =
-      lines_that-still (is_changed base (lines ++ line ∷ []) deletion) (is_changed base (lines ++ line ∷ []) deletion) 0 (length (lines_after (lines ++ line ∷ []) deletion)) (omega arith) (λ i first last. refl)
+      sym (row-through (is_changed base (lines ++ line ∷ []) deletion) 0 (length (lines_after (lines ++ line ∷ []) deletion)) (omega arith)
       (λ i first last.
       let within : i ≤ length lines = omega (arith, last, ap length lines-without) in
       let there : IsOther without (length lines + 1) i = other i (omega (arith, first)) within in
       let stood : nat_lt i (suc (length lines)) ≡ true = lt-ltb i (suc (length lines)) (omega (arith, within)) in
       (λ j. is_new_or (differs_in_code base whole (program_of (lines-without j)) i) (if stood j then Some i else Some (i + 1)))
-      ∙ not_from_true _ ((same_code-Decides _ _).1 (sym (code-still still i there (unused i there)))))
+      ∙ not_from_true _ ((same_code-Decides _ _).1 (sym (code-still still i there (unused i there))))))

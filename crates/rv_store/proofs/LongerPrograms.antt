@@ -1,5 +1,5 @@
 -- A text with one statement more at its end: what the lines before it define, and their shapes.
-use Rattle.std.proofs.Common.{◌≡◌, ℕ, zero, suc, ◌+◌, ◌-◌, ◌≤◌, List, [], ◌∷◌, ◌++◌, length, get_or, arith, ap, sym, ◌∙◌, refl}
+use Rattle.std.proofs.Common.{◌≡◌, ℕ, zero, suc, ◌+◌, ◌-◌, ◌≤◌, List, [], ◌∷◌, ◌++◌, length, get_or, arith, ap, ◌∙◌, refl}
 use Rattle.std.proofs.lemmas.List.{length-append, get_or_append_left}
 use Rattle.std.proofs.Math.Seq.{get_or-append_seam}
 use Rattle.std.proofs.Math.Path.{fun_ext}
@@ -8,11 +8,12 @@ use Rattle.rv_layout.specs.Shapes.{shape_of}
 use Rattle.rv_store.specs.internal.Appended.{shape_at_end}
 use Rattle.rv_program.specs.Constants.{constant_through}
 use Rattle.rv_program.specs.internal.Defining.{then_also}
-use Rattle.rv_program.specs.Definitions.{or_place, place_in_statement, first_place, definition_of, is_equ_on}
+use Rattle.rv_program.specs.Definitions.{or_place, place_in_statement, definition_of, is_equ_on}
 use Rattle.rv_program.specs.Layout.{shape_at, shapes_of}
 use Rattle.rv_program.specs.Program.{Program, no_statement, statement_at, body_at, for_lines}
-use Rattle.rv_program.specs.lemmas.DefinitionRows.{or_place-nowhere, or_place-assoc}
+use Rattle.rv_program.specs.lemmas.DefinitionRows.{or_place-nowhere}
 use Rattle.rv_program.specs.lemmas.EarlierConstants as earlier
+use Rattle.rv_program.specs.lemmas.MovedDefinitionLaws.{first-append}
 
 pub for_lines-same : {A : Type 0} (f g : ℕ → A) (n : ℕ) → ((i : ℕ) → 1 ≤ i → i ≤ n → f i ≡ g i) → for_lines f n ≡ for_lines g n
 for_lines-same f g zero same = refl
@@ -44,21 +45,13 @@ module _ (p : Program) (s : Stmt) where
 
   -- Definitions
 
-  first_place-more : (line : ℕ) (ss : Program) (name : List ℕ) → first_place line (ss ++ s ∷ []) name ≡ or_place (first_place line ss name) (place_in_statement (line + length ss) s name)
-  first_place-more line [] name =
-      let here : line ≡ line + 0 = omega arith in
-      or_place-nowhere (place_in_statement line s name) ∙ ap (λ n. place_in_statement n s name) here
-  first_place-more line (t ∷ ss) name =
-      let next : line + 1 + length ss ≡ line + suc (length ss) = omega arith in
-      ap (or_place (place_in_statement line t name)) (first_place-more (line + 1) ss name)
-      ∙ sym (or_place-assoc (place_in_statement line t name) (first_place (line + 1) ss name) (place_in_statement (line + 1 + length ss) s name))
-      ∙ ap (λ n. or_place (first_place line (t ∷ ss) name) (place_in_statement n s name)) next
-
   -- the text defines what it defined, and then what the last line defines
   pub definitions-more : definition_of more ≡ then_also (definition_of p) (place_in_statement (suc (length p)) s)
   definitions-more =
       let last : 1 + length p ≡ suc (length p) = omega arith in
-      fun_ext (λ name. first_place-more 1 p name ∙ ap (λ n. or_place (definition_of p name) (place_in_statement n s name)) last)
+      fun_ext (λ name.
+      first-append 1 p (s ∷ []) name
+      ∙ ap (or_place (definition_of p name)) (or_place-nowhere (place_in_statement (1 + length p) s name) ∙ ap (λ n. place_in_statement n s name) last))
 
   -- the earlier lines define the same constants
   pub equ-earlier : (m : ℕ) (name : List ℕ) → m ≤ length p → is_equ_on m (definition_of more name) ≡ is_equ_on m (definition_of p name)

@@ -21,7 +21,8 @@ use Rattle.rv_program.specs.lemmas.KeptShapes.{body-on}
 use Rattle.rv_program.specs.lemmas.NewShapeLaws.{through-next}
 use Rattle.rv_program.specs.lemmas.Programs.{kept-past}
 use Rattle.rv_program.specs.lemmas.ShapeWork.{operands-next}
-use Rattle.rv_store.specs.internal.EditedRows.{edited_row, shapes_through}
+use Rattle.rv_program.specs.internal.EditedRows.{edited_row}
+use Rattle.rv_store.specs.internal.EditedRows.{shapes_through}
 use Rattle.rv_store.proofs.FormerShapes.{former, former-length, former-stays, constants-stay, through-kept}
 
 -- the rows after the first i lines, where so many expressions were computed before them, and so many are now

@@ -11,7 +11,7 @@ use Rattle.rv_program.specs.Program.{program_of}
 use Rattle.rv_program.specs.Text.{Edit, Insert, Delete, Replace}
 use Rattle.rv_program.specs.internal.Rows.{in_row, AreConstants}
 use Rattle.rv_program.specs.lemmas.KeptShapes.{shape-on}
-use Rattle.rv_store.specs.internal.EditedRows.{edited_row}
+use Rattle.rv_program.specs.internal.EditedRows.{edited_row}
 
 limited-append : (ms ns : List Measured) → AreLimited ms → AreLimited ns → AreLimited (ms ++ ns)
 limited-append [] ns first rest = rest

@@ -35,27 +35,10 @@ use Rattle.rv_program.specs.lemmas.ConstantRows.{constant-kept}
 use Rattle.rv_program.specs.lemmas.DefinitionLaws.{IsWithin, definition-within}
 use Rattle.rv_program.specs.lemmas.EquLaws.{equ_value-kept}
 use Rattle.rv_program.specs.lemmas.LineNameLaws.{IsLine, local_line-is, high-by, label_line-within}
+use Rattle.rv_program.specs.lemmas.LineRows.{lines_that-same}
+use Rattle.rv_program.specs.lemmas.Programs.{kept-up}
 
 -- Lines that pass a test, where no line behind the first n does
-
-pub lines_that-same : (f g : ℕ → Bool) (n : ℕ) → ((i : ℕ) → 1 ≤ i → i ≤ n → f i ≡ g i) → lines_that f n ≡ lines_that g n
-lines_that-same f g zero same = refl
-lines_that-same f g (suc n) same =
-    let earlier = lines_that-same f g n (λ i first last. same i first (omega (arith, last))) in
-    let here = same (suc n) (omega arith) (omega arith) in
-    λ j. earlier j ++ (if here j then suc n ∷ [] else [])
-
-pub lines_that-still : (f g : ℕ → Bool) (n m : ℕ) → n ≤ m → ((i : ℕ) → 1 ≤ i → i ≤ n → f i ≡ g i) → ((i : ℕ) → n < i → i ≤ m → f i ≡ false) → lines_that f m ≡ lines_that g n
-lines_that-still f g n zero up same none =
-    let is : n ≡ 0 = omega (arith, up) in sym (ap (lines_that g) is)
-lines_that-still f g n (suc m) up same none = at (cases_lt m n) (λ more. lines_that-still f g n m more same (λ i past last. none i past (omega (arith, last))))
-  where
-    at : (m < n) ⊎ (n ≤ m) → (n ≤ m → lines_that f m ≡ lines_that g n) → lines_that f (suc m) ≡ lines_that g n
-    at (inl all) rest =
-        let is : suc m ≡ n = omega (arith, all, up) in ap (lines_that f) is ∙ lines_that-same f g n same
-    at (inr more) rest =
-        let no = none (suc m) (omega (arith, more)) (omega arith) in
-        (λ j. rest more j ++ (if no j then suc m ∷ [] else [])) ∙ append-nil (lines_that g n)
 
 last_line-same : (f g : ℕ → Bool) (n : ℕ) → ((i : ℕ) → 1 ≤ i → i ≤ n → f i ≡ g i) → last_line f n ≡ last_line g n
 last_line-same f g zero same = refl
@@ -98,12 +81,7 @@ no_equ_after n k (Equ line) past within = ne_eqb line k (λ same. omega (arith, 
 
 -- what no line behind the first n changes
 steady : {A : Type 0} (f : ℕ → A) (n m : ℕ) → n ≤ m → ((i : ℕ) → n ≤ i → f (suc i) ≡ f i) → f m ≡ f n
-steady f n zero up step = ap f (let e : 0 ≡ n = omega (arith, up) in e)
-steady f n (suc m) up step = at (cases_lt m n) (λ more. steady f n m more step)
-  where
-    at : (m < n) ⊎ (n ≤ m) → (n ≤ m → f m ≡ f n) → f (suc m) ≡ f n
-    at (inl all) rest = ap f (let e : suc m ≡ n = omega (arith, all, up) in e)
-    at (inr more) rest = step m more ∙ rest more
+steady f n m up step = kept-up (λ i. f i ≡ f n) n m up (λ i past last so_far. step i past ∙ so_far) refl
 
 -- every `.equ` is on one of the lines
 by_definition-all : (address : ℕ → ℕ) (n m : ℕ) (place : DefinitionPlace) (value : Entry) → n ≤ m → IsWithin 1 (1 + n) place → by_definition address m place value ≡ by_definition address n place value
@@ -173,7 +151,7 @@ module _ {base : ℕ} {p q : Program} {k : ℕ} {touched : Touched} (is : IsStil
       f = has_local q number
 
       earlier : lines_that f (length p) ≡ lines_that (has_local p number) (length p)
-      earlier = lines_that-same f (has_local p number) (length p) (is.locals number)
+      earlier = lines_that-same (has_local p number) f (length p) (λ i less. is.locals number (suc i) (omega arith) (omega (arith, less)))
 
       at : (length p < length q) ⊎ (length q ≤ length p) → lines_that f (length q) ≡ lines_that (has_local p number) (length p) ++ (if nat_lt (length p) k && f k then k ∷ [] else [])
       at (inl more) =

@@ -1,4 +1,4 @@
--- The rows of a text that get a line in place with which no other line has to do, or lose it again.
+-- The rows of a text that get a line in place with which other lines have to do by its names and its local labels alone, or lose it again.
 use Rattle.std.proofs.Common.{◌≡◌, ℕ, zero, suc, ◌-◌, ◌≤◌, nat_lt, ◌&&◌, inl, inr, Bool, true, false, if◌then◌else◌, List, [], ◌∷◌, ◌++◌, length, set, take, get_or, Option, Some, None, Result, Ok, Err, arith, ap, sym, subst, ◌∙◌, refl}
 use Rattle.std.specs.Result.{OnErr}
 use Rattle.std.proofs.Math.Seq.{take-append_seam}

@@ -12,11 +12,10 @@ use Rattle.rv_program.specs.Sameness.{same_section}
 use Rattle.rv_program.specs.Text.{Edit, Insert, Delete, Replace, refusal_of}
 use Rattle.rv_program.specs.internal.Rows.{AreShapes}
 use Rattle.rv_program.specs.lemmas.SamenessLaws.{same_section-Decides}
-use Rattle.rv_store.specs.internal.Column.{HasPlace}
-use Rattle.rv_store.specs.internal.EditedRows.{edited_row}
+use Rattle.rv_program.specs.internal.EditedRows.{HasPlace, edited_row}
 use Rattle.rv_store.specs.internal.Ends.{place_by_shapes}
 use Rattle.rv_store.specs.internal.Unmoved.{AreUnmoved}
-use Rattle.rv_store.proofs.Columns.{has_place}
+use Rattle.rv_program.specs.lemmas.EarlierLines.{has_place}
 use Rattle.rv_program.specs.lemmas.TextLines.{length_of_shapes}
 use Rattle.rv_store.proofs.Unmoved.{place-stood}
 

@@ -1,8 +1,8 @@
 -- An edit that moves no line leaves each where it lies.
 use Rattle.std.proofs.Common.{◌≡◌, ℕ, zero, suc, ◌+◌, ◌-◌, ◌<◌, ◌≤◌, ◌==◌, ◌⊎◌, inl, inr, Bool, true, false, List, [], ◌∷◌, length, take, get_or, set, Option, Some, None, if◌then◌else◌, arith, ap, sym, subst, ◌∙◌, refl}
 use Rattle.std.specs.Prelude.{insert, remove}
-use Rattle.std.proofs.lemmas.List.{ext_get_or, get_or_default, length-set}
-use Rattle.std.proofs.lemmas.List.Edits.{length-insert, length-remove, get_or-insert_below, get_or-insert_at, get_or-insert_above}
+use Rattle.std.proofs.lemmas.List.{ext_get_or, get_or_default}
+use Rattle.std.proofs.lemmas.List.Edits.{length-remove, get_or-insert_below, get_or-insert_at, get_or-insert_above}
 use Rattle.rv_stmt.specs.declared.section.Sect.{Sect}
 use Rattle.rv_stmt.specs.declared.section.Sect.TheVariants.{Text}
 use Rattle.rv_layout.specs.declared.measured.Measured.{Measured}
@@ -13,16 +13,15 @@ use Rattle.rv_list.specs.declared.view.LinePlace.{LinePlace}
 use Rattle.rv_program.specs.Edits.{line_before_edit, place_of_edit}
 use Rattle.rv_program.specs.Program.{for_lines}
 use Rattle.rv_program.specs.Text.{Edit, Insert, Delete, Replace}
-use Rattle.rv_program.specs.lemmas.EarlierLines.{insert_before, delete_before, replace_before}
+use Rattle.rv_program.specs.lemmas.EarlierLines.{insert_before, delete_before, replace_before, edited_count, length-edited, edited-within, edited-at}
 use Rattle.rv_program.specs.lemmas.NewShapeLaws.{deleted-stood, new-place}
 use Rattle.rv_program.specs.lemmas.Programs.{length-for_lines, at-for_lines}
 use Rattle.rv_store.specs.internal.Alike.{room_of}
-use Rattle.rv_store.specs.internal.Column.{HasPlace}
-use Rattle.rv_store.specs.internal.EditedRows.{edited_row}
+use Rattle.rv_program.specs.internal.EditedRows.{HasPlace, edited_row}
 use Rattle.rv_store.specs.internal.Ends.{by_section, ends_of, place_by_shapes}
 use Rattle.rv_store.specs.internal.Unmoved.{MovesNone, place_put_in}
 use Rattle.rv_store.proofs.Columns.{inserted-removed}
-use Rattle.rv_store.proofs.FormerShapes.{former-at, former-new}
+use Rattle.rv_store.proofs.FormerShapes.{former-new}
 use Rattle.rv_store.proofs.Rooms.{places-same, ends-same, rooms-set, rooms-insert}
 
 -- Lines behind which others lie alike
@@ -209,39 +208,6 @@ module _ (base : ℕ) where
         ∙ inserted-ends (remove ms (place - 1)) (place - 1) gone none (omega (arith, there, length-remove ms (place - 1) there))
     ends-stay (Replace place line) shape none has = sym (ends-same (set ms (place - 1) shape) ms (rooms-set ms (place - 1) shape none))
 
-    -- How many lines there are, and where each stood
-
-    abbrev edited_count : Edit → ℕ
-    edited_count (Insert place line) = length ms + 1
-    edited_count (Delete place) = length ms - 1
-    edited_count (Replace place line) = length ms
-
-    length-edited : {A : Type 0} (row : List A) (edit : Edit) (new : A) → length row ≡ length ms → HasPlace ms edit → length (edited_row row edit new) ≡ edited_count edit
-    length-edited row (Insert place line) new count has =
-        length-insert row (place - 1) new (omega (arith, count, has.0, has.1)) ∙ ap (λ n. n + 1) count
-    length-edited row (Delete place) new count has = let gone = length-remove row (place - 1) (omega (arith, count, has.0, has.1)) in omega (arith, gone, count)
-    length-edited row (Replace place line) new count has = length-set row (place - 1) new ∙ count
-
-    record Within (j : ℕ) : Type 0 where
-      first : 1 ≤ j
-      last : j ≤ length ms
-
-    stood-within : (edit : Edit) (i j : ℕ) → HasPlace ms edit → i < edited_count edit → line_before_edit edit (suc i) ≡ Some j → Within j
-    stood-within (Insert place line) i j has below stood = from (insert_before place line (suc i) j stood)
-      where
-        from : ((suc i < place) × (j ≡ suc i)) ⊎ ((place < suc i) × (j ≡ suc i - 1)) → Within j
-        from (inl (less, is)) = record { first = omega (arith, is); last = omega (arith, is, less, has.1) }
-        from (inr (more, is)) = let room : i < length ms + 1 = below in record { first = omega (arith, is, more, has.0); last = omega (arith, is, room) }
-    stood-within (Delete place) i j has below stood = from (delete_before place (suc i) j stood)
-      where
-        from : ((suc i < place) × (j ≡ suc i)) ⊎ ((place ≤ suc i) × (j ≡ suc i + 1)) → Within j
-        from (inl (less, is)) = record { first = omega (arith, is); last = omega (arith, is, less, has.1) }
-        from (inr (more, is)) = let room : i < length ms - 1 = below in record { first = omega (arith, is); last = omega (arith, is, room) }
-    stood-within (Replace place line) i j has below stood =
-        let is = (replace_before place line (suc i) j stood).1 in
-        let room : i < length ms = below in
-        record { first = omega (arith, is); last = omega (arith, is, room) }
-
     pub place-within : (edit : Edit) (shape : Measured) → MovesNone ms edit shape → HasPlace ms edit → (1 ≤ place_of_edit edit) × (place_of_edit edit ≤ length ms)
     place-within (Insert place line) shape none has = (has.0, none.0)
     place-within (Delete place) shape none has = has
@@ -260,7 +226,7 @@ module _ (base : ℕ) where
       lay-at i other within = at-for_lines (place_by_shapes base ms) (length ms) i other within
 
       module _ (new : LinePlace) (is : new ≡ place_put_in edit (get_or lay (place_of_edit edit - 1) new)) where
-        place-each : (i : ℕ) → i < edited_count edit → get_or (edited_row lay edit new) i new ≡ place_by_shapes base (edited_row ms edit shape) (suc i)
+        place-each : (i : ℕ) → i < edited_count (length ms) edit → get_or (edited_row lay edit new) i new ≡ place_by_shapes base (edited_row ms edit shape) (suc i)
         place-each i below = from (line_before_edit edit (suc i)) refl
           where
             from : (stood : Option ℕ) → line_before_edit edit (suc i) ≡ stood → get_or (edited_row lay edit new) i new ≡ place_by_shapes base (edited_row ms edit shape) (suc i)
@@ -275,20 +241,20 @@ module _ (base : ℕ) where
                 ∙ ap (place_put_in edit) (lay-at (place_of_edit edit - 1) new (let within = place-within edit shape none has in omega (arith, within.0, within.1)) ∙ ap (place_by_shapes base ms) back)
                 ∙ sym (place-new edit shape i none has here e)
             from (Some j) e =
-                let within = stood-within edit i j has below e in
+                let within = edited-within ms edit (suc i) j has (omega arith) (omega (arith, below)) e in
                 let there : i ≡ suc i - 1 = omega arith in
-                let back : suc (j - 1) ≡ j = omega (arith, within.first) in
+                let back : suc (j - 1) ≡ j = omega (arith, within.0) in
                 ap (λ n. get_or (edited_row lay edit new) n new) there
-                ∙ former-at lay ms edit new (suc i) j new as_many has (omega arith) e
-                ∙ lay-at (j - 1) new (omega (arith, within.first, within.last))
+                ∙ edited-at lay ms edit new (suc i) j new as_many has (omega arith) e
+                ∙ lay-at (j - 1) new (omega (arith, within.0, within.1))
                 ∙ ap (place_by_shapes base ms) back
                 ∙ sym (place-stood edit shape i j none has e)
 
         pub places-stay : edited_row lay edit new ≡ for_lines (place_by_shapes base (edited_row ms edit shape)) (length (edited_row ms edit shape))
         places-stay =
             let after = edited_row ms edit shape in
-            let count = length-edited lay edit new as_many has in
-            let total = length-edited ms edit shape refl has in
+            let count = length-edited lay ms edit new as_many has in
+            let total = length-edited ms ms edit shape refl has in
             ext_get_or new (edited_row lay edit new) (for_lines (place_by_shapes base after) (length after))
             (count ∙ sym (length-for_lines (place_by_shapes base after) (length after) ∙ total))
             (λ i below.

@@ -8,7 +8,6 @@ ghost use Rattle.rv_program.specs.Counted.{counts_of};
 ghost use Rattle.rv_program.specs.Edits.{edit_of};
 ghost use Rattle.rv_program.specs.internal.Former.{AreFormer};
 ghost use Rattle.rv_program.specs.internal.Items.{AreItems};
-ghost use Rattle.rv_program.specs.internal.Lines.{lines_of};
 ghost use Rattle.rv_program.specs.internal.NewShapes.{IsNewShape};
 ghost use Rattle.rv_program.specs.Program.{program_of};
 ghost use Rattle.rv_program.specs.internal.Rows.{Grows};
@@ -24,8 +23,17 @@ use rv_text::Count;
 use rv_tree::SumTree;
 use std::alloc::Global;
 
-// It is as for `assembled`, with the lines of the text before, `old`.
-fn assembled_by_lines<C: Count>(
+/// What is kept of a text after an edit, its items, and which lines are new or have another code. `survey` is what is kept of
+/// the text before, whose lines are `old`, but that its lines are those after the edit. `items` has an item for each line after
+/// the edit, which keeps what was kept of the line. `shape` is that of the line that the edit puts in. The lines are not in the answer. Names that the lines define get numbers, whatever the outcome.
+///
+/// The counter's number of expressions computed, and that of lines encoded, rise by at most what the edit may take, but for the operand
+/// from which that shape follows, whatever the outcome.
+///
+/// # Errors
+///
+/// `Memory` if there was no memory for what is kept.
+pub fn assembled<C: Count>(
     alloc: Global,
     base: u32,
     names: &mut NameTable,
@@ -56,57 +64,8 @@ fn assembled_by_lines<C: Count>(
     ensures counted { AreCountedAfter base old.now (edit_of edit.now) (counts_of C.parsed_count C.valued_count C.encoded_count counter.old) (counts_of C.parsed_count C.valued_count C.encoded_count counter.new) }
 {
     let (after, still) = survey.after(alloc, base, old, edit, names, shape, counter)?;
-    let lines = survey.lines.as_slice();
-    let groups = survey.lines.groups();
     let (items, changed) = items_edited(
-        alloc, base, names, survey, old, edit, &after, lines, groups, still, &items, counter,
+        alloc, base, names, survey, old, edit, &after, still, &items, counter,
     )?;
     Ok((after, items, changed))
-}
-
-/// What is kept of a text after an edit, its items, and which lines are new or have another code. `survey` is what is kept of
-/// the text before, but that its lines are those after the edit, and `former` are the items of the text before. `items` has
-/// an item for each line after the edit, which keeps what was kept of the line. `shape` is that of the line that the edit puts in. The
-/// lines are not in the answer. Names that the lines define get numbers, whatever the outcome.
-///
-/// The counter's number of expressions computed, and that of lines encoded, rise by at most what the edit may take, but for the operand
-/// from which that shape follows, whatever the outcome.
-///
-/// # Errors
-///
-/// `Memory` if there was no memory for what is kept.
-pub fn assembled<C: Count>(
-    alloc: Global,
-    base: u32,
-    names: &mut NameTable,
-    survey: &Survey,
-    former: &SumTree<Item>,
-    edit: &LineEdit<'_>,
-    items: SumTree<Item>,
-    shape: Measured,
-    counter: &mut C,
-) -> Result<(Survey, SumTree<Item>, Changed), EditError>
-    requires base { is_base base ≡ true }
-    requires survey { IsSurvey base (program_of (lines_of former.now.items)) names.old survey.now }
-    requires old_few { length (lines_of former.now.items) ≤ MAX_LINES }
-    requires allowed { refusal_of (lines_of former.now.items) (edit_of edit.now) ≡ None }
-    requires edited { survey.now.lines.items ≡ lines_after (lines_of former.now.items) (edit_of edit.now) }
-    requires shape { IsNewShape (lines_of former.now.items) (edit_of edit.now) shape }
-    requires limited { IsLimited shape }
-    requires few { length survey.now.lines.items ≤ MAX_LINES }
-    requires count { length items.items ≡ length survey.now.lines.items }
-    requires former { AreFormer base (lines_of former.now.items) (edit_of edit.now) 0 items.items }
-    requires valued { C.valued_count counter.old ≤ 2 ^ 63 + 1 }
-    requires encoded { C.encoded_count counter.old ≤ 2 ^ 63 }
-    ensures names { Grows names.old names.new }
-    ensures survey { IfOk result (λ r. IsSurvey base (program_of survey.now.lines.items) names.new r.0) }
-    ensures items { IfOk result (λ r. AreItems base survey.now.lines.items r.1.items) }
-    ensures changed { IfOk result (λ r. r.2.lines ≡ changed_lines base (lines_of former.now.items) (edit_of edit.now)) }
-    ensures memory { IfErr result (λ e. e ≡ EditError.Memory) }
-    ensures counted { AreCountedAfter base (lines_of former.now.items) (edit_of edit.now) (counts_of C.parsed_count C.valued_count C.encoded_count counter.old) (counts_of C.parsed_count C.valued_count C.encoded_count counter.new) }
-{
-    let old = Lines::in_items(former);
-    assembled_by_lines(
-        alloc, base, names, survey, &old, edit, items, shape, counter,
-    )
 }

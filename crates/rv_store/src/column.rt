@@ -1,7 +1,8 @@
 //! The lines of a text in a column, which edits change in place.
 
 ghost use Rattle.std.specs.Prelude.{◌≡◌, ◌≤◌, ◌<◌, [], length, map, get_or, insert, remove, take, set, IfOk, OnOk, OnErr, IsOk};
-ghost use Rattle.rv_store.specs.internal.Column.{HasPlace, HasRoom, taken_back};
+ghost use Rattle.rv_program.specs.internal.EditedRows.{HasPlace};
+ghost use Rattle.rv_store.specs.internal.Column.{HasRoom, taken_back};
 ghost use Rattle.rv_program.specs.internal.Briefs.{groups_on};
 ghost use Rattle.rv_program.specs.Edits.{edit_of_read};
 ghost use Rattle.rv_program.specs.internal.Still.{set_or_push};

@@ -2,8 +2,7 @@
 
 ghost use Rattle.std.specs.Prelude.{◌≡◌, IfOk};
 ghost use Rattle.rv_program.specs.Edits.{edit_of};
-ghost use Rattle.rv_store.specs.internal.Column.{HasPlace};
-ghost use Rattle.rv_store.specs.internal.EditedRows.{edited_row};
+ghost use Rattle.rv_program.specs.internal.EditedRows.{HasPlace, edited_row};
 
 use rv_program::{LineEdit, room_for};
 use std::alloc::{AllocError, Global};

@@ -1,4 +1,5 @@
-//! What a line at the end of a text defines, with which no other line has to do: the rows by names get it in place.
+//! What a line at the end of a text defines, with which other lines have to do by its names and its local labels alone: the rows by names
+//! get it in place.
 
 ghost use Rattle.std.specs.Prelude.{◌≡◌, ℕ, suc, true, ◌≤◌, ◌<◌, ◌+◌, ◌-◌, ◌*◌, ◌^◌, List, [], ◌∷◌, ◌++◌, false, length, set, OnOk, OnErr};
 ghost use Rattle.rv_stmt.specs.Statement.{statement_of};

@@ -1,8 +1,7 @@
 //! What is kept of the lines that are due after an edit is made anew.
 
-ghost use Rattle.std.specs.Prelude.{◌≡◌, ◌≤◌, ◌<◌, ◌+◌, ◌-◌, ◌*◌, ◌^◌, None, true, length, map, IfOk, IfErr};
+ghost use Rattle.std.specs.Prelude.{◌≡◌, ◌≤◌, ◌<◌, ◌+◌, ◌-◌, ◌*◌, ◌^◌, None, true, length, IfOk, IfErr};
 ghost use Rattle.rv_program.specs.declared.limits.TheConstants.{MAX_LINES};
-ghost use Rattle.rv_program.specs.internal.Briefs.{groups_on};
 ghost use Rattle.rv_program.specs.Counted.{counts_of};
 ghost use Rattle.rv_program.specs.Edits.{edit_of, line_before_edit};
 ghost use Rattle.rv_program.specs.Program.{program_of};
@@ -20,8 +19,8 @@ ghost use Rattle.rv_store.specs.internal.Unmoved.{AreUnmoved};
 use crate::changed::Changed;
 use crate::survey::Survey;
 use rv_program::{
-    EditError, Groups, Item, Line, LineEdit, Lines, NameTable, Revision, ValueRows, due_lines,
-    renewed, renewed_in_one_pass,
+    EditError, Item, LineEdit, Lines, NameTable, Revision, ValueRows, due_lines, renewed,
+    renewed_in_one_pass,
 };
 use rv_text::Count;
 use rv_tree::SumTree;
@@ -93,9 +92,9 @@ pub fn items_passed<C: Count>(
     Ok((passed.inserted(line, item)?, Changed::of(changed)))
 }
 
-/// It is as for `items_passed`, by the survey of the text before the edit, `old`, whose lines are `old_lines`, and by that of the text after
-/// it, whose lines are `lines`, in these groups: those that are due are looked for. `still` tells that the edit moved none of them. For each jump
-/// to a local label among the invalidated lines, one expression more may be computed.
+/// Like `items_passed`, but by the survey of the text before the edit, `old`, whose lines are `old_lines`, but that it has the lines after the
+/// edit already, and by that of the text after it: those that are due are looked for. `still` tells that the edit moved none of them. For each
+/// jump to a local label among the invalidated lines, one expression more may be computed.
 pub fn items_edited<'a, C: Count>(
     alloc: Global,
     base: u32,
@@ -104,8 +103,6 @@ pub fn items_edited<'a, C: Count>(
     old_lines: &'a Lines<'a>,
     edit: &LineEdit<'_>,
     survey: &'a Survey,
-    lines: &'a [Line],
-    groups: &[Groups],
     still: bool,
     items: &SumTree<Item>,
     counter: &mut C,
@@ -113,29 +110,30 @@ pub fn items_edited<'a, C: Count>(
     requires old { IsSurvey base (program_of old_lines.now) names.now old.now }
     requires old_few { length old_lines.now ≤ MAX_LINES }
     requires allowed { refusal_of old_lines.now (edit_of edit.now) ≡ None }
-    requires survey { IsSurvey base (program_of lines.now) names.now survey.now }
-    requires edited { lines.now ≡ lines_after old_lines.now (edit_of edit.now) }
-    requires groups { groups.now ≡ map groups_on lines.now }
+    requires survey { IsSurvey base (program_of old.now.lines.items) names.now survey.now }
+    requires edited { old.now.lines.items ≡ lines_after old_lines.now (edit_of edit.now) }
     requires still { still ≡ true → AreUnmoved old.now.shapes.items (edit_of edit.now) survey.now.shapes.items }
-    requires few { length lines.now ≤ MAX_LINES }
-    requires count { length items.now.items ≡ length lines.now }
+    requires few { length old.now.lines.items ≤ MAX_LINES }
+    requires count { length items.now.items ≡ length old.now.lines.items }
     requires former { AreFormer base old_lines.now (edit_of edit.now) 0 items.now.items }
-    requires valued { C.valued_count counter.old + 1001 * length lines.now < 2 ^ 64 }
-    requires encoded { C.encoded_count counter.old + length lines.now < 2 ^ 64 }
-    ensures items { IfOk result (λ r. AreItems base lines.now r.0.items) }
-    ensures changed { IfOk result (λ r. r.1.lines ≡ changed_through (edited_by base old_lines.now edit.now) (length lines.now)) }
+    requires valued { C.valued_count counter.old + 1001 * length old.now.lines.items < 2 ^ 64 }
+    requires encoded { C.encoded_count counter.old + length old.now.lines.items < 2 ^ 64 }
+    ensures items { IfOk result (λ r. AreItems base old.now.lines.items r.0.items) }
+    ensures changed { IfOk result (λ r. r.1.lines ≡ changed_through (edited_by base old_lines.now edit.now) (length old.now.lines.items)) }
     ensures memory { IfErr result (λ e. e ≡ EditError.Memory) }
-    ensures counted { AreCountedRenewed (edited_by base old_lines.now edit.now) (length lines.now) (counts_of C.parsed_count C.valued_count C.encoded_count counter.old) (counts_of C.parsed_count C.valued_count C.encoded_count counter.new) }
+    ensures counted { AreCountedRenewed (edited_by base old_lines.now edit.now) (length old.now.lines.items) (counts_of C.parsed_count C.valued_count C.encoded_count counter.old) (counts_of C.parsed_count C.valued_count C.encoded_count counter.new) }
 {
     let before = old.before(old_lines, base, names, edit);
+    let lines = old.lines.as_slice();
+    let groups = old.lines.groups();
     let column = Lines::in_column(lines);
     let rows = survey.rows(&column, base, names);
     let due = due_lines(alloc, &before, &rows.symbols, lines, groups, still, counter)?;
     items_passed(alloc, &before.revision(), &rows, items, &due, counter)
 }
 
-/// It is as for `items_passed`, where a line is put in the place of another one or behind the last one, and others have to do with it by its
-/// names alone. `items` are those of the text before that, and `survey` is that of the text after it.
+/// Like `items_passed`, but where a line is put in the place of another one or behind the last one, and others have to do with it by its
+/// names and its local labels alone. `items` are those of the text before that, and `survey` is that of the text after it.
 pub fn items_put<C: Count>(
     alloc: Global,
     base: u32,

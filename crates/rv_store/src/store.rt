@@ -37,7 +37,9 @@ pub use names::NamesOnLine;
 use rv_fix::Coded;
 use rv_layout::{Measured, base_ok};
 use rv_list::{DefinitionPlace, View};
-use rv_program::{EditError, Item, Line, LineEdit, MAX_LINES, NameTable, ReadEdit, address_in};
+use rv_program::{
+    EditError, Item, Line, LineEdit, Lines, MAX_LINES, NameTable, ReadEdit, address_in,
+};
 use rv_text::Count;
 use rv_tree::SumTree;
 use std::alloc::Global;
@@ -110,10 +112,8 @@ impl Store {
         ensures value { option_map (λ l. l.now) result ≡ (if k == 0 then None else slice_get self.now.lines (k - 1)) }
         ensures line { IfSome result (λ l. is_line l.now ≡ true) }
     {
-        match self.items.get(k) {
-            Some(item) => Some(item.line.text()),
-            None => None,
-        }
+        let item = self.items.get(k)?;
+        Some(item.line.text())
     }
 
     /// The address of line number `k`, if there is such a line.
@@ -130,10 +130,8 @@ impl Store {
     pub fn coded(&self, k: u32) -> Option<&Coded>
         ensures { option_map (λ c. c.now) result ≡ at_line self.now.lines k (code_at self.now.base (program_of self.now.lines) k) }
     {
-        match self.items.get(k) {
-            Some(item) => Some(&item.code),
-            None => None,
-        }
+        let item = self.items.get(k)?;
+        Some(&item.code)
     }
 
     /// What a symbol is, if it is defined: a label with its address, or that of an `.equ` with its value, which a faulty one
@@ -366,17 +364,18 @@ impl Store {
         ensures counted { AreCountedAfter self.old.base self.old.lines (edit_of edit.now) (counts_of C.parsed_count C.valued_count C.encoded_count counter.old) (counts_of C.parsed_count C.valued_count C.encoded_count counter.new) }
     {
         let undo = self.survey.lines.edit(read)?;
-        match assembled(
+        let made = assembled(
             self.alloc,
             self.base,
             &mut self.names,
             &self.survey,
-            &self.items,
+            &Lines::in_items(&self.items),
             edit,
             items,
             shape,
             counter,
-        ) {
+        );
+        match made {
             Ok((mut survey, items, changed)) => {
                 mem::swap(&mut survey.lines, &mut self.survey.lines);
                 self.survey = survey;
@@ -438,18 +437,6 @@ impl Store {
         self.assemble(edit, read, items, shape, counter)
     }
 
-    // Deletes the last line, with which no other line has to do. Where there is no memory for that, the text stays.
-    fn delete_last(&mut self, last: &LastLine) -> Result<Changed, EditError>
-        requires { IsLastLine self.old.base self.old.lines last.now }
-        ensures ok { OnOk result (self.new ≡ text_after self.old (Delete (length self.old.lines))) }
-        ensures err { OnErr result (self.new ≡ self.old) }
-        ensures changed { IfOk result (λ c. c.lines ≡ changed_lines self.old.base self.old.lines (Delete (length self.old.lines))) }
-        ensures memory { IfErr result (λ e. e ≡ EditError.Memory) }
-    {
-        self.forget_names();
-        self.shorten(last)
-    }
-
     // Makes an edit that is not refused, whose line was read. Where there is no memory for that, the text stays.
     fn make<C: Count>(
         &mut self,
@@ -478,7 +465,10 @@ impl Store {
                 None => self.rework(edit, read, shape, counter),
             },
             ReadEdit::Delete(k) => match self.last_line(*k) {
-                Some(last) => self.delete_last(&last),
+                Some(last) => {
+                    self.forget_names();
+                    self.shorten(&last)
+                }
                 None => self.rework(edit, read, shape, counter),
             },
             ReadEdit::Replace(k, line) => match self.alike(*k, line, shape) {

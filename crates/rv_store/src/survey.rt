@@ -6,7 +6,7 @@ ghost use Rattle.rv_layout.specs.Sections.{sections};
 ghost use Rattle.rv_program.specs.internal.Briefs.{groups_on};
 ghost use Rattle.rv_program.specs.internal.Before.{IsBefore, base_before, lines_before, edit_on};
 ghost use Rattle.rv_program.specs.Edits.{edit_of};
-ghost use Rattle.rv_store.specs.internal.Column.{HasPlace};
+ghost use Rattle.rv_program.specs.internal.EditedRows.{HasPlace};
 ghost use Rattle.rv_store.specs.internal.Ends.{ends_of, end_in, place_by_shapes};
 ghost use Rattle.rv_store.specs.internal.Unmoved.{AreUnmoved};
 ghost use Rattle.rv_program.specs.internal.NewShapes.{IsNewShape, shape_operands};

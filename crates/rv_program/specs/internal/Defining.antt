@@ -1,5 +1,5 @@
 -- Definitions of names, joined in the order of the text.
-use Rattle.std.specs.Prelude.{◌≡◌, ℕ, ◌≤◌, nat_le, Bool, true, false, List, [], ◌∷◌, length, bytes_eq, if◌then◌else◌}
+use Rattle.std.specs.Prelude.{◌≡◌, ℕ, nat_le, Bool, true, false, List, [], ◌∷◌, bytes_eq, if◌then◌else◌}
 use Rattle.rv_stmt.specs.declared.statement.Body.{Body}
 use Rattle.rv_stmt.specs.declared.statement.Body.TheVariants.{Equ as EquBody}
 use Rattle.rv_stmt.specs.declared.statement.Stmt.{Stmt}
@@ -7,7 +7,7 @@ use Rattle.rv_stmt.specs.LabelNames.{Label, LabelName, Symbol, Local}
 use Rattle.rv_list.specs.declared.view.DefinitionPlace.{DefinitionPlace}
 use Rattle.rv_list.specs.declared.view.DefinitionPlace.TheVariants.{Nowhere, Label as ByLabel, Equ}
 use Rattle.rv_program.specs.Definitions.{defines_symbol, or_place}
-use Rattle.rv_program.specs.internal.Rows.{has_number, in_row}
+use Rattle.rv_program.specs.internal.Rows.{has_number}
 
 -- the definition of each name of a part of the text
 abbrev pub Definitions : Type 0
@@ -38,11 +38,6 @@ or_here line other here = if is_up_to line other then other else or_place here o
 -- those of a text, and those of a part of this line
 abbrev pub also_on : (line : ℕ) → (others here : Definitions) → Definitions
 also_on line others here name = or_here line (others name) (here name)
-
--- a row, no longer than there are names, that holds these
-pub record Holds (names : List (List ℕ)) (row : List DefinitionPlace) (definitions : Definitions) : Type 0 where
-  pub each : in_row names row Nowhere ≡ definitions
-  pub within : length row ≤ length names
 
 -- a definition on this line, or none
 abbrev pub IsOn : (line : ℕ) → DefinitionPlace → Type 0

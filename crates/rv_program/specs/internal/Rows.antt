@@ -42,19 +42,20 @@ Grows old new = (more : List (List ℕ)) × (new ≡ old ++ more)
 
 -- Rows by names: no longer than there are names
 
-pub record AreDefinitions (program : Program) (names : List (List ℕ)) (row : List DefinitionPlace) : Type 0 where
-  pub each : in_row names row Nowhere ≡ definition_of program
+pub record HoldsByName {A : Type 0} (names : List (List ℕ)) (row : List A) (other : A) (f : List ℕ → A) : Type 0 where
+  pub each : in_row names row other ≡ f
   pub within : length row ≤ length names
+
+abbrev pub AreDefinitions : Program → (names : List (List ℕ)) → List DefinitionPlace → Type 0
+AreDefinitions program names row = HoldsByName names row Nowhere (definition_of program)
 
 -- the constants of the first k lines
-pub record AreConstants (program : Program) (k : ℕ) (names : List (List ℕ)) (row : List (Option ℤ)) : Type 0 where
-  pub each : in_row names row None ≡ constant_through program k
-  pub within : length row ≤ length names
+abbrev pub AreConstants : Program → (k : ℕ) → (names : List (List ℕ)) → List (Option ℤ) → Type 0
+AreConstants program k names row = HoldsByName names row None (constant_through program k)
 
 -- the values of the `.equ`s of the first k lines
-pub record AreEquValues (base : ℕ) (program : Program) (k : ℕ) (names : List (List ℕ)) (row : List Entry) : Type 0 where
-  pub each : in_row names row (Err LaterEqu) ≡ equ_value base program k
-  pub within : length row ≤ length names
+abbrev pub AreEquValues : (base : ℕ) → Program → (k : ℕ) → (names : List (List ℕ)) → List Entry → Type 0
+AreEquValues base program k names row = HoldsByName names row (Err LaterEqu) (equ_value base program k)
 
 -- Rows by lines
 

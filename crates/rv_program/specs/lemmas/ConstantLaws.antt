@@ -11,6 +11,7 @@ use Rattle.rv_program.specs.internal.LineConstants.{constant_behind, constant_on
 use Rattle.rv_program.specs.internal.Rows.{in_row, AreDefinitions, AreConstants}
 use Rattle.rv_program.specs.lemmas.ConstantRows.{constant-kept}
 use Rattle.rv_program.specs.lemmas.DefinitionLaws.{IsWithin, definition-within}
+use Rattle.rv_program.specs.lemmas.Programs.{kept-up}
 
 -- a name that no line up to the k-th defines by an `.equ` is no constant there
 pub constant-none : (program : Program) (name : List ℕ) (k : ℕ) → ((i : ℕ) → i < k → is_equ_on (suc i) (definition_of program name) ≡ false) → constant_through program k name ≡ None
@@ -18,18 +19,13 @@ constant-none program name zero others = refl
 constant-none program name (suc k) others =
     constant-kept program k name (others k (omega arith)) ∙ constant-none program name k (λ i l. others i (omega (arith, l)))
 
--- from the line of its `.equ` on the constant stays the same
+-- what only the line of its `.equ` gives a name stays the same from that line on
+pub equ-stays : {A : Type 0} (f : ℕ → List ℕ → A) (program : Program) → ((i : ℕ) (name : List ℕ) → is_equ_on (suc i) (definition_of program name) ≡ false → f (suc i) name ≡ f i name) → (name : List ℕ) (line j k : ℕ) → definition_of program name ≡ Equ line → line ≤ j → j ≤ k → f k name ≡ f j name
+equ-stays f program kept name line j k h l m = kept-up (λ n. f n name ≡ f j name) j k m
+    (λ n above last before. kept n name (ap (is_equ_on (suc n)) h ∙ ne_eqb line (suc n) (λ e. omega (arith, e, l, above))) ∙ before) refl
+
 constant-stays : (program : Program) (name : List ℕ) (line j k : ℕ) → definition_of program name ≡ Equ line → line ≤ j → j ≤ k → constant_through program k name ≡ constant_through program j name
-constant-stays program name line j zero h l m =
-    ap (λ n. constant_through program n name) (let e : 0 ≡ j = omega (arith, m) in e)
-constant-stays program name line j (suc k) h l m = at (cases_lt k j) (constant-stays program name line j k h l)
-  where
-    at : (k < j) ⊎ (j ≤ k) → (j ≤ k → constant_through program k name ≡ constant_through program j name) → constant_through program (suc k) name ≡ constant_through program j name
-    at (inl below) before =
-        ap (λ n. constant_through program n name) (let e : suc k ≡ j = omega (arith, below, m) in e)
-    at (inr above) before =
-        let differs : line ≡ suc k → ⊥ = λ e. omega (arith, e, l, above) in
-        constant-kept program k name (ap (is_equ_on (suc k)) h ∙ ne_eqb line (suc k) differs) ∙ before above
+constant-stays program = equ-stays (constant_through program) program (constant-kept program)
 
 -- a name that is defined by a label, or nowhere, is no constant
 pub constant-of_other : (program : Program) (line : ℕ) (name : List ℕ) (place : DefinitionPlace) → place ≡ definition_of program name → (place ≡ Nowhere) ⊎ ((defining : ℕ) × (index : ℕ) × (place ≡ ByLabel defining index)) → constant_of program line name ≡ None

@@ -1,5 +1,5 @@
 -- What one line of a text after an edit adds to the counts.
-use Rattle.std.proofs.Common.{◌≡◌, ℕ, zero, suc, ◌+◌, ◌-◌, ◌*◌, ◌≤◌, Bool, true, false, List, [], ◌∷◌, length, if◌then◌else◌, arith, ap, subst, sym, ◌∙◌, refl}
+use Rattle.std.proofs.Common.{◌≡◌, ℕ, suc, ◌+◌, ◌*◌, ◌≤◌, Bool, true, false, List, [], ◌∷◌, length, if◌then◌else◌, arith, ap, subst, sym, ◌∙◌, refl}
 use Rattle.std.proofs.lemmas.List.{length-append}
 use Rattle.rv_text.specs.Counting.{Counts}
 use Rattle.rv_stmt.specs.declared.statement.Body.{Body}
@@ -11,6 +11,7 @@ use Rattle.rv_program.specs.Program.{program_of, body_at, lines_that}
 use Rattle.rv_program.specs.internal.Renewals.{values_through, codes_through, AreCounted}
 use Rattle.rv_program.specs.internal.Revisions.{EditedText, revised_lines, invalidates, reencodes}
 use Rattle.rv_program.specs.internal.Work.{value_operands, compared_operands}
+use Rattle.rv_program.specs.lemmas.Programs.{kept-up, rises_to}
 use Rattle.rv_program.specs.lemmas.WorkLaws.{work-next}
 use Rattle.rv_program.specs.lemmas.WorkSums.{one_label, compared-few}
 
@@ -27,20 +28,6 @@ next_in_count test n =
     one : (b : Bool) → length (if b then suc n ∷ [] else []) ≡ (if b then 1 else 0)
     one true = refl
     one false = refl
-
--- what never falls from a number to the next
-rises : (f : ℕ → ℕ) → ((n : ℕ) → f n ≤ f (suc n)) → (k m : ℕ) → f k ≤ f (k + m)
-rises f step k zero = let same : k + 0 ≡ k = omega arith in rw same (omega arith)
-rises f step k (suc m) =
-    let same : k + suc m ≡ suc (k + m) = omega arith in
-    let before = rises f step k m in
-    let here = step (k + m) in
-    rw same (omega (arith, before, here))
-
-rises_to : (f : ℕ → ℕ) → ((n : ℕ) → f n ≤ f (suc n)) → (k n : ℕ) → k ≤ n → f k ≤ f n
-rises_to f step k n few =
-    let same : k + (n - k) ≡ n = omega (arith, few) in
-    rw same at (rises f step k (n - k))
 
 module _ (r : EditedText) where
   values-next : (k n : ℕ) → n ≡ suc k → values_through r n ≡ values_through r k + (if invalidates r n then value_operands (body_at (program_of (revised_lines r)) n) else 0)
@@ -65,24 +52,16 @@ module _ (r : EditedText) where
   codes-rise = rises_to (codes_through r) (λ n. let next = codes-next n (suc n) refl in omega (arith, next))
 
   -- a line is compared at most once
-  compared-rise : (k m : ℕ) → compared_through r (k + m) ≤ compared_through r k + m
-  compared-rise k zero = let same : k + 0 ≡ k = omega arith in rw same (omega arith)
-  compared-rise k (suc m) =
-      let same : k + suc m ≡ suc (k + m) = omega arith in
-      let so_far = compared-rise k m in
-      let next = compared-next (k + m) (suc (k + m)) refl in
-      let one = at (invalidates r (suc (k + m))) (body_at (program_of (revised_lines r)) (suc (k + m))) in
-      rw same (omega (arith, so_far, next, one))
+  compared-rise_to : (k n : ℕ) → k ≤ n → compared_through r n + k ≤ compared_through r k + n
+  compared-rise_to k n few = kept-up (λ m. compared_through r m + k ≤ compared_through r k + m) k n few
+      (λ m first last so_far.
+      let next = compared-next m (suc m) refl in
+      let one = at (invalidates r (suc m)) (body_at (program_of (revised_lines r)) (suc m)) in
+      omega (arith, so_far, next, one)) (omega arith)
     where
       at : (b : Bool) (body : Body) → (if b then compared_operands body else 0) ≤ 1
       at true body = one_label (target_of body)
       at false body = omega arith
-
-  compared-rise_to : (k n : ℕ) → k ≤ n → compared_through r n + k ≤ compared_through r k + n
-  compared-rise_to k n few =
-      let same : k + (n - k) ≡ n = omega (arith, few) in
-      let most : compared_through r n ≤ compared_through r k + (n - k) = rw same at (compared-rise k (n - k)) in
-      omega (arith, most, few)
 
   -- where nothing is counted
   pub nothing_counted : (k n : ℕ) (c : Counts) → k ≤ n → AreCounted r k n c c

@@ -29,13 +29,11 @@ use Rattle.rv_program.specs.lemmas.NameRows.{row-set, row-at}
 
 pub or_place-nowhere : (place : DefinitionPlace) → or_place place Nowhere ≡ place
 or_place-nowhere Nowhere = refl
-or_place-nowhere (ByLabel line index) = refl
-or_place-nowhere (Equ line) = refl
+or_place-nowhere _ = refl
 
 pub or_place-assoc : (a b c : DefinitionPlace) → or_place (or_place a b) c ≡ or_place a (or_place b c)
 or_place-assoc Nowhere b c = refl
-or_place-assoc (ByLabel line index) b c = refl
-or_place-assoc (Equ line) b c = refl
+or_place-assoc _ b c = refl
 
 -- what a line defines, put to the definitions on the others
 

@@ -1,6 +1,5 @@
 -- The values of `.equ`s, line by line, and the row of them.
-use Rattle.std.proofs.Common.{◌≡◌, ℕ, zero, suc, ◌+◌, ◌-◌, ◌<◌, ◌≤◌, true, false, List, length, set, replicate, if◌then◌else◌, Some, Err, arith, ap, sym, ◌∙◌, ◌⊎◌, inl, inr}
-use Rattle.std.proofs.lemmas.Bool.{cases_lt, ne_eqb}
+use Rattle.std.proofs.Common.{◌≡◌, ℕ, zero, suc, ◌+◌, ◌-◌, ◌<◌, ◌≤◌, true, false, List, length, set, replicate, if◌then◌else◌, Some, Err, arith, ap, sym, ◌∙◌}
 use Rattle.std.proofs.lemmas.List.{length-set, length-replicate}
 use Rattle.rv_expr.specs.declared.faults.ValueFault.TheVariants.{LaterEqu}
 use Rattle.rv_expr.specs.Value.{Environment}
@@ -15,6 +14,7 @@ use Rattle.rv_program.specs.Program.{Program, body_at}
 use Rattle.rv_program.specs.References.{names_on, no_pairs, equ_value, symbol_through, usable_equs, references_at}
 use Rattle.rv_program.specs.internal.Rows.{number_of, in_row, AreEquValues}
 use Rattle.rv_program.specs.Uses.{is_equ}
+use Rattle.rv_program.specs.lemmas.ConstantLaws.{equ-stays}
 use Rattle.rv_program.specs.lemmas.ConstantRows.{all-kept, others-kept}
 use Rattle.rv_program.specs.lemmas.DefinitionLaws.{is_equ_on-true}
 use Rattle.rv_program.specs.lemmas.NameRows.{row-set, row-empty}
@@ -38,16 +38,7 @@ equ_value-kept base program i name e =
 
 -- from its line on it stays the same
 pub equ_value-stays : (base : ℕ) (program : Program) (name : List ℕ) (line j k : ℕ) → definition_of program name ≡ Equ line → line ≤ j → j ≤ k → equ_value base program k name ≡ equ_value base program j name
-equ_value-stays base program name line j zero h l m =
-    ap (λ n. equ_value base program n name) (let e : 0 ≡ j = omega (arith, m) in e)
-equ_value-stays base program name line j (suc k) h l m = at (cases_lt k j) (equ_value-stays base program name line j k h l)
-  where
-    at : (k < j) ⊎ (j ≤ k) → (j ≤ k → equ_value base program k name ≡ equ_value base program j name) → equ_value base program (suc k) name ≡ equ_value base program j name
-    at (inl below) before =
-        ap (λ n. equ_value base program n name) (let e : suc k ≡ j = omega (arith, below, m) in e)
-    at (inr above) before =
-        let differs : line ≡ suc k → ⊥ = λ e. omega (arith, e, l, above) in
-        equ_value-kept base program k name (ap (is_equ_on (suc k)) h ∙ ne_eqb line (suc k) differs) ∙ before above
+equ_value-stays base program = equ-stays (equ_value base program) program (equ_value-kept base program)
 
 -- The row of the values
 

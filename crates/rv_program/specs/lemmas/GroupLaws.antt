@@ -3,12 +3,12 @@ use Rattle.std.proofs.Common.{◌≡◌, ℕ, zero, suc, ◌<◌, ◌≤◌, ◌
 use Rattle.std.specs.Int.{bit_at}
 use Rattle.std.specs.Int.Bits.{bit_and, bit_or}
 use Rattle.std.specs.List.{fold}
-use Rattle.std.proofs.lemmas.Bool.{eqb-true, eq-eqb, not-false}
+use Rattle.std.proofs.lemmas.Bool.{eqb-true, eq-eqb, not-false, false_from_ne_true}
 use Rattle.std.proofs.lemmas.List.{get_or-take, get_or-drop, length-take-le, length-drop}
 use Rattle.std.proofs.lemmas.Nat.Bits.{bit_at-lt, bit_at-zero, bit_at-pow_same, bit_at-pow_other, bit_at_ones, bit_at_and, bit_at_or, bit_at_cat_low}
 use Rattle.rv_program.specs.declared.groups.Groups.{Groups}
 use Rattle.rv_program.specs.declared.groups.Kind.{Kind}
-use Rattle.rv_program.specs.declared.groups.Kind.TheVariants.{Equ, PcrelHigh, Shaped, Addressed, Uncompared}
+use Rattle.rv_program.specs.declared.groups.Kind.TheVariants.{Equ}
 use Rattle.rv_program.specs.internal.Groups.{bits_of, groups_of, no_groups, every_group, with_bit, has_bit, with_group, has_group, kind_bit, with_kind, has_kind, with_groups, groups_together, share_group}
 
 bits-kept : (bits group : ℕ) → group < 64 → bit_at (bits_of (groups_of bits)) group ≡ bit_at bits group
@@ -16,12 +16,6 @@ bits-kept bits group below =
     let low : bits_of (groups_of bits) ≡ bits % 2 ^ 64 = omega arith in
     let split : (bits / 2 ^ 64) * 2 ^ 64 + bits % 2 ^ 64 ≡ bits = omega arith in
     ap (λ n. bit_at n group) low ∙ sym (bit_at_cat_low (bits / 2 ^ 64) 64 (bits % 2 ^ 64) group below) ∙ ap (λ n. bit_at n group) split
-
-one-bit : (bit : ℕ) → (bit == 1) ≡ true → bit ≡ 1
-one-bit bit h = eqb-true bit 1 h
-
-is-one : (bit : ℕ) → bit ≡ 1 → (bit == 1) ≡ true
-is-one bit h = eq-eqb bit 1 h
 
 -- One bit more
 
@@ -31,9 +25,9 @@ module _ (groups : Groups) (bit other : ℕ) (below : other < 64) where
 
   pub bit-kept : has_bit groups other ≡ true → has_bit (with_bit groups bit) other ≡ true
   bit-kept has =
-      let one = one-bit (bit_at (bits_of groups) other) has in
+      let one = eqb-true (bit_at (bits_of groups) other) 1 has in
       let low = bit_at-lt (2 ^ bit) other in
-      is-one (bit_at (bits_of (with_bit groups bit)) other) (omega (arith, one, low, with-bits))
+      eq-eqb (bit_at (bits_of (with_bit groups bit)) other) 1 (omega (arith, one, low, with-bits))
 
   pub bit-left : (other ≡ bit → ⊥) → has_bit (with_bit groups bit) other ≡ has_bit groups other
   bit-left apart =
@@ -46,13 +40,13 @@ bit-added groups bit below =
     let one = bit_at-pow_same bit in
     let low = bit_at-lt (bits_of groups) bit in
     let is = with-bits groups bit bit below in
-    is-one (bit_at (bits_of (with_bit groups bit)) bit) (omega (arith, one, low, is))
+    eq-eqb (bit_at (bits_of (with_bit groups bit)) bit) 1 (omega (arith, one, low, is))
 
 pub no-bit : (bit : ℕ) → has_bit no_groups bit ≡ false
 no-bit bit = ap (λ n. n == 1) (bit_at-zero bit)
 
 pub bit-of-every : (bit : ℕ) → bit < 64 → has_bit every_group bit ≡ true
-bit-of-every bit below = is-one (bit_at (2 ^ 64 - 1) bit) (bit_at_ones 64 bit below)
+bit-of-every bit below = eq-eqb (bit_at (2 ^ 64 - 1) bit) 1 (bit_at_ones 64 bit below)
 
 -- Those of some lines together
 
@@ -62,15 +56,15 @@ module _ (groups others : Groups) (bit : ℕ) (below : bit < 64) where
 
   bit-in-first : has_bit groups bit ≡ true → has_bit (with_groups groups others) bit ≡ true
   bit-in-first has =
-      let one = one-bit (bit_at (bits_of groups) bit) has in
+      let one = eqb-true (bit_at (bits_of groups) bit) 1 has in
       let low = bit_at-lt (bits_of others) bit in
-      is-one (bit_at (bits_of (with_groups groups others)) bit) (omega (arith, one, low, joined-bits))
+      eq-eqb (bit_at (bits_of (with_groups groups others)) bit) 1 (omega (arith, one, low, joined-bits))
 
   bit-in-second : has_bit others bit ≡ true → has_bit (with_groups groups others) bit ≡ true
   bit-in-second has =
-      let one = one-bit (bit_at (bits_of others) bit) has in
+      let one = eqb-true (bit_at (bits_of others) bit) 1 has in
       let low = bit_at-lt (bits_of groups) bit in
-      is-one (bit_at (bits_of (with_groups groups others)) bit) (omega (arith, one, low, joined-bits))
+      eq-eqb (bit_at (bits_of (with_groups groups others)) bit) 1 (omega (arith, one, low, joined-bits))
 
 module _ (bit : ℕ) (below : bit < 64) where
   kept-in-all : (groups : Groups) (all : List Groups) → has_bit groups bit ≡ true → has_bit (fold with_groups groups all) bit ≡ true
@@ -84,11 +78,8 @@ module _ (bit : ℕ) (below : bit < 64) where
 
   -- what all together lack, each lacks
   no-bit-together : (all : List Groups) (i : ℕ) (other : Groups) → i < length all → has_bit (groups_together all) bit ≡ false → has_bit (get_or all i other) bit ≡ false
-  no-bit-together all i other within none = at (has_bit (get_or all i other) bit) refl
-    where
-      at : (b : Bool) → has_bit (get_or all i other) bit ≡ b → has_bit (get_or all i other) bit ≡ false
-      at false e = e
-      at true e = absurd (true≢false (sym (bit-in-all no_groups all i other within e) ∙ none))
+  no-bit-together all i other within none =
+      false_from_ne_true (has_bit (get_or all i other) bit) (λ e. true≢false (sym (bit-in-all no_groups all i other within e) ∙ none))
 
 -- nor does one of a block of which all together lack it
 pub block-lacks : (groups : List Groups) (bit i j : ℕ) → bit < 64 → j ≤ length groups → has_bit (groups_together (take (j - i) (drop i groups))) bit ≡ false → (k : ℕ) → i ≤ k → k < j → has_bit (get_or groups k no_groups) bit ≡ false
@@ -102,19 +93,13 @@ block-lacks groups bit i j below last none k first inside =
     ap (λ g. has_bit g bit) (sym there) ∙ no-bit-together bit below (take (j - i) (drop i groups)) (k - i) no_groups within none
 
 pub no-common_bit : (groups others : Groups) (bit : ℕ) → share_group groups others ≡ false → has_bit groups bit ≡ true → has_bit others bit ≡ false
-no-common_bit groups others bit apart has = at (has_bit others bit) refl
-  where
-    none : bit_and (bits_of groups) (bits_of others) ≡ 0
-    none = eqb-true (bit_and (bits_of groups) (bits_of others)) 0 (not-false _ apart)
-
-    at : (b : Bool) → has_bit others bit ≡ b → has_bit others bit ≡ false
-    at false e = e
-    at true e =
-        let one = one-bit (bit_at (bits_of groups) bit) has in
-        let other = one-bit (bit_at (bits_of others) bit) e in
-        let zero : bit_at (bit_and (bits_of groups) (bits_of others)) bit ≡ 0 = ap (λ n. bit_at n bit) none ∙ bit_at-zero bit in
-        let both = bit_at_and (bits_of groups) (bits_of others) bit in
-        absurd (omega (arith, zero, both, one, other))
+no-common_bit groups others bit apart has = false_from_ne_true (has_bit others bit) (λ e.
+    let none : bit_and (bits_of groups) (bits_of others) ≡ 0 = eqb-true (bit_and (bits_of groups) (bits_of others)) 0 (not-false _ apart) in
+    let one = eqb-true (bit_at (bits_of groups) bit) 1 has in
+    let other = eqb-true (bit_at (bits_of others) bit) 1 e in
+    let zero : bit_at (bit_and (bits_of groups) (bits_of others)) bit ≡ 0 = ap (λ n. bit_at n bit) none ∙ bit_at-zero bit in
+    let both = bit_at_and (bits_of groups) (bits_of others) bit in
+    omega (arith, zero, both, one, other))
 
 -- Buckets
 
@@ -128,18 +113,12 @@ group-kept groups bucket other has = bit-kept groups (bucket % 59) (other % 59) 
 
 pub kind-below : (kind : Kind) → kind_bit kind < 64
 kind-below Equ = omega arith
-kind-below PcrelHigh = omega arith
-kind-below Shaped = omega arith
-kind-below Addressed = omega arith
-kind-below Uncompared = omega arith
+kind-below _ = omega arith
 
 -- they stand above those of the names
 pub kind-above : (kind : Kind) → 59 ≤ kind_bit kind
 kind-above Equ = omega arith
-kind-above PcrelHigh = omega arith
-kind-above Shaped = omega arith
-kind-above Addressed = omega arith
-kind-above Uncompared = omega arith
+kind-above _ = omega arith
 
 module _ (groups : Groups) (kind : Kind) where
   pub kind-kept : (is : Bool) (bit : ℕ) → bit < 64 → has_bit groups bit ≡ true → has_bit (with_kind groups kind is) bit ≡ true

@@ -1,6 +1,7 @@
 -- The groups of a line: its kinds, and the names that it uses.
-use Rattle.std.proofs.Common.{◌≡◌, ℕ, ◌%◌, Bool, true, false, List, length, map, true≢false, arith, ap, sym, ◌∙◌, refl}
+use Rattle.std.proofs.Common.{◌≡◌, ℕ, ◌%◌, Bool, true, false, List, length, map, true≢false, arith, ap, sym, ◌∙◌}
 use Rattle.std.proofs.lemmas.List.{length-map}
+use Rattle.std.proofs.lemmas.Bool.{false_from_ne_true}
 use Rattle.rv_stmt.specs.declared.statement.Stmt.{Stmt}
 use Rattle.rv_stmt.specs.Statement.{statement_of}
 use Rattle.rv_program.specs.declared.brief.Brief.{Brief}
@@ -81,8 +82,5 @@ module _ (line : List ℕ) where
 
   -- where it is not in the group of a bucket, it uses no name of it
   pub unused-group : (bucket : ℕ) → has_group (groups_on line) bucket ≡ false → may_have b.names bucket ≡ false
-  unused-group bucket none = at (may_have b.names bucket) refl
-    where
-      at : (has : Bool) → may_have b.names bucket ≡ has → may_have b.names bucket ≡ false
-      at false e = e
-      at true e = absurd (true≢false (sym (group-on bucket e) ∙ none))
+  unused-group bucket none =
+      false_from_ne_true (may_have b.names bucket) (λ e. true≢false (sym (group-on bucket e) ∙ none))

@@ -20,20 +20,16 @@ use Rattle.rv_program.specs.Layout.{address_at, place_at}
 use Rattle.rv_program.specs.internal.LineNames.{address_of_found, high_in, label_line_in, names_by, rows_for}
 use Rattle.rv_program.specs.internal.Locals.{local_line_in}
 use Rattle.rv_program.specs.Pairs.{paired_high_of}
-use Rattle.rv_program.specs.Program.{Program, for_lines, last_line, first_line}
+use Rattle.rv_program.specs.Program.{Program, last_line, first_line}
 use Rattle.rv_program.specs.References.{has_local, local_line, line_of_place, label_line, by_definition, address_of_line, names_on, no_pairs, equ_value, symbol_through}
 use Rattle.rv_program.specs.internal.Rows.{in_row, ArePlaces, ArePairedHighs}
 use Rattle.rv_program.specs.internal.TextRows.{no_place, address_in, program_in, AreTextRows, AreEquValuesIn, ArePairedHighsIn, address_in_text}
 use Rattle.rv_program.specs.lemmas.DefinitionLaws.{IsWithin, definition-within}
 use Rattle.rv_program.specs.lemmas.EquLaws.{equ_value-stays}
 use Rattle.rv_program.specs.lemmas.LocalLines.{local_line-row}
-use Rattle.rv_program.specs.lemmas.Programs.{at-for_lines}
+use Rattle.rv_program.specs.lemmas.Programs.{at-line}
 
 -- Rows by lines
-
-at-line : {A : Type 0} (f : ℕ → A) (n line : ℕ) (other : A) → 1 ≤ line → line ≤ n → get_or (for_lines f n) (line - 1) other ≡ f line
-at-line f n line other first last =
-    at-for_lines f n (line - 1) other (omega (arith, first, last)) ∙ ap f (let e : suc (line - 1) ≡ line = omega (arith, first) in e)
 
 pub address_in-is : (base : ℕ) (program : Program) (places : List LinePlace) (line : ℕ) → ArePlaces base program places → 1 ≤ line → line ≤ length program → address_in places line ≡ address_at base program line
 address_in-is base program places line are first last =

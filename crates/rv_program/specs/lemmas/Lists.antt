@@ -1,5 +1,5 @@
 -- A map over an edited list, what holds of each element, and tests of some.
-use Rattle.std.proofs.Common.{◌≡◌, ℕ, suc, ◌==◌, Bool, true, false, not, ◌||◌, List, [], ◌∷◌, length, take, drop, true≢false, arith, ap, sym, ◌∙◌, refl}
+use Rattle.std.proofs.Common.{◌≡◌, ℕ, zero, suc, ◌==◌, Bool, true, false, not, ◌||◌, List, [], ◌∷◌, length, get_or, replicate, take, drop, true≢false, arith, ap, sym, ◌∙◌, refl}
 use Rattle.std.specs.Prelude.{map, insert, remove}
 use Rattle.std.proofs.lemmas.Bool.{ne_eqb, or_left, or_right}
 use Rattle.std.proofs.lemmas.List.{map-append, take-map, drop-map}
@@ -17,6 +17,12 @@ all_insert P xs i x all one = All-append P (take i xs) (x ∷ drop i xs) (All-ta
 
 pub all_remove : {A : Type 0} (P : A → Type 0) (xs : List A) (i : ℕ) → All P xs → All P (remove xs i)
 all_remove P xs i all = All-append P (take i xs) (drop (suc i) xs) (All-take P i xs all) (All-drop P (suc i) xs all)
+
+-- a list of one item over and over
+pub get_or-same : {A : Type 0} (n k : ℕ) (x : A) → get_or (replicate n x) k x ≡ x
+get_or-same zero k x = refl
+get_or-same (suc n) zero x = refl
+get_or-same (suc n) (suc k) x = get_or-same n k x
 
 -- a list without items
 pub no-items : {A : Type 0} (xs : List A) → not (length xs == 0) ≡ false → xs ≡ []

@@ -1,5 +1,5 @@
 -- The row of local labels: how it grows by a line, and that it tells the line of a local label.
-use Rattle.std.proofs.Common.{◌≡◌, ℕ, zero, suc, ◌+◌, ◌-◌, nat_le, nat_lt, is_some, ◌<◌, ◌≤◌, Bool, true, false, List, [], ◌∷◌, ◌++◌, length, length-append, take, drop, get_or, slice_get, Option, Some, None, if◌then◌else◌, ◌⊎◌, inl, inr, arith, ap, sym, ◌∙◌, refl, subst}
+use Rattle.std.proofs.Common.{◌≡◌, ℕ, zero, suc, ◌+◌, ◌-◌, nat_le, nat_lt, is_some, ◌<◌, ◌≤◌, Bool, true, false, List, [], ◌∷◌, ◌++◌, length, take, drop, get_or, slice_get, Option, Some, None, if◌then◌else◌, ◌⊎◌, inl, inr, arith, ap, sym, ◌∙◌, refl, subst}
 use Rattle.std.specs.List.{AllWithin}
 use Rattle.std.specs.List.Sorted.{IsNonDecreasing, IsPartitionPoint}
 use Rattle.std.specs.Option.{option_or, unwrap_or}
@@ -7,7 +7,7 @@ use Rattle.std.proofs.lemmas.Bool.{le-leb, lt-leb, le-ltb, lt-ltb, ltb-true, cas
 use Rattle.std.proofs.lemmas.List.{append-nil, get_or-map, get_or-take, get_or-drop, length-take, length-drop}
 use Rattle.std.proofs.lemmas.List.Elements.{filter-append}
 use Rattle.std.proofs.lemmas.List.Sorted.{IsNonDecreasingBy-push}
-use Rattle.std.proofs.lemmas.Option.{slice_get-get_or, get_or_from_slice_get}
+use Rattle.std.proofs.lemmas.Option.{slice_get-get_or}
 use Rattle.rv_expr.specs.declared.tree.Direction.{Direction}
 use Rattle.rv_expr.specs.declared.tree.Direction.TheVariants.{Back, Forward}
 use Rattle.rv_stmt.specs.LabelNames.{Label, LabelName}
@@ -269,15 +269,6 @@ local_line-row program rows line number Forward are l =
 
 -- The rows as they are made
 
-last-push : (xs : List ℕ) (x : ℕ) → slice_get (xs ++ x ∷ []) (length (xs ++ x ∷ []) - 1) ≡ Some x
-last-push xs x =
-    let e : length (xs ++ x ∷ []) - 1 ≡ length xs = omega (arith, length-append xs (x ∷ [])) in
-    ap (slice_get (xs ++ x ∷ [])) e ∙ at xs
-  where
-    at : (xs : List ℕ) → slice_get (xs ++ x ∷ []) (length xs) ≡ Some x
-    at [] = refl
-    at (y ∷ ys) = at ys
-
 -- a line without local labels
 no-local : (k : ℕ) (name : LabelName) → is_local_label name ≡ false → is_local k name ≡ false
 no-local k (label.Local number) other = absurd (true≢false other)
@@ -289,31 +280,16 @@ none-among k (l ∷ ls) none =
     let parts = or_parts (is_local_label l.name) (has_local_labels ls) none in
     or_from _ _ (no-local k l.name parts.0) (none-among k ls parts.1)
 
--- the lines that pass a test are at most the last one looked at, and rise
-IsBelow : List ℕ → ℕ → Type 0
-IsBelow xs n = (d : ℕ) → 0 < length xs → get_or xs (length xs - 1) d ≤ n
-
-end-push : (xs : List ℕ) (x d : ℕ) → get_or (xs ++ x ∷ []) (length (xs ++ x ∷ []) - 1) d ≡ x
-end-push xs x d = get_or_from_slice_get (xs ++ x ∷ []) (length (xs ++ x ∷ []) - 1) x d (last-push xs x)
-
-one-more-IsBelow : (b : Bool) (xs : List ℕ) (n : ℕ) → IsBelow xs n → IsBelow (xs ++ (if b then suc n ∷ [] else [])) (suc n)
-unfolding IsBelow
-one-more-IsBelow true xs n up = λ d l. omega (arith, end-push xs (suc n) d)
-one-more-IsBelow false xs n up = λ d l. rw (append-nil xs) (let m = up d (rw (sym (append-nil xs)) l) in omega (arith, m))
-
-lines-IsBelow : (test : ℕ → Bool) (n : ℕ) → IsBelow (lines_that test n) n
-unfolding IsBelow
-lines-IsBelow test zero = λ d l. absurd (let no : 0 < 0 = l in omega (arith, no))
-lines-IsBelow test (suc n) = one-more-IsBelow (test (suc n)) (lines_that test n) n (lines-IsBelow test n)
-
-one-more-rising : (b : Bool) (xs : List ℕ) (n : ℕ) → IsNonDecreasing xs → IsBelow xs n → IsNonDecreasing (xs ++ (if b then suc n ∷ [] else []))
-unfolding IsBelow
-one-more-rising true xs n up below = IsNonDecreasingBy-push (λ x. x) xs (suc n) up (λ d l. let m = below d l in omega (arith, m))
-one-more-rising false xs n up below = subst IsNonDecreasing (sym (append-nil xs)) up
-
+-- the lines that pass a test rise
 lines-rising : (test : ℕ → Bool) (n : ℕ) → IsNonDecreasing (lines_that test n)
 lines-rising test zero = λ i j d l m. absurd (let no : j < 0 = m in omega (arith, no))
-lines-rising test (suc n) = one-more-rising (test (suc n)) (lines_that test n) n (lines-rising test n) (lines-IsBelow test n)
+lines-rising test (suc n) = at (test (suc n)) (lines-rising test n)
+  where
+    at : (b : Bool) → IsNonDecreasing (lines_that test n) → IsNonDecreasing (lines_that test n ++ (if b then suc n ∷ [] else []))
+    at true up =
+        let all = first-below test (suc n) n (omega arith) in
+        subst (λ ls. IsNonDecreasing (ls ++ suc n ∷ [])) all (rising-pushed (suc n) (lines_that test n) (subst IsNonDecreasing (sym all) up))
+    at false up = subst IsNonDecreasing (sym (append-nil (lines_that test n))) up
 
 pub rows-AreRising : (program : Program) (k : ℕ) (rows : List (List ℕ)) → AreLocals program k rows → AreRising rows
 rows-AreRising program k rows are number = subst IsNonDecreasing (sym (are number)) (lines-rising (has_local program number) k)

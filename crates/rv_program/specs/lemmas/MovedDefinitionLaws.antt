@@ -31,8 +31,7 @@ use Rattle.rv_program.specs.lemmas.EarlierLines.{insert_within, delete_within, r
 
 moved-or : (to : ℕ → ℕ) (a b : DefinitionPlace) → moved_place to (or_place a b) ≡ or_place (moved_place to a) (moved_place to b)
 moved-or to Nowhere b = refl
-moved-or to (ByLabel line index) b = refl
-moved-or to (Equ line) b = refl
+moved-or to _ b = refl
 
 labels-moved : (to : ℕ → ℕ) (line index : ℕ) (ls : List Label) (name : List ℕ) → place_among_labels (to line) index ls name ≡ moved_place to (place_among_labels line index ls name)
 labels-moved to line index [] name = refl
@@ -88,8 +87,7 @@ parted xs ys name =
 
 moved-nowhere : (p : DefinitionPlace) → p ≡ moved_place (λ j. j) p
 moved-nowhere Nowhere = refl
-moved-nowhere (ByLabel line index) = refl
-moved-nowhere (Equ line) = refl
+moved-nowhere _ = refl
 
 -- Definitions before a line, on it and behind it
 
@@ -137,8 +135,7 @@ taken k end to found Nowhere (Equ l) b wa wo wb stays = ap (λ t. if t then foun
 
 found_for-same : (o b : DefinitionPlace) → found_for o b b ≡ b
 found_for-same Nowhere b = refl
-found_for-same (ByLabel l index) b = refl
-found_for-same (Equ l) b = refl
+found_for-same _ b = refl
 
 -- what a line defines, where it is found already
 again : (k : ℕ) (a n b : DefinitionPlace) → IsWithin 1 k a → IsWithin k (k + 1) n → or_place a (or_place n b) ≡ or_here k (or_place a (or_place n b)) n
@@ -246,29 +243,7 @@ inserted lines place line name few first last =
     down place (1 + length before + j) (omega (arith, count, first)) (omega (arith, sum, few, l)) ∙ next)
     ∙ (λ i. or_here (number i) (moved_place to (definition_of (program_of (whole i)) name)) (place_in_statement (number i) (statement_of line) name))
 
-removed : (lines : List (List ℕ)) (place : ℕ) (name : List ℕ) → 1 ≤ place → place ≤ length lines → HoldsAfter lines (Delete place) name
-unfolding HoldsAfter
-removed lines place name first last =
-    let before = take (place - 1) lines in
-    let behind = drop (place - 1 + 1) lines in
-    let line = get_or lines (place - 1) [] in
-    let to = line_after_edit (Delete place) in
-    let next : place - 1 + 1 ≡ suc (place - 1) = omega arith in
-    let count : length before ≡ place - 1 = length-take-le (place - 1) lines (omega (arith, last)) in
-    let number : 1 + length before ≡ place = omega (arith, count, first) in
-    let whole : before ++ line ∷ behind ≡ lines = ap (λ ls. before ++ ls) (sym (drop_more lines (place - 1) [] (omega (arith, first, last)))) ∙ take-append-drop (place - 1) lines in
-    let after : before ++ behind ≡ remove lines (place - 1) = ap (λ k. before ++ drop k lines) next in
-    let from : behind ≡ drop (place - 1) (remove lines (place - 1)) = sym (drop-append_seam before behind) ∙ (λ i. drop (count i) (after i)) in
-    ap (λ ls. definition_of (program_of ls) name) (sym after)
-    ∙ line-taken_out before behind name to line
-    (λ j l. stay place (1 + j) (1 + j - 1) (omega (arith, l, count, first)))
-    (λ j l.
-    let next : 1 + length before + 1 + j - 1 ≡ 1 + length before + j = omega arith in
-    up place (1 + length before + 1 + j) (omega (arith, count, first)) ∙ next)
-    ∙ (λ i. if is_on (number i) (definition_of (program_of (whole i)) name) then first_place (number i) (program_of (from i)) name else moved_place to (definition_of (program_of (whole i)) name))
-    ∙ sym (here-nothing place (kept_after (Delete place) (remove lines (place - 1)) (definition_of (program_of lines)) name))
-
-module _ (lines : List (List ℕ)) (place : ℕ) (line name : List ℕ) (first : 1 ≤ place) (last : place ≤ length lines) where
+module _ (lines : List (List ℕ)) (place : ℕ) (name : List ℕ) (first : 1 ≤ place) (last : place ≤ length lines) where
   abbrev before_place : List (List ℕ)
   before_place = take (place - 1) lines
 
@@ -290,18 +265,33 @@ module _ (lines : List (List ℕ)) (place : ℕ) (line name : List ℕ) (first :
   whole-before : before_place ++ former_line ∷ behind_place ≡ lines
   whole-before = ap (λ ls. before_place ++ ls) (sym (drop_more lines (place - 1) [] within-place)) ∙ take-append-drop (place - 1) lines
 
-  whole-after : before_place ++ line ∷ behind_place ≡ set lines (place - 1) line
-  whole-after =
+  removed : HoldsAfter lines (Delete place) name
+  unfolding HoldsAfter
+  removed =
+      let after : before_place ++ behind_place ≡ remove lines (place - 1) = ap (λ k. before_place ++ drop k lines) (let next : place - 1 + 1 ≡ suc (place - 1) = omega arith in next) in
+      let from : behind_place ≡ drop (place - 1) (remove lines (place - 1)) = sym (drop-append_seam before_place behind_place) ∙ (λ i. drop (count-before i) (after i)) in
+      let to = line_after_edit (Delete place) in
+      ap (λ ls. definition_of (program_of ls) name) (sym after)
+      ∙ line-taken_out before_place behind_place name to former_line
+      (λ j l. stay place (1 + j) (1 + j - 1) (omega (arith, l, count-before, first)))
+      (λ j l.
+      let next : 1 + length before_place + 1 + j - 1 ≡ 1 + length before_place + j = omega arith in
+      up place (1 + length before_place + 1 + j) (omega (arith, count-before, first)) ∙ next)
+      ∙ (λ i. if is_on (number-at i) (definition_of (program_of (whole-before i)) name) then first_place (number-at i) (program_of (from i)) name else moved_place to (definition_of (program_of (whole-before i)) name))
+      ∙ sym (here-nothing place (kept_after (Delete place) (remove lines (place - 1)) (definition_of (program_of lines)) name))
+
+  whole-after : (line : List ℕ) → before_place ++ line ∷ behind_place ≡ set lines (place - 1) line
+  whole-after line =
       sym
       (sym (take-append-drop (place - 1) (set lines (place - 1) line))
       ∙ ap (λ ls. ls ++ drop (place - 1) (set lines (place - 1) line)) (take-set lines (place - 1) line)
       ∙ ap (λ ls. before_place ++ ls) (drop-set lines (place - 1) line within-place))
 
-  replaced : HoldsAfter lines (Replace place line) name
+  replaced : (line : List ℕ) → HoldsAfter lines (Replace place line) name
   unfolding HoldsAfter
-  replaced =
+  replaced line =
       let from : line ∷ behind_place ≡ drop (place - 1) (set lines (place - 1) line) = sym (drop-set lines (place - 1) line within-place) in
-      ap (λ ls. definition_of (program_of ls) name) (sym whole-after)
+      ap (λ ls. definition_of (program_of ls) name) (sym (whole-after line))
       ∙ line-replaced before_place behind_place name former_line line
       ∙ (λ i. or_here (number-at i)
       (if is_on (number-at i) (definition_of (program_of (whole-before i)) name) then first_place (number-at i) (program_of (from i)) name else moved_place (λ j. j) (definition_of (program_of (whole-before i)) name))
@@ -313,7 +303,7 @@ after-edit lines (Insert place line) name few allowed =
 after-edit lines (Delete place) name few allowed =
     let within = delete_within lines place allowed in removed lines place name within.0 within.1
 after-edit lines (Replace place line) name few allowed =
-    let within = replace_within lines place line allowed in replaced lines place line name within.0 within.1
+    let within = replace_within lines place line allowed in replaced lines place name within.0 within.1 line
 
 -- the definitions after an edit: those of before, as they are kept, with what the line defines that it puts in
 pub definitions-after : (lines : List (List ℕ)) (edit : Edit) → length lines ≤ MAX_LINES → refusal_of lines edit ≡ None → also_on (place_of_edit edit) (kept_after edit (lines_after lines edit) (definition_of (program_of lines))) (put_in edit) ≡ definition_of (program_of (lines_after lines edit))
@@ -386,8 +376,7 @@ module _ (edit : Edit) (after names : List (List ℕ)) (row : List DefinitionPla
     where
       nowhere-kept : (edit : Edit) (found : DefinitionPlace) → place_after edit found Nowhere ≡ Nowhere
       nowhere-kept (Insert place line) found = refl
-      nowhere-kept (Delete place) found = refl
-      nowhere-kept (Replace place line) found = refl
+      nowhere-kept _ found = refl
 
       by : (name : List ℕ) (k : ℕ) → number_of names name ≡ Some k → (k < n) ⊎ (n ≤ k) → get_or row' k Nowhere ≡ place_after edit (found_after edit after name) (get_or row k Nowhere)
       by name k e (inl below) = all.kept k below name e

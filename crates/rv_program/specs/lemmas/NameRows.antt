@@ -1,15 +1,17 @@
 -- Numbers of names, and rows by these numbers.
 use Rattle.std.proofs.Common.{◌≡◌, ℕ, zero, suc, ◌+◌, ◌<◌, ◌≤◌, Bool, true, false, not, ◌-◌, cond, nat_lt, ltb, List, [], ◌∷◌, ◌++◌, ◌||◌, length, map, get_or, set, take, replicate, position, bytes_eq, Option, Some, None, option_map, if◌then◌else◌, arith, append_assoc, ap, sym, subst, ◌∙◌, refl}
 use Rattle.std.proofs.Math.Path.{fun_ext}
-use Rattle.std.proofs.lemmas.Bool.{false≢true}
+use Rattle.std.proofs.lemmas.Bool.{false≢true, false_from_ne_true}
 use Rattle.std.proofs.lemmas.Grind.{common_steps}
 use Rattle.std.proofs.lemmas.Bool.Decides.{nat_tests}
 use Rattle.std.proofs.lemmas.List.{append-nil, map-append, length-append, get_or_past, get_or-set_same, get_or-set_other, take_all, length-replicate}
+use Rattle.std.proofs.lemmas.List.Quantifiers.{position-Some}
 use Rattle.std.proofs.lemmas.Slice.Eq.{bytes_eq-Decides}
 use Rattle.std.specs.List.{list_any, position_or_len, AllByRecursion, IsDistinct}
 use Rattle.std.specs.Option.{is_some}
 use Rattle.rv_program.specs.internal.NameSets.{bucket_of}
 use Rattle.rv_program.specs.internal.Rows.{number_of, has_number, entry_at, in_row, Grows}
+use Rattle.rv_program.specs.lemmas.Lists.{get_or-same}
 use Rattle.rv_program.specs.lemmas.NameSetLaws.{bucket-below}
 
 -- Places of elements
@@ -35,25 +37,6 @@ position-map p f (x ∷ xs) =
     position-cons p (f x) (map f xs)
     ∙ ap (λ r. if p (f x) then Some 0 else option_map suc r) (position-map p f xs)
     ∙ sym (position-cons (λ y. p (f y)) x xs)
-
-position-below : {A : Type 0} (p : A → Bool) (xs : List A) (n : ℕ) → position p xs ≡ Some n → n < length xs
-position-below p xs n e = at (position_or_len p xs) (length xs) e
-  where
-    at : (k l : ℕ) → cond (nat_lt k l) (Some k) None ≡ Some n → n < l
-    at k l g = grind (arith, nat_tests, common_steps)
-
--- what stands at the place passes
-position-passes : {A : Type 0} (p : A → Bool) (xs : List A) (n : ℕ) (other : A) → position p xs ≡ Some n → p (get_or xs n other) ≡ true
-position-passes p [] n other e = absurd (let no : None ≡ Some n = e in cc)
-position-passes p (x ∷ xs) n other e =
-    at n (p x) refl (position p xs) refl (sym (position-cons p x xs) ∙ e) (λ k. position-passes p xs k other)
-  where
-    at : (n : ℕ) (b : Bool) → p x ≡ b → (r : Option ℕ) → position p xs ≡ r → (if b then Some 0 else option_map suc r) ≡ Some n → ((k : ℕ) → position p xs ≡ Some k → p (get_or xs k other) ≡ true) → p (get_or (x ∷ xs) n other) ≡ true
-    at zero true h r g e ih = h
-    at (suc n) true h r g e ih = absurd (let no : Some 0 ≡ Some (suc n) = e in cc)
-    at n false h None g e ih = absurd (let no : None ≡ Some n = e in cc)
-    at zero false h (Some k) g e ih = absurd (let no : Some (suc k) ≡ Some 0 = e in cc)
-    at (suc n) false h (Some k) g e ih = let is : Some (suc k) ≡ Some (suc n) = e in let same : k ≡ n = cc in ih n (g ∙ ap Some same)
 
 -- with more elements at the end
 position-left : {A : Type 0} (p : A → Bool) (xs ys : List A) (n : ℕ) → position p xs ≡ Some n → position p (xs ++ ys) ≡ Some n
@@ -101,11 +84,11 @@ position-inserted p (x ∷ xs) y h = at (p x) refl (list_any p xs) refl (positio
 -- Names
 
 pub number-below : (names : List (List ℕ)) (name : List ℕ) (n : ℕ) → number_of names name ≡ Some n → n < length names
-number-below names name n e = position-below (bytes_eq name) names n e
+number-below names name n e = (position-Some (bytes_eq name) names n [] e).0
 
 -- a name stands at the place that is its number
 pub name-at : (names : List (List ℕ)) (name : List ℕ) (n : ℕ) (other : List ℕ) → number_of names name ≡ Some n → name ≡ get_or names n other
-name-at names name n other e = (bytes_eq-Decides name (get_or names n other)).0 (position-passes (bytes_eq name) names n other e)
+name-at names name n other e = (bytes_eq-Decides name (get_or names n other)).0 (position-Some (bytes_eq name) names n other e).1
 
 -- names with the same number are one
 pub number-same : (names : List (List ℕ)) (m name : List ℕ) (n : ℕ) → number_of names m ≡ Some n → number_of names name ≡ Some n → m ≡ name
@@ -114,11 +97,8 @@ number-same names m name n e g = name-at names m n [] e ∙ sym (name-at names n
 -- among names that differ
 
 unlike : (m name : List ℕ) → bytes_eq m name ≡ false → bytes_eq name m ≡ false
-unlike m name h = at (bytes_eq name m) refl
-  where
-    at : (b : Bool) → bytes_eq name m ≡ b → bytes_eq name m ≡ false
-    at false e = e
-    at true e = absurd (false≢true (sym h ∙ (bytes_eq-Decides m name).1 (sym ((bytes_eq-Decides name m).0 e))))
+unlike m name h =
+    false_from_ne_true (bytes_eq name m) (λ e. false≢true (sym h ∙ (bytes_eq-Decides m name).1 (sym ((bytes_eq-Decides name m).0 e))))
 
 all-at : {A : Type 0} (P : A → Type 0) (xs : List A) (n : ℕ) (other : A) → AllByRecursion P xs → n < length xs → P (get_or xs n other)
 all-at P [] n other all within = absurd (let no : n < 0 = within in omega (arith, no))
@@ -239,9 +219,7 @@ row-set names row other name n v f e within same others = fun_ext (λ m. by_name
         by_number m differs (number_of names m) refl ∙ others m differs
 
 get_or-filled : {A : Type 0} (row : List A) (other : A) (k n : ℕ) → get_or (row ++ replicate k other) n other ≡ get_or row n other
-get_or-filled [] other zero n = refl
-get_or-filled [] other (suc k) zero = refl
-get_or-filled [] other (suc k) (suc n) = get_or-filled [] other k n
+get_or-filled [] other k n = get_or-same k n other
 get_or-filled (x ∷ row) other k zero = refl
 get_or-filled (x ∷ row) other k (suc n) = get_or-filled row other k n
 
@@ -253,21 +231,14 @@ row-filled names row other k = fun_ext (λ name. at (number_of names name))
     at None = refl
     at (Some n) = get_or-filled row other k n
 
--- a row that is made longer
-lengthened : {A : Type 0} (names : List (List ℕ)) (row : List A) (other : A) (n : ℕ) → length row ≤ n → in_row names (take n row ++ replicate (n - length row) other) other ≡ in_row names row other
-lengthened names row other n within =
-    ap (λ l. in_row names (l ++ replicate (n - length row) other) other) (take_all n row within)
-    ∙ row-filled names row other (n - length row)
-
 -- one that gets a place for each name
 pub row-placed : {A : Type 0} (names : List (List ℕ)) (row row' : List A) (other : A) (n count : ℕ) → row' ≡ take n row ++ replicate (n - count) other → count ≡ length row → n ≡ length names → length row ≤ length names → (in_row names row' other ≡ in_row names row other) × (length row' ≤ length names)
 row-placed names row row' other n count made counted all within =
-    let made' : row' ≡ take n row ++ replicate (n - length row) other = made ∙ ap (λ k. take n row ++ replicate (n - k) other) counted in
     let least : length row ≤ n = omega (arith, all, within) in
-    let whole : row' ≡ row ++ replicate (n - length row) other = made' ∙ ap (λ l. l ++ replicate (n - length row) other) (take_all n row least) in
+    let whole : row' ≡ row ++ replicate (n - length row) other = made ∙ (λ i. take_all n row least i ++ replicate (n - counted i) other) in
     let count' : length row' ≡ length row + (n - length row) =
     ap length whole ∙ length-append row (replicate (n - length row) other) ∙ ap (λ k. length row + k) (length-replicate (n - length row) other) in
-    (ap (λ r. in_row names r other) made' ∙ lengthened names row other n least, omega (arith, count', all, least))
+    (ap (λ r. in_row names r other) whole ∙ row-filled names row other (n - length row), omega (arith, count', all, least))
 
 -- a row of nothing but the other value
 pub row-empty : {A : Type 0} (names : List (List ℕ)) (other : A) (k : ℕ) → in_row names (replicate k other) other ≡ (λ name. other)
@@ -275,4 +246,4 @@ row-empty names other k = fun_ext (λ name. at (number_of names name))
   where
     at : (r : Option ℕ) → entry_at (replicate k other) other r ≡ other
     at None = refl
-    at (Some n) = get_or-filled [] other k n
+    at (Some n) = get_or-same k n other

@@ -1,5 +1,5 @@
 -- Sets of names: what they have, and which tests no name of a line passes.
-use Rattle.std.proofs.Common.{◌≡◌, ◌≤◌, ℕ, zero, suc, ◌<◌, ◌%◌, ◌==◌, ◌⊎◌, inl, inr, Bool, true, false, ◌||◌, List, [], ◌∷◌, length, replicate, get_or, slice_set, Option, Some, None, true≢false, arith, ap, sym, ◌∙◌, refl}
+use Rattle.std.proofs.Common.{◌≡◌, ◌≤◌, ℕ, ◌<◌, ◌%◌, ◌==◌, ◌⊎◌, inl, inr, Bool, true, false, ◌||◌, List, [], ◌∷◌, length, replicate, slice_set, Option, Some, None, true≢false, arith, ap, sym, ◌∙◌, refl}
 use Rattle.std.specs.List.{list_any, fold}
 use Rattle.std.proofs.lemmas.Bool.{cases_eq, eqb-true, eq-eqb, or_cases, or_left, or_right}
 use Rattle.std.proofs.lemmas.List.{get_or-set_other}
@@ -11,6 +11,7 @@ use Rattle.rv_program.specs.declared.name_set.Mark.TheVariants.{Unknown}
 use Rattle.rv_program.specs.internal.NameSets.{next_bucket, bucket_of, differs, AreGrouped, no_names, with_bucket, with_name, with_names, brief_of_names, is_bucket, may_have, with_group_of, groups_used}
 use Rattle.rv_program.specs.internal.Groups.{no_groups, has_bit, with_group, has_group}
 use Rattle.rv_program.specs.lemmas.GroupLaws.{bit-left, no-bit, group-added, group-kept}
+use Rattle.rv_program.specs.lemmas.Lists.{get_or-same}
 
 bucket-after : (bucket : ℕ) (name : List ℕ) → bucket < 16384 → fold next_bucket bucket name < 16384
 bucket-after bucket [] below = below
@@ -19,16 +20,10 @@ bucket-after bucket (byte ∷ bytes) below = bucket-after (next_bucket bucket by
 pub bucket-below : (name : List ℕ) → bucket_of name < 16384
 bucket-below name = bucket-after 0 name (omega arith)
 
--- no bucket has a mark yet
-pub none-marked : (n bucket : ℕ) → get_or (replicate n Unknown) bucket Unknown ≡ Unknown
-none-marked zero bucket = refl
-none-marked (suc n) zero = refl
-none-marked (suc n) (suc bucket) = none-marked n bucket
-
 -- The marks of a set
 
 pub none-grouped : (n : ℕ) (groups : Groups) → AreGrouped (Some (replicate n Unknown)) groups
-none-grouped n groups bucket has = absurd (true≢false (sym has ∙ ap differs (none-marked n bucket)))
+none-grouped n groups bucket has = absurd (true≢false (sym has ∙ ap differs (get_or-same n bucket Unknown)))
 
 module _ (marks : List Mark) (groups : Groups) (place : ℕ) (mark : Mark) (within : place < length marks) (grouped : AreGrouped (Some marks) groups) where
   pub grouped-with : AreGrouped (Some (slice_set marks place mark)) (with_group groups place)

@@ -121,8 +121,7 @@ through-stood edit i j h = at (stood-adds edit i j h) (cases_lt i (place_of_edit
 
 pub new-place : (edit : Edit) (k : ℕ) → line_before_edit edit k ≡ None → k ≡ place_of_edit edit
 new-place (Insert place line) k h = grind (arith, nat_tests, common_steps)
-new-place (Delete place) k h = grind (arith, nat_tests, common_steps)
-new-place (Replace place line) k h = grind (arith, nat_tests, common_steps)
+new-place _ k h = grind (arith, nat_tests, common_steps)
 
 -- the new line has its share of the work on one line more
 module _ (base : ℕ) (lines : List (List ℕ)) (edit : Edit) (allowed : refusal_of lines edit ≡ None) where

@@ -16,21 +16,22 @@ use Rattle.rv_program.specs.Uses.{is_equ}
 use Rattle.rv_program.specs.internal.Work.{equ_operands, constant_operands, high_operands, survey_operands, operands_through, work}
 use Rattle.rv_program.specs.lemmas.KeptLines.{not_new, uses-same}
 
--- sums of three numbers each
-sum_of_three : (f g h : ℕ → ℕ) (ks : List ℕ) → sum_by f ks + sum_by g ks + sum_by h ks ≡ sum_by (λ k. f k + g k + h k) ks
-sum_of_three f g h [] = refl
-sum_of_three f g h (k ∷ ks) =
-    let rest = sum_of_three f g h ks in
+-- sums of two numbers each
+pub sum_of_two : (f g : ℕ → ℕ) (ks : List ℕ) → sum_by (λ k. f k + g k) ks ≡ sum_by f ks + sum_by g ks
+sum_of_two f g [] = refl
+sum_of_two f g (k ∷ ks) =
+    let rest = sum_of_two f g ks in
     let first = sum_by-cons f k ks in
     let second = sum_by-cons g k ks in
-    let third = sum_by-cons h k ks in
-    let all = sum_by-cons (λ k. f k + g k + h k) k ks in
-    omega (arith, rest, first, second, third, all)
+    let both = sum_by-cons (λ k. f k + g k) k ks in
+    omega (arith, rest, first, second, both)
 
 pub survey-work : (base : ℕ) (lines : List (List ℕ)) (edit : Edit) (n : ℕ) → work constant_operands base lines edit n + work high_operands base lines edit n + work equ_operands base lines edit n ≡ work survey_operands base lines edit n
 survey-work base lines edit n =
     let body : ℕ → Body = body_at (program_after lines edit) in
-    sum_of_three (λ k. constant_operands (body k)) (λ k. high_operands (body k)) (λ k. equ_operands (body k)) (lines_that (is_invalidated base lines edit) n)
+    let those : List ℕ = lines_that (is_invalidated base lines edit) n in
+    sym (sum_of_two (λ k. constant_operands (body k) + high_operands (body k)) (λ k. equ_operands (body k)) those
+    ∙ ap (λ x. x + work equ_operands base lines edit n) (sum_of_two (λ k. constant_operands (body k)) (λ k. high_operands (body k)) those))
 
 no_equ : (b : Body) → is_equ b ≡ false → equ_operands b ≡ 0
 no_equ (Equ d) h = absurd (true≢false h)

@@ -1,5 +1,5 @@
 -- Lines of a text, by their numbers.
-use Rattle.std.proofs.Common.{◌≡◌, Bool, true, false, not, ◌&&◌, ◌==◌, nat_le, ℕ, suc, ◌-◌, ◌<◌, ◌≤◌, List, length, get_or, Option, Some, None, true≢false, arith, ap, sym, ◌∙◌, refl}
+use Rattle.std.proofs.Common.{◌≡◌, Bool, true, false, not, ◌&&◌, ◌==◌, nat_le, ℕ, ◌-◌, ◌<◌, ◌≤◌, List, length, get_or, Option, Some, None, true≢false, arith, ap, sym, ◌∙◌, refl}
 use Rattle.std.specs.List.{list_any}
 use Rattle.std.specs.Option.{is_some}
 use Rattle.std.proofs.lemmas.Bool.{leb-true}
@@ -17,7 +17,7 @@ use Rattle.rv_program.specs.Program.{program_of, no_statement, statement_at, bod
 use Rattle.rv_program.specs.internal.Rows.{AreShapes, ArePlaces}
 use Rattle.rv_program.specs.Text.{is_line}
 use Rattle.rv_program.specs.Uses.{is_equ}
-use Rattle.rv_program.specs.lemmas.Programs.{at-for_lines, length-for_lines, length-program}
+use Rattle.rv_program.specs.lemmas.Programs.{at-line, length-for_lines, length-program}
 
 few_bytes : (line : List ℕ) → is_line line ≡ true → length line ≤ 1000
 few_bytes line right = at (not (list_any (λ b. b == 10) line)) right
@@ -48,10 +48,8 @@ length_of_places base lines row are =
 -- a line's place
 pub place_of_line : (base : ℕ) (lines : List (List ℕ)) (row : List LinePlace) (i : ℕ) (other : LinePlace) → ArePlaces base (program_of lines) row → 1 ≤ i → i ≤ length lines → get_or row (i - 1) other ≡ place_at base (program_of lines) i
 place_of_line base lines row i other are first last =
-    let within : i - 1 < length (program_of lines) = omega (arith, first, last, length-program lines) in
-    let next : suc (i - 1) ≡ i = omega (arith, first) in
-    ap (λ r. get_or r (i - 1) other) are ∙ at-for_lines (place_at base (program_of lines)) (length (program_of lines)) (i - 1) other within
-    ∙ ap (place_at base (program_of lines)) next
+    ap (λ r. get_or r (i - 1) other) are
+    ∙ at-line (place_at base (program_of lines)) (length (program_of lines)) i other first (omega (arith, last, length-program lines))
 
 -- the row of shapes has one for each line
 pub length_of_shapes : (lines : List (List ℕ)) (row : List Measured) → AreShapes (program_of lines) row → length row ≡ length lines
@@ -61,10 +59,8 @@ length_of_shapes lines row are =
 -- a line's shape
 pub shape_of_line : (lines : List (List ℕ)) (row : List Measured) (i : ℕ) (other : Measured) → AreShapes (program_of lines) row → 1 ≤ i → i ≤ length lines → get_or row (i - 1) other ≡ shape_at (program_of lines) i
 shape_of_line lines row i other are first last =
-    let within : i - 1 < length (program_of lines) = omega (arith, first, last, length-program lines) in
-    let next : suc (i - 1) ≡ i = omega (arith, first) in
-    ap (λ r. get_or r (i - 1) other) are ∙ at-for_lines (shape_at (program_of lines)) (length (program_of lines)) (i - 1) other within
-    ∙ ap (shape_at (program_of lines)) next
+    ap (λ r. get_or r (i - 1) other) are
+    ∙ at-line (shape_at (program_of lines)) (length (program_of lines)) i other first (omega (arith, last, length-program lines))
 
 -- a body that is no definition is no `.equ`
 pub no_definition : (b : Body) → ((d : Definition) → b ≡ Equ d → ⊥) → is_equ b ≡ false

@@ -1,13 +1,13 @@
 -- What one line more adds to the work on the lines that an edit invalidates.
-use Rattle.std.proofs.Common.{◌≡◌, ℕ, zero, suc, ◌+◌, ◌-◌, ◌<◌, ◌≤◌, ◌⊎◌, inl, inr, Bool, true, false, List, [], ◌∷◌, if◌then◌else◌, arith, ap, ◌∙◌, refl}
+use Rattle.std.proofs.Common.{◌≡◌, ℕ, zero, suc, ◌+◌, ◌-◌, ◌≤◌, Bool, true, false, List, [], ◌∷◌, if◌then◌else◌, arith, ap, ◌∙◌, refl}
 use Rattle.std.specs.List.{sum_by}
-use Rattle.std.proofs.lemmas.Bool.{cases_lt}
 use Rattle.std.proofs.lemmas.List.Sums.{sum_by-append}
 use Rattle.rv_stmt.specs.declared.statement.Body.{Body}
 use Rattle.rv_program.specs.Changes.{program_after, is_invalidated}
 use Rattle.rv_program.specs.Program.{body_at, lines_that}
 use Rattle.rv_program.specs.Text.{Edit}
 use Rattle.rv_program.specs.internal.Work.{work}
+use Rattle.rv_program.specs.lemmas.Programs.{rises_to}
 
 module _ (operands : Body → ℕ) (base : ℕ) (lines : List (List ℕ)) (edit : Edit) where
   -- the share of a line: its operands, if the edit invalidates it
@@ -39,9 +39,4 @@ module _ (operands : Body → ℕ) (base : ℕ) (lines : List (List ℕ)) (edit 
   work-more k first = omega (arith, work-line k first)
 
   pub work-up : (m n : ℕ) → m ≤ n → work operands base lines edit m ≤ work operands base lines edit n
-  work-up m zero below = omega (arith, ap (work operands base lines edit) (let e : m ≡ 0 = omega (arith, below) in e))
-  work-up m (suc n) below = at (cases_lt n m) (work-up m n)
-    where
-      at : (n < m) ⊎ (m ≤ n) → (m ≤ n → work operands base lines edit m ≤ work operands base lines edit n) → work operands base lines edit m ≤ work operands base lines edit (suc n)
-      at (inl above) up = omega (arith, ap (work operands base lines edit) (let e : m ≡ suc n = omega (arith, below, above) in e))
-      at (inr less) up = omega (arith, up less, work-next n)
+  work-up = rises_to (work operands base lines edit) (λ n. omega (arith, work-next n))

@@ -1,5 +1,5 @@
 -- A column of lines, and edits of it.
-use Rattle.std.specs.Prelude.{ℕ, ◌+◌, ◌<◌, ◌≤◌, List, length, take, set, Option, Some, None}
+use Rattle.std.specs.Prelude.{ℕ, ◌<◌, List, length, take, set, Option, Some, None}
 use Rattle.rv_program.specs.Text.{Edit, Insert, Delete, Replace}
 
 -- the lines, and for how many of them and of their groups there is room
@@ -7,12 +7,6 @@ pub record Listed : Type 0 where
   pub items : List (List ℕ)
   pub room : ℕ
   pub group_room : ℕ
-
--- there are so many lines that the edit has its place
-abbrev pub HasPlace : {A : Type 0} → List A → Edit → Type 0
-HasPlace row (Insert place line) = (1 ≤ place) × (place ≤ length row + 1)
-HasPlace row (Delete place) = (1 ≤ place) × (place ≤ length row)
-HasPlace row (Replace place line) = (1 ≤ place) × (place ≤ length row)
 
 -- the edit takes no memory
 abbrev pub HasRoom : Listed → Edit → Type 0

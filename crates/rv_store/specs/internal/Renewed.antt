@@ -25,8 +25,8 @@ pub record AreItemsLeft (r : EditedText) (items : List Item) (due : List ℕ) (c
   pub former : AreFormer r.base r.lines r.edit 0 items
   pub told : AreDue r (length items) due
 
--- an edit puts a line with which others have to do by its names alone in the text of these items: so it comes to be this text, and these
--- lines are due
+-- an edit puts a line with which others have to do by its names and its local labels alone in the text of these items: so it comes to be
+-- this text, and these lines are due
 pub record ArePut (base : ℕ) (text : List (List ℕ)) (items : List Item) (edit : Edit) (due : List ℕ) : Type 0 where
   pub line : List ℕ
   pub given : Still

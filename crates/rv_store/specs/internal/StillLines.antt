@@ -1,4 +1,4 @@
--- A line with which no other line has to do, and the rows of a text that get it in place.
+-- A line with which other lines have to do by its names and its local labels alone, and the rows of a text that get it in place.
 use Rattle.std.specs.Prelude.{◌≡◌, ℕ, suc, ◌+◌, ◌-◌, ◌<◌, ◌≤◌, ◌⊎◌, nat_lt, ◌&&◌, Bool, true, false, List, [], ◌∷◌, ◌++◌, length, get_or, Option, Some, None}
 use Rattle.rv_stmt.specs.Statement.{statement_of}
 use Rattle.rv_layout.specs.Places.{IsLimited}

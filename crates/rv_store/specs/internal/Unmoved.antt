@@ -5,7 +5,7 @@ use Rattle.rv_layout.specs.declared.measured.Measured.TheVariants.{Nothing}
 use Rattle.rv_list.specs.declared.view.LinePlace.{LinePlace}
 use Rattle.rv_program.specs.Text.{Edit, Insert, Delete, Replace}
 use Rattle.rv_store.specs.internal.Alike.{room_of}
-use Rattle.rv_store.specs.internal.EditedRows.{edited_row}
+use Rattle.rv_program.specs.internal.EditedRows.{edited_row}
 
 -- where lines have these shapes, an edit that puts in a line of this one leaves all others where they are: a line that it puts in between
 -- others, or takes out, has no bytes and switches no section, and one that it puts in the place of another lies as that did

@@ -17,16 +17,12 @@ pub differs_in_distance-requires-clause-no_equ_before : goal.differs_in_distance
 differs_in_distance-requires-clause-no_equ_before g c =
     let before = c.args.before.now in
     let after = c.args.after.now.text in
-    let stands : line_before_edit (edit_on before) c.args.line ≡ Some c.in-Some.stood = sym c.line_before.ensures ∙ c.in-Some.is in
-    let same = body-before before after c.args.line c.in-Some.stood c.requires.before c.requires.after c.requires.first c.requires.last stands in
+    let same = body-before before after c.args.line c.in-Some.stood c.requires.before c.requires.after c.requires.first c.requires.last (sym c.line_before.ensures ∙ c.in-Some.is) in
     ap is_equ (sym same) ∙ jump-open (body_at (program_in after) c.args.line) c.args.target.now c.requires.target
 
 pub differs_in_local_distance-requires-clause-last_stood : goal.differs_in_local_distance-requires-clause-last_stood
 differs_in_local_distance-requires-clause-last_stood g c =
-    let before = c.args.before.now in
-    let stands : line_before_edit (edit_on before) c.args.line ≡ Some c.in-Some.stood = sym c.line_before.ensures ∙ c.in-Some.is in
-    let there = stood-before before c.args.after.now.text c.args.line c.in-Some.stood c.requires.before c.requires.after c.requires.first c.requires.last stands in
-    there.last
+    (stood-before c.args.before.now c.args.after.now.text c.args.line c.in-Some.stood c.requires.before c.requires.after c.requires.first c.requires.last (sym c.line_before.ensures ∙ c.in-Some.is)).last
 
 pub returns-in-Symbol-clause-due : goal.returns-in-Symbol-clause-due
 returns-in-Symbol-clause-due g c =
@@ -58,10 +54,9 @@ pub returns-in-Local-clause-compared : goal.returns-in-Local-clause-compared
 returns-in-Local-clause-compared g c =
     let before = c.args.before.now in
     let after = c.args.after.now.text in
-    let stands : line_before_edit (edit_on before) c.args.line ≡ Some c.in-Some.stood = sym c.line_before.ensures ∙ c.in-Some.is in
     let goes : target_of (body_at (program_in after) c.args.line) ≡ Some (Local c.in-Local.number c.in-Local.direction) =
     c.requires.target ∙ ap Some (sym c.target.view_is ∙ ap tree_of_node c.in-Local.is) in
-    let one = local-compared before after c.args.line c.requires.after c.requires.first c.in-Some.stood c.in-Local.number c.in-Local.direction stands goes in
+    let one = local-compared before after c.args.line c.requires.after c.requires.first c.in-Some.stood c.in-Local.number c.in-Local.direction (sym c.line_before.ensures ∙ c.in-Some.is) goes in
     let counted = c.differs_in_local_distance.ensures in
     record {
       parsed = counted.parsed;

@@ -1,6 +1,6 @@
 use Rattle.std.proofs.Common.{arith, subst}
 use Rattle.rv_program.specs.Edits.{edit_of}
-use Rattle.rv_store.specs.internal.Column.{HasPlace}
+use Rattle.rv_program.specs.internal.EditedRows.{HasPlace}
 use Rattle.rv_store.proofs.edited_row.edited_row.Goals as goal
 
 pub split_at-requires : goal.split_at-requires

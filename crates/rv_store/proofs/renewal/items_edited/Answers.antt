@@ -11,7 +11,7 @@ items_passed-requires-clause-left g c =
     let before = c.before-before.ensures in
     let n = length c.rows-rows.result.symbols.text.lines.now in
     let due = c.in_ok-due.ensures.due in
-    let count : length c.args.items.now.items ≡ n = c.requires.count ∙ sym (ap length (c.rows-rows.ensures.lines ∙ c.in_column-column.ensures)) in
+    let count : length c.args.items.now.items ≡ n = c.requires.count ∙ sym (ap length (c.rows-rows.ensures.lines ∙ c.in_column-column.ensures ∙ c.as_slice-lines.ensures)) in
     subst (λ r. AreItemsLeft r c.args.items.now.items c.deref.result.now n) (sym c.revision.ensures) (record {
       few = omega (arith, count);
       next = omega (arith, count);
@@ -28,7 +28,7 @@ pub due_lines-requires-clause-still : goal.due_lines-requires-clause-still
 due_lines-requires-clause-still g c = λ still line stood first last stands.
     let before = c.before-before.ensures in
     let rows = c.rows-rows.ensures in
-    let lines = rows.lines ∙ c.in_column-column.ensures in
+    let lines = rows.lines ∙ c.in_column-column.ensures ∙ c.as_slice-lines.ensures in
     (λ i. differs_in_place (before.base i) (program_of (before.lines i)) (program_of (lines i)) line stood)
-    ∙ still-unmoved c.args.base c.args.old_lines.now c.args.lines.now (edit_of c.args.edit.now) c.args.old.now.shapes.items c.args.survey.now.shapes.items
+    ∙ still-unmoved c.args.base c.args.old_lines.now c.args.old.now.lines.items (edit_of c.args.edit.now) c.args.old.now.shapes.items c.args.survey.now.shapes.items
     c.requires.old.shapes c.requires.survey.shapes line stood c.requires.allowed (c.requires.still still) first (ap (λ e. line_before_edit e line) (sym before.edit) ∙ stands)

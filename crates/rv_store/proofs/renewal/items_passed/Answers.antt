@@ -1,6 +1,8 @@
-use Rattle.std.proofs.Common.{◌≡◌, ◌+◌, ◌-◌, length, None, arith, ap, sym, subst, ◌∙◌}
+use Rattle.std.proofs.Common.{◌≡◌, ℕ, ◌+◌, ◌≤◌, List, length, None, arith, ap, sym, subst, ◌∙◌}
+use Rattle.rv_program.specs.declared.item.Item.{Item}
 use Rattle.rv_program.specs.Counted.{counts_of}
 use Rattle.rv_program.specs.Edits.{edit_of, line_before_edit}
+use Rattle.rv_program.specs.internal.Items.{AreFirstItems}
 use Rattle.rv_program.specs.internal.Renewals.{changed_through, AreCounted}
 use Rattle.rv_program.specs.internal.Revisions.{edited_text}
 use Rattle.rv_program.specs.internal.ValueRows.{base_of}
@@ -39,60 +41,44 @@ returns-then-line-len-clause-counted g c =
 
 -- There is none for the last line
 
+next-last : (base : ℕ) (text : List (List ℕ)) (k count len : ℕ) (items : List Item) → AreFirstItems base text k items → count ≡ length items → count + 1 ≤ len → len ≡ length text → length text ≤ k + 1 → (count + 1 ≡ k + 1) × (count + 1 ≡ length text)
+next-last base text k count len items are counted within all few =
+    let same = first-count base text k items are in
+    let next : count + 1 ≡ k + 1 = omega (arith, same, counted) in
+    (next, omega (arith, next, within, all, few))
+
 pub line_behind-requires-clause-new : goal.line_behind-requires-clause-new
 line_behind-requires-clause-new g c =
-    let count = first-count (base_of c.args.rows.now) c.args.rows.now.symbols.text.lines.now (length c.args.items.now.items) c.in_ok-passed.passed.items c.in_ok-passed.ensures.items in
-    let line = c.len-line.result + 1 in
-    let next : line ≡ length c.args.items.now.items + 1 = omega (arith, count, c.len-line.ensures.value) in
-    let last : line ≡ length c.args.rows.now.symbols.text.lines.now = omega (arith, next, c.if-line-len.false, c.len.ensures, c.requires.left.next) in
-    subst (λ k. line_before_edit (edit_of c.args.revision.now.edit) k ≡ None) (sym last) (c.requires.left.new (omega (arith, next, last)))
+    let is = next-last _ _ _ c.len-line.result c.len.result _ c.in_ok-passed.ensures.items c.len-line.ensures.value c.if-line-len.false c.len.ensures c.requires.left.next in
+    subst (λ k. line_before_edit (edit_of c.args.revision.now.edit) k ≡ None) (sym is.1) (c.requires.left.new (omega (arith, is.0, is.1)))
 
 pub returns-in_err-item-clause-counted : goal.returns-in_err-item-clause-counted
 returns-in_err-item-clause-counted g c =
     let counts = counts_of g.C.Count.parsed_count g.C.Count.valued_count g.C.Count.encoded_count in
-    let count = first-count (base_of c.args.rows.now) c.args.rows.now.symbols.text.lines.now (length c.args.items.now.items) c.in_ok-passed.passed.items c.in_ok-passed.ensures.items in
-    let line = c.len-line.result + 1 in
-    let next : line ≡ length c.args.items.now.items + 1 = omega (arith, count, c.len-line.ensures.value) in
-    let last : line ≡ length c.args.rows.now.symbols.text.lines.now = omega (arith, next, c.if-line-len.false, c.len.ensures, c.requires.left.next) in
-    let back : line - 1 ≡ length c.args.items.now.items = omega (arith, next) in
-    counted-last (edited_text c.args.revision.now) (length c.args.items.now.items) line (length c.args.rows.now.symbols.text.lines.now) (counts c.args.counter.now) (counts c.renewed_in_one_pass.new.counter) (counts c.line_behind.new.counter)
-    back last c.renewed_in_one_pass.ensures.counted c.line_behind.ensures.counted
+    let is = next-last _ _ _ c.len-line.result c.len.result _ c.in_ok-passed.ensures.items c.len-line.ensures.value c.if-line-len.false c.len.ensures c.requires.left.next in
+    counted-last (edited_text c.args.revision.now) (length c.args.items.now.items) (c.len-line.result + 1) (length c.args.rows.now.symbols.text.lines.now) (counts c.args.counter.now) (counts c.renewed_in_one_pass.new.counter) (counts c.line_behind.new.counter)
+    (omega (arith, is.0)) is.1 c.renewed_in_one_pass.ensures.counted c.line_behind.ensures.counted
 
 pub returns-in_err-inserted-clause-counted : goal.returns-in_err-inserted-clause-counted
 returns-in_err-inserted-clause-counted g c =
     let counts = counts_of g.C.Count.parsed_count g.C.Count.valued_count g.C.Count.encoded_count in
-    let count = first-count (base_of c.args.rows.now) c.args.rows.now.symbols.text.lines.now (length c.args.items.now.items) c.in_ok-passed.passed.items c.in_ok-passed.ensures.items in
-    let line = c.len-line.result + 1 in
-    let next : line ≡ length c.args.items.now.items + 1 = omega (arith, count, c.len-line.ensures.value) in
-    let last : line ≡ length c.args.rows.now.symbols.text.lines.now = omega (arith, next, c.if-line-len.false, c.len.ensures, c.requires.left.next) in
-    let back : line - 1 ≡ length c.args.items.now.items = omega (arith, next) in
-    counted-last (edited_text c.args.revision.now) (length c.args.items.now.items) line (length c.args.rows.now.symbols.text.lines.now) (counts c.args.counter.now) (counts c.renewed_in_one_pass.new.counter) (counts c.line_behind.new.counter)
-    back last c.renewed_in_one_pass.ensures.counted c.line_behind.ensures.counted
+    let is = next-last _ _ _ c.len-line.result c.len.result _ c.in_ok-passed.ensures.items c.len-line.ensures.value c.if-line-len.false c.len.ensures c.requires.left.next in
+    counted-last (edited_text c.args.revision.now) (length c.args.items.now.items) (c.len-line.result + 1) (length c.args.rows.now.symbols.text.lines.now) (counts c.args.counter.now) (counts c.renewed_in_one_pass.new.counter) (counts c.line_behind.new.counter)
+    (omega (arith, is.0)) is.1 c.renewed_in_one_pass.ensures.counted c.line_behind.ensures.counted
 
 pub returns-clause-items : goal.returns-clause-items
 returns-clause-items g c =
-    let count = first-count (base_of c.args.rows.now) c.args.rows.now.symbols.text.lines.now (length c.args.items.now.items) c.in_ok-passed.passed.items c.in_ok-passed.ensures.items in
-    let line = c.len-line.result + 1 in
-    let next : line ≡ length c.args.items.now.items + 1 = omega (arith, count, c.len-line.ensures.value) in
-    let last : line ≡ length c.args.rows.now.symbols.text.lines.now = omega (arith, next, c.if-line-len.false, c.len.ensures, c.requires.left.next) in
-    with-last (base_of c.args.rows.now) c.args.rows.now.symbols.text.lines.now c.in_ok-passed.passed.items c.in_ok-inserted.field-0.items c.in_ok-item.item (length c.args.items.now.items) line c.in_ok-passed.ensures.items next last count c.in_ok-item.ensures.item c.in_ok-inserted.ensures.items
+    let is = next-last _ _ _ c.len-line.result c.len.result _ c.in_ok-passed.ensures.items c.len-line.ensures.value c.if-line-len.false c.len.ensures c.requires.left.next in
+    with-last (base_of c.args.rows.now) c.args.rows.now.symbols.text.lines.now c.in_ok-passed.passed.items c.in_ok-inserted.field-0.items c.in_ok-item.item (length c.args.items.now.items) (c.len-line.result + 1) c.in_ok-passed.ensures.items is.0 is.1 (omega (arith, is.0, c.len-line.ensures.value)) c.in_ok-item.ensures.item c.in_ok-inserted.ensures.items
 
 pub returns-clause-changed : goal.returns-clause-changed
 returns-clause-changed g c =
-    let count = first-count (base_of c.args.rows.now) c.args.rows.now.symbols.text.lines.now (length c.args.items.now.items) c.in_ok-passed.passed.items c.in_ok-passed.ensures.items in
-    let line = c.len-line.result + 1 in
-    let next : line ≡ length c.args.items.now.items + 1 = omega (arith, count, c.len-line.ensures.value) in
-    let last : line ≡ length c.args.rows.now.symbols.text.lines.now = omega (arith, next, c.if-line-len.false, c.len.ensures, c.requires.left.next) in
-    let back : line - 1 ≡ length c.args.items.now.items = omega (arith, next) in
-    c.of-2.ensures ∙ listed-last (edited_text c.args.revision.now) (length c.args.items.now.items) line (length c.args.rows.now.symbols.text.lines.now) c.renewed_in_one_pass.new.changed.items _ back last c.in_ok-passed.ensures.changed c.in_ok-item.ensures.listed
+    let is = next-last _ _ _ c.len-line.result c.len.result _ c.in_ok-passed.ensures.items c.len-line.ensures.value c.if-line-len.false c.len.ensures c.requires.left.next in
+    c.of-2.ensures ∙ listed-last (edited_text c.args.revision.now) (length c.args.items.now.items) (c.len-line.result + 1) (length c.args.rows.now.symbols.text.lines.now) c.renewed_in_one_pass.new.changed.items _ (omega (arith, is.0)) is.1 c.in_ok-passed.ensures.changed c.in_ok-item.ensures.listed
 
 pub returns-clause-counted : goal.returns-clause-counted
 returns-clause-counted g c =
     let counts = counts_of g.C.Count.parsed_count g.C.Count.valued_count g.C.Count.encoded_count in
-    let count = first-count (base_of c.args.rows.now) c.args.rows.now.symbols.text.lines.now (length c.args.items.now.items) c.in_ok-passed.passed.items c.in_ok-passed.ensures.items in
-    let line = c.len-line.result + 1 in
-    let next : line ≡ length c.args.items.now.items + 1 = omega (arith, count, c.len-line.ensures.value) in
-    let last : line ≡ length c.args.rows.now.symbols.text.lines.now = omega (arith, next, c.if-line-len.false, c.len.ensures, c.requires.left.next) in
-    let back : line - 1 ≡ length c.args.items.now.items = omega (arith, next) in
-    counted-last (edited_text c.args.revision.now) (length c.args.items.now.items) line (length c.args.rows.now.symbols.text.lines.now) (counts c.args.counter.now) (counts c.renewed_in_one_pass.new.counter) (counts c.line_behind.new.counter)
-    back last c.renewed_in_one_pass.ensures.counted c.line_behind.ensures.counted
+    let is = next-last _ _ _ c.len-line.result c.len.result _ c.in_ok-passed.ensures.items c.len-line.ensures.value c.if-line-len.false c.len.ensures c.requires.left.next in
+    counted-last (edited_text c.args.revision.now) (length c.args.items.now.items) (c.len-line.result + 1) (length c.args.rows.now.symbols.text.lines.now) (counts c.args.counter.now) (counts c.renewed_in_one_pass.new.counter) (counts c.line_behind.new.counter)
+    (omega (arith, is.0)) is.1 c.renewed_in_one_pass.ensures.counted c.line_behind.ensures.counted

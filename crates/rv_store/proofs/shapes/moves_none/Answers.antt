@@ -3,7 +3,7 @@ use Rattle.rv_program.specs.Edits.{edit_of}
 use Rattle.rv_program.specs.internal.Before.{lines_before}
 use Rattle.std.proofs.lemmas.List.{get_or_default}
 use Rattle.rv_layout.specs.declared.measured.Measured.TheVariants.{Nothing}
-use Rattle.rv_store.specs.internal.Column.{HasPlace}
+use Rattle.rv_program.specs.internal.EditedRows.{HasPlace}
 use Rattle.rv_store.specs.internal.Alike.{room_of}
 use Rattle.rv_store.specs.internal.Unmoved.{MovesNone}
 use Rattle.rv_store.proofs.FormerShapes.{shape_count, place}

@@ -2,13 +2,14 @@ use Rattle.std.proofs.Common.{◌≡◌, length, Some, replicate, get_or, ap, su
 use Rattle.std.proofs.lemmas.List.{length-replicate}
 use Rattle.rv_program.specs.declared.name_set.Mark.TheVariants.{Unknown}
 use Rattle.rv_program.specs.internal.NameSets.{AreGrouped}
-use Rattle.rv_program.specs.lemmas.NameSetLaws.{none-marked, none-grouped}
+use Rattle.rv_program.specs.lemmas.Lists.{get_or-same}
+use Rattle.rv_program.specs.lemmas.NameSetLaws.{none-grouped}
 use Rattle.rv_program.proofs.name_set.NameSet.empty.Goals as goal
 
 pub returns-clause-none : goal.returns-clause-none
 returns-clause-none c =
     let none : c.in_ok-marks.marks.items ≡ replicate 16384 Unknown = c.in_ok-marks.ensures.items_if_clones_equal (λ y e. e) in
-    λ bucket. ap (λ marks. get_or marks bucket Unknown) none ∙ none-marked 16384 bucket
+    λ bucket. ap (λ marks. get_or marks bucket Unknown) none ∙ get_or-same 16384 bucket Unknown
 
 pub invariant_of-result : goal.invariant_of-result
 invariant_of-result c =

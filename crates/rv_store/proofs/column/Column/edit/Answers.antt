@@ -1,5 +1,5 @@
 use Rattle.std.proofs.Common.{◌-◌, remove, insert, set, arith, ap, subst, ◌∙◌}
-use Rattle.rv_store.specs.internal.Column.{HasPlace}
+use Rattle.rv_program.specs.internal.EditedRows.{HasPlace}
 use Rattle.rv_program.specs.Edits.{edit_of_read}
 use Rattle.rv_store.proofs.Columns.{removed-inserted, inserted-removed, set-back}
 use Rattle.rv_store.proofs.column.Column.edit.Goals as goal

@@ -1,9 +1,12 @@
-use Rattle.std.proofs.Common.{◌≡◌, ℕ, List, None, map, arith, ap, sym, subst, ◌∙◌, refl}
+use Rattle.std.proofs.Common.{◌≡◌, ℕ, List, None, length, map, arith, ap, sym, subst, ◌∙◌, refl}
 use Rattle.std.specs.List.{AllPass}
+use Rattle.std.proofs.lemmas.List.{length-map}
 use Rattle.rv_program.specs.Edits.{edit_of, edit_of_read}
 use Rattle.rv_program.specs.internal.Former.{AreFormer}
 use Rattle.rv_program.specs.internal.Items.{AreItems}
-use Rattle.rv_program.specs.Program.{program_of}
+use Rattle.rv_program.specs.Program.{Program, program_of}
+use Rattle.rv_store.specs.declared.survey.Survey.{Survey}
+use Rattle.rv_store.specs.internal.Column.{Listed}
 use Rattle.rv_store.specs.internal.Surveys.{IsSurvey}
 use Rattle.rv_program.specs.Text.{is_line, refusal_of, lines_after}
 use Rattle.rv_store.proofs.EditRefusals.{lined_after, few_after}
@@ -11,9 +14,37 @@ use Rattle.rv_program.specs.lemmas.ShapeWork.{nothing-counted}
 use Rattle.rv_store.proofs.Stores.{survey_grown}
 use Rattle.rv_store.proofs.store.Store.assemble.Goals as goal
 
-pub assembled-requires-clause-former : goal.assembled-requires-clause-former
-assembled-requires-clause-former g c =
-    subst (λ t. AreFormer t.base t.lines (edit_of c.args.edit.now) 0 c.args.items.items) (sym c.self.view_is) c.requires.former
+-- what is so of the rows of a text is so beside other lines
+relined : (base : ℕ) (program : Program) (names : List (List ℕ)) (s : Survey) (lines : Listed) → IsSurvey base program names s → IsSurvey base program names (record { lines = lines; definitions = s.definitions; constants = s.constants; shapes = s.shapes; ends = s.ends; places = s.places; locals = s.locals; equ_values = s.equ_values; highs = s.highs; paired_highs = s.paired_highs })
+relined base program names s lines is = record {
+  definitions = is.definitions;
+  constants = is.constants;
+  shapes = is.shapes;
+  limited = is.limited;
+  ends = is.ends;
+  places = is.places;
+  locals = is.locals;
+  equ_values = is.equ_values;
+  highs = is.highs;
+  paired_highs = is.paired_highs;
+}
+
+pub assembled-made-requires-clause-survey : goal.assembled-made-requires-clause-survey
+assembled-made-requires-clause-survey g c =
+    rw c.in_items.ensures (relined _ _ _ c.self.inside.survey _ c.self.invariant.surveyed)
+
+pub assembled-made-requires-clause-count : goal.assembled-made-requires-clause-count
+assembled-made-requires-clause-count g c =
+    let edit = edit_of c.args.edit.now in
+    let edited : c.edit.new.self.items ≡ lines_after c.args.self.now.lines edit =
+    c.in_ok-undo.ensures.lines
+    ∙ ap (λ ls. lines_after ls (edit_of_read c.args.read)) (c.self.invariant.listed ∙ ap (λ t. t.lines) c.self.view_is)
+    ∙ ap (lines_after c.args.self.now.lines) c.requires.read in
+    sym (length-map c.args.items.items (λ i. i.line)) ∙ ap length (c.requires.items ∙ sym edited)
+
+pub assembled-made-requires-clause-former : goal.assembled-made-requires-clause-former
+assembled-made-requires-clause-former g c =
+    rw c.in_items.ensures (subst (λ t. AreFormer t.base t.lines (edit_of c.args.edit.now) 0 c.args.items.items) (sym c.self.view_is) c.requires.former)
 
 pub invariant_of-self-in-Ok : goal.invariant_of-self-in-Ok
 invariant_of-self-in-Ok g c =
@@ -25,47 +56,25 @@ invariant_of-self-in-Ok g c =
     let edited : lines ≡ lines_after former edit =
     c.in_ok-undo.ensures.lines ∙ ap (λ ls. lines_after ls (edit_of_read c.args.read)) c.self.invariant.listed ∙ ap (lines_after former) c.requires.read in
     let items = c.in-Ok.ensures.items in
-    let now = subst (λ ls. IsSurvey base (program_of ls) c.assembled.new.names c.in-Ok.survey) (sym items.lines) c.in-Ok.ensures.survey in
+    let now = subst (λ ls. IsSurvey base (program_of ls) c.assembled-made.new.names c.in-Ok.survey) (sym items.lines) c.in-Ok.ensures.survey in
     record {
       based = c.self.invariant.based;
       lined = subst (AllPass is_line) (sym (items.lines ∙ edited)) (lined_after former edit c.self.invariant.lined allowed);
       few = rw (items.lines ∙ edited) (few_after former edit c.self.invariant.few allowed);
       listed = ap (λ v. v.items) c.swap.ensures.x_after ∙ sym items.lines;
-      surveyed = record {
-        definitions = now.definitions;
-        constants = now.constants;
-        shapes = now.shapes;
-        limited = now.limited;
-        ends = now.ends;
-        places = now.places;
-        locals = now.locals;
-        equ_values = now.equ_values;
-        highs = now.highs;
-        paired_highs = now.paired_highs;
-      };
+      surveyed = relined _ _ _ c.in-Ok.survey _ now;
       assembled = subst (λ ls. AreItems base ls c.in-Ok.items.items) (sym items.lines) items;
     }
 
 pub invariant_of-self-in-Err : goal.invariant_of-self-in-Err
 invariant_of-self-in-Err g c =
-    let now = survey_grown _ _ _ _ _ c.assembled.ensures.names c.self.invariant.surveyed in
+    let now = survey_grown _ _ _ _ _ c.assembled-made.ensures.names c.self.invariant.surveyed in
     record {
       based = c.self.invariant.based;
       lined = c.self.invariant.lined;
       few = c.self.invariant.few;
       listed = c.take_back.ensures ∙ c.in_ok-undo.ensures.back ∙ c.self.invariant.listed;
-      surveyed = record {
-        definitions = now.definitions;
-        constants = now.constants;
-        shapes = now.shapes;
-        limited = now.limited;
-        ends = now.ends;
-        places = now.places;
-        locals = now.locals;
-        equ_values = now.equ_values;
-        highs = now.highs;
-        paired_highs = now.paired_highs;
-      };
+      surveyed = relined _ _ _ c.self.inside.survey _ now;
       assembled = c.self.invariant.assembled;
     }
 

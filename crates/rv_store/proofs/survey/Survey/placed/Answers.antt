@@ -2,7 +2,7 @@ use Rattle.std.proofs.Common.{◌≡◌, ◌-◌, length, get_or, arith, ap, sym
 use Rattle.rv_program.specs.Edits.{edit_of, place_of_edit}
 use Rattle.rv_program.specs.Program.{for_lines}
 use Rattle.rv_program.specs.lemmas.Programs.{length-for_lines}
-use Rattle.rv_store.specs.internal.EditedRows.{edited_row}
+use Rattle.rv_program.specs.internal.EditedRows.{edited_row}
 use Rattle.rv_store.specs.internal.Ends.{ends_of, place_by_shapes}
 use Rattle.rv_store.specs.internal.Unmoved.{place_put_in}
 use Rattle.rv_store.proofs.StillShapes.{has-as_many}
