@@ -92,7 +92,7 @@ quote : message (codes ".ascii " ++ 0xE2 ∷ 0x80 ∷ 0x9C ∷ []) [] (fault_at 
 unfolding message_of bad_byte advice
 quote = refl
 
-octal : message (codes ".word 09") [] (fault_at fault.BadNumber 6 8) ≡ codes "'09' is not a number; '9' is no octal digit, and a number with a leading 0 is octal"
+octal : message (codes ".word 09") [] (fault_at fault.BadNumber 6 8) ≡ codes "'09' is not a number; '9' is not an octal digit, and a number with a leading 0 is octal"
 unfolding message_of bad_number number_wrong quoted about
 octal = refl
 
@@ -196,11 +196,11 @@ register_with_number : message (codes "csrr a0, mcycle") [] (fault_at fault.Unde
 unfolding message_of unknown_csr standard_number counter_number its_number quoted about digits operation_named operation_names row_of layout_of register_named register_names csr_named csr_names other_forms slots_of set_named set_names modifier_named modifier_names directive_named directive_names section_named section_names
 register_with_number = refl
 
-label_for_constant : message (codes "li a0, table") [] (fault_at fault.NotConstant 7 12) ≡ codes "the size of a line needs a constant; 'table' is none; write 'la' for the address of a label"
+label_for_constant : message (codes "li a0, table") [] (fault_at fault.NotConstant 7 12) ≡ codes "the size of a line needs a constant; 'table' is not one; write 'la' for the address of a label"
 unfolding message_of not_constant advice quoted about digits operation_named operation_names row_of layout_of register_named register_names csr_named csr_names other_forms slots_of set_named set_names modifier_named modifier_names directive_named directive_names section_named section_names
 label_for_constant = refl
 
-later_constant : message (codes "li a0, late") [] (fault_at fault.NotConstant 7 11) ≡ codes "the size of a line needs a constant; 'late' is none; its .equ is on line 30, and has to stand before this line"
+later_constant : message (codes "li a0, late") [] (fault_at fault.NotConstant 7 11) ≡ codes "the size of a line needs a constant; 'late' is not one; its .equ is on line 30, and has to stand before this line"
 unfolding message_of not_constant later_line advice quoted about digits operation_named operation_names row_of layout_of register_named register_names csr_named csr_names other_forms slots_of set_named set_names modifier_named modifier_names directive_named directive_names section_named section_names
 later_constant = refl
 

@@ -44,10 +44,10 @@ from_first_wrong base digits = drop (prefix_len (λ c. is_digit c base) digits) 
 
 abbrev pub no_digit : (base : ℕ) → List ℕ
 no_digit base =
-    if base == 16 then codes " is no hexadecimal digit"
-    else (if base == 2 then codes " is no binary digit"
-    else (if base == 8 then codes " is no octal digit, and a number with a leading 0 is octal"
-    else codes " is no decimal digit, and a name does not begin with a digit"))
+    if base == 16 then codes " is not a hexadecimal digit"
+    else (if base == 2 then codes " is not a binary digit"
+    else (if base == 8 then codes " is not an octal digit, and a number with a leading 0 is octal"
+    else codes " is not a decimal digit, and a name does not begin with a digit"))
 
 abbrev pub number_help : (base : ℕ) → (digits wrong : List ℕ) → List ℕ
 number_help base digits [] =
@@ -77,7 +77,7 @@ unspelled text = unspelled_after (slice_index text 0) 0 (drop 1 text)
 abbrev pub string_stopped : List ℕ → List ℕ
 string_stopped [] = codes "the closing quotation mark is missing"
 string_stopped (b ∷ bs) =
-    if b == 0x5C then about [] (take 2 (b ∷ bs)) (codes " is no escape: '\\\\' is a backslash, and octal escapes end at '\\377'")
+    if b == 0x5C then about [] (take 2 (b ∷ bs)) (codes " is not an escape: '\\\\' is a backslash, and octal escapes end at '\\377'")
     else codes "a character is one byte of ASCII; a string stands in double quotation marks"
 
 unfoldable pub bad_string : List ℕ → List ℕ

@@ -109,7 +109,7 @@ faulty_equ shown text None = about (codes "the .equ of a name that ") text (code
 faulty_equ shown text (Some name) = faulty_equ_of shown (name_text name)
 
 unfoldable pub not_constant : List ℕ → List ℕ
-not_constant text = about (codes "the size of a line needs a constant; ") text (codes " is none")
+not_constant text = about (codes "the size of a line needs a constant; ") text (codes " is not one")
 
 abbrev pub is_local_name : Tree → Bool
 is_local_name (tree.Local number direction) = true

@@ -48,7 +48,7 @@ missing_point name = codes "; did you mean '." ++ (excerpt name ++ codes "'?")
 abbrev pub by_what_follows : (name next : List ℕ) → (behind : ℕ) → List ℕ
 by_what_follows name next behind =
     if bytes_eq next (codes "=") then definition_of name
-    else (if behind == 0x2D then codes "; a name has no '-'"
+    else (if behind == 0x2D then codes "; a name cannot contain '-'"
     else (if is_some (directive_named (0x2E ∷ name)) then missing_point name
     else (if is_before_statement name next then missing_colon
     else by_names next (near_names name))))

@@ -25,7 +25,11 @@ use std::alloc::{AllocError, Global};
 fn push_no_constant(out: &mut Text, text: &[u8]) -> Result<(), AllocError>
     ensures { OnOk result (out.new ≡ out.old ++ not_constant text.now) }
 {
-    out.push_about(b"the size of a line needs a constant; ", text, b" is none")
+    out.push_about(
+        b"the size of a line needs a constant; ",
+        text,
+        b" is not one",
+    )
 }
 
 // Whether an expression is a reference to a local label.

@@ -83,10 +83,10 @@ fn no_digit(base: u32) -> &'static [u8]
     ensures { result.now ≡ no_digit base }
 {
     match base {
-        16 => b" is no hexadecimal digit",
-        2 => b" is no binary digit",
-        8 => b" is no octal digit, and a number with a leading 0 is octal",
-        _ => b" is no decimal digit, and a name does not begin with a digit",
+        16 => b" is not a hexadecimal digit",
+        2 => b" is not a binary digit",
+        8 => b" is not an octal digit, and a number with a leading 0 is octal",
+        _ => b" is not a decimal digit, and a name does not begin with a digit",
     }
 }
 
@@ -165,7 +165,7 @@ fn push_string_stopped(out: &mut Text, rest: &[u8]) -> Result<(), AllocError>
         [b'\\', ..] => out.push_about(
             b"",
             first_bytes(rest, 2),
-            b" is no escape: '\\\\' is a backslash, and octal escapes end at '\\377'",
+            b" is not an escape: '\\\\' is a backslash, and octal escapes end at '\\377'",
         ),
         _ => out.push(
             b"a character is one byte of ASCII; a string stands in double quotation marks",

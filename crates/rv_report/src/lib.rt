@@ -32,4 +32,4 @@ pub use laws::limits_are_those_of_range;
 pub use messages::message;
 pub use name_messages::faulty_name_at;
 pub use reports::{report, report_warning};
-pub use warnings::{Warning, find_warning};
+pub use warnings::{Warning, find_warning, push_warning_message};

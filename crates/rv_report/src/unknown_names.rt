@@ -114,7 +114,7 @@ fn push_by_what_follows(
         return push_definition(out, name);
     }
     if behind == b'-' {
-        return out.push(b"; a name has no '-'");
+        return out.push(b"; a name cannot contain '-'");
     }
     if is_directive_without_point(alloc, name)? {
         return push_missing_point(out, name);

@@ -309,7 +309,7 @@ fn base_named(task: Task, text: &str) -> Option<u32> {
 
 // Why a text is wrong, since it has to be one of these bases.
 fn no_base(alloc: Global, text: &str, bases: &str) -> ArgumentFault {
-    match format!(in alloc; "rvas: '{}' is no base: {bases}\n", Shown(text)) {
+    match format!(in alloc; "rvas: '{}' is not a base: {bases}\n", Shown(text)) {
         Ok(said) => ArgumentFault::Usage(said),
         Err(_) => ArgumentFault::Memory,
     }
