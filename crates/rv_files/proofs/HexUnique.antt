@@ -5,7 +5,8 @@ use Rattle.std.specs.List.{flat_map}
 use Rattle.std.proofs.Math.Seq.{take-append_seam}
 use Rattle.std.proofs.lemmas.Bool.Decides.{nat_tests}
 use Rattle.std.proofs.lemmas.List.{length-append}
-use Rattle.rv_files.specs.Hex.{Record, bytes_of_record, row_text, upper_digit, upper_hex}
+use Rattle.rv_show.specs.Digits.{upper_digit, upper_hex}
+use Rattle.rv_files.specs.Hex.{Record, bytes_of_record, row_text}
 use Rattle.rv_files.specs.HexLoading.{IsRow, AreRows}
 use Rattle.rv_files.specs.Segments.{AreBytes}
 use Rattle.rv_files.proofs.Bytes.{bytes_cons, bytes_none}

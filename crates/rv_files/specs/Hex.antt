@@ -1,6 +1,7 @@
 -- Rows of Intel HEX. (Intel, Hexadecimal Object File Format Specification, revision A, 1988)
 use Rattle.std.specs.Prelude.{ℕ, zero, suc, ◌+◌, ◌-◌, ◌/◌, ◌%◌, ◌^◌, ◌==◌, nat_lt, List, [], ◌∷◌, ◌++◌, length, take, drop, codes, if◌then◌else◌}
 use Rattle.std.specs.List.{sum, flat_map}
+use Rattle.rv_show.specs.Digits.{upper_hex}
 use Rattle.rv_files.specs.Segments.{Segment}
 
 -- Rows
@@ -15,14 +16,6 @@ pub record Record : Type 0 where
   pub kind : ℕ
   pub offset : ℕ
   pub content : List ℕ
-
--- a hexadecimal digit, in upper case
-abbrev pub upper_digit : ℕ → ℕ
-upper_digit n = if nat_lt n 10 then 48 + n else 55 + n
-
--- the two digits of a byte
-abbrev pub upper_hex : (byte : ℕ) → List ℕ
-upper_hex byte = upper_digit (byte / 16) ∷ upper_digit (byte % 16) ∷ []
 
 -- the bytes of a record: how many data bytes there are, the 16 bits of address, the type, and the data
 abbrev pub bytes_of_record : Record → List ℕ

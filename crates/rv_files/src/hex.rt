@@ -4,10 +4,12 @@ ghost use Rattle.std.specs.Prelude.{◌≡◌, ◌+◌, ◌-◌, ◌*◌, ◌%�
 ghost use Rattle.std.specs.List.{flat_map};
 ghost use Rattle.rv_text.specs.Blocks.{Gathers};
 ghost use Rattle.rv_text.specs.Streams.{failures_after, Writes};
-ghost use Rattle.rv_files.specs.Hex.{upper_digit, upper_hex, checksum, row_text, record_text, upper_of, upper_records, data_records, hex_records, hex_text, stretches_of, upper_after, start_record, end_record};
+ghost use Rattle.rv_show.specs.Digits.{upper_hex};
+ghost use Rattle.rv_files.specs.Hex.{checksum, row_text, record_text, upper_of, upper_records, data_records, hex_records, hex_text, stretches_of, upper_after, start_record, end_record};
 
 use crate::segment::Segment;
 use arrayvec::ArrayVec;
+use rv_show::upper_digit;
 use rv_text::{Failed, OutputBlock, OutputRow, Sink};
 
 // The most bytes of a row: four, sixteen of data and the checksum.
@@ -21,17 +23,6 @@ const END: u8 = 1;
 const UPPER_ADDRESS: u8 = 4;
 
 const START: u8 = 5;
-
-// The digits of the numbers below 16.
-const DIGITS: [u8; 16] = *b"0123456789ABCDEF";
-
-// The digit of a number below 16, in upper case.
-fn upper_digit(n: u8) -> u8
-    requires { n < 16 }
-    ensures { result ≡ upper_digit n }
-{
-    DIGITS[usize::from(n)]
-}
 
 // The byte that makes the sum of all bytes a multiple of 256.
 fn checksum(bytes: &[u8]) -> u8

@@ -98,15 +98,24 @@ impl<'a> Output<'a> {
     }
 
     // Writes it into a file that is open. A program may be executed by all who may read it.
-    fn write_into(&self, file: File) -> Result<(), Failure> {
+    fn write_into(&self, file: &File) -> Result<(), Failure> {
         if let Output::Elf(_) = self {
-            let _ = make_executable(&file);
+            let _ = make_executable(file);
         }
         self.write_out(file)
     }
 
+    // Writes it into a file that is open, and waits until it is on the disk.
+    fn write_through(&self, file: &File) -> Result<(), Failure> {
+        self.write_into(file)?;
+        match file.sync_all() {
+            Ok(()) => Ok(()),
+            Err(error) => Err(Failure::of_writing(error.kind())),
+        }
+    }
+
     // Writes it into a file that was made for it, and that goes if not all is written.
-    fn write_new(&self, rt: &HostRuntime, name: &str, file: File) -> Result<(), Failure> {
+    fn write_new(&self, rt: &HostRuntime, name: &str, file: &File) -> Result<(), Failure> {
         let written = self.write_into(file);
         if written.is_err() {
             let _ = fs::remove_file(rt, name);
@@ -117,22 +126,22 @@ impl<'a> Output<'a> {
     // Writes it into what is there, in its place.
     fn write_over(&self, rt: &HostRuntime, name: &str) -> Result<(), Failure> {
         match fs::create(rt, name) {
-            Ok(file) => self.write_into(file),
+            Ok(file) => self.write_into(&file),
             Err(error) => Err(Failure::of_writing(error.kind())),
         }
     }
 
-    // Writes it into a file. A plain file that is there stays as it was until all is written.
+    // Writes it into a file. A plain file that is there stays as it was until all is on the disk.
     fn write_file(&self, rt: &HostRuntime, name: &str) -> Result<(), Failure> {
         if !was_text(name) {
             return Err(Failure::Write(NOT_TEXT));
         }
         if let Some((file, replacement)) = Replacement::of(rt, name)? {
-            let written = self.write_into(file);
+            let written = self.write_through(&file);
             return replacement.settle(rt, written);
         }
         match File::create_new(rt, name) {
-            Ok(file) => self.write_new(rt, name, file),
+            Ok(file) => self.write_new(rt, name, &file),
             Err(error) if error.kind() == ErrorKind::AlreadyExists => self.write_over(rt, name),
             Err(error) => Err(Failure::of_writing(error.kind())),
         }

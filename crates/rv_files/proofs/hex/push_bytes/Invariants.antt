@@ -1,6 +1,6 @@
 use Rattle.std.proofs.Common.{◌≡◌, ◌+◌, ◌*◌, ◌++◌, take, length, codes}
 use Rattle.std.specs.List.{flat_map}
-use Rattle.rv_files.specs.Hex.{upper_hex}
+use Rattle.rv_show.specs.Digits.{upper_hex}
 use Rattle.rv_files.proofs.hex.push_bytes.Given as goal
 
 -- the colon and the digits so far
