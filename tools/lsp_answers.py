@@ -98,5 +98,5 @@ def check_completion(rvas, folder, text, position, items, encoding, random):
     after = text_after_edits(text, [item["textEdit"]], encoding)
     found, _ = reports_of(rvas, folder, [after], encoding)
     for report in found[0]:
-        if report[:2] == (start["line"], start["character"]) and report[4] in ("UnknownName", "Undefined") and len(item["label"]) == report[2]:
+        if report[:2] == (start["line"], start["character"]) and report[4] in ("UnknownName", "Undefined", "RegisterRange") and len(item["label"]) == report[2]:
             raise Wrong(f"{item} at {position}: {report}")

@@ -21,6 +21,15 @@ before_more rows at k n old new false is here was now =
 pub counted_before : {A : Type 0} (rows : ℕ → List A) (at k n old new : ℕ) → n ≡ length (rows k) → old ≡ length (joined rows (min at k)) → new ≡ (if nat_lt k at then old + n else old) → new ≡ length (joined rows (min at (k + 1)))
 counted_before rows at k n old new here was now = before_more rows at k n old new (nat_lt k at) refl here was now
 
+same : (b : Bool) (count : ℕ) → count ≡ (if b then count + 0 else count)
+same true count = omega arith
+same false count = refl
+
+-- it has none
+pub counted_quiet : {A : Type 0} (rows : ℕ → List A) (at k count : ℕ) → rows k ≡ [] → count ≡ length (joined rows (min at k)) → count ≡ length (joined rows (min at (k + 1)))
+counted_quiet rows at k count none was =
+    counted_before rows at k 0 count count (sym (ap length none)) was (same (nat_lt k at) count)
+
 -- Lines that are too long
 
 filter_more : {A : Type 0} (p : A → Bool) (x : A) (xs : List A) → length (filter p (x ∷ xs)) ≡ length (filter p (x ∷ [])) + length (filter p xs)

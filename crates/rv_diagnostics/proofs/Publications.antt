@@ -1,15 +1,16 @@
 -- The diagnostics of a document, part by part.
 use Rattle.std.proofs.Common.{◌≡◌, ℕ, zero, suc, ◌+◌, List, [], ◌∷◌, ◌++◌, length, refl, ◌∙◌, arith, append_assoc}
-use Rattle.std.proofs.lemmas.List.{length-append, nil_from_length}
+use Rattle.std.proofs.lemmas.List.{length-append, length-map, nil_from_length}
 use Rattle.json.specs.Token.{Token, begin_object, end_object, end_array}
 use Rattle.std.specs.Prelude.{codes}
 use Rattle.rv_diagnostics.specs.Json.{message, string_member}
 use Rattle.rv_expr.specs.Value.{Environment}
 use Rattle.rv_list.specs.Faults.{faults_of}
 use Rattle.rv_list.specs.Joined.{joined}
-use Rattle.rv_list.specs.Shown.{Shown}
+use Rattle.rv_list.specs.Shown.{Shown, ShownLine}
 use Rattle.rv_doc.specs.declared.encoding.Encoding.{Encoding}
-use Rattle.rv_diagnostics.specs.Published.{all_diagnostics, fault_count, line_diagnostics, shown_in}
+use Rattle.rv_diagnostics.specs.Diagnostics.{warning_diagnostic}
+use Rattle.rv_diagnostics.specs.Published.{all_diagnostics, all_warnings, fault_count, line_diagnostics, shown_in, warning_count, warning_diagnostics, warnings_about}
 use Rattle.rv_doc.specs.declared.window.Window.{Window}
 use Rattle.rv_diagnostics.proofs.ShownRows.{diagnostic_count, none_shown}
 
@@ -17,6 +18,10 @@ same_lengths : {A B : Type 0} (f : ℕ → List A) (g : ℕ → List B) (n : ℕ
 same_lengths f g zero same = refl
 same_lengths f g (suc n) same =
     omega (arith, length-append (joined f n) (f n), length-append (joined g n) (g n), same_lengths f g n same, same n)
+
+warnings_shown : (encoding : Encoding) (shown : Shown) (number : ℕ) (line : ShownLine) → length (warning_diagnostics encoding shown number line) ≡ length (warnings_about shown number line)
+unfolding warning_diagnostics
+warnings_shown encoding shown number line = length-map (warnings_about shown number line) (warning_diagnostic encoding number line.text)
 
 -- a text without faults has no diagnostics of them
 pub no_faults : (encoding : Encoding) (uri : List ℕ) (given : ℕ → ℕ → Environment) (shown : Shown) (symbols : List (List ℕ)) (w : Window) (old : List Token) → fault_count shown ≡ 0 → old ≡ old ++ shown_in w (all_diagnostics encoding uri given shown symbols)
@@ -28,6 +33,18 @@ no_faults encoding uri given shown symbols w old none =
     (λ k. faults_of shown (k + 1) (shown.line (k + 1)))
     shown.count
     (λ k. diagnostic_count encoding uri given shown symbols (k + 1) (shown.line (k + 1)))
+    ∙ none))
+
+-- nor has one without warnings
+pub no_warnings : (encoding : Encoding) (shown : Shown) (w : Window) (old : List Token) → warning_count shown ≡ 0 → old ≡ old ++ shown_in w (all_warnings encoding shown)
+no_warnings encoding shown w old none =
+    none_shown w old (all_warnings encoding shown)
+    (nil_from_length (all_warnings encoding shown)
+    (same_lengths
+    (λ k. warning_diagnostics encoding shown (k + 1) (shown.line (k + 1)))
+    (λ k. warnings_about shown (k + 1) (shown.line (k + 1)))
+    shown.count
+    (λ k. warnings_shown encoding shown (k + 1) (shown.line (k + 1)))
     ∙ none))
 
 -- Messages

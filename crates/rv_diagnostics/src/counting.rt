@@ -6,7 +6,7 @@ ghost use Rattle.rv_diagnostics.specs.Published.{are_lines, fault_count, faults_
 
 use arrayvec::ArrayVec;
 use rv_doc::Lines;
-use rv_list::{LineSource, MAX_FAULTS, View, find_faults};
+use rv_list::{LineSource, MAX_FAULTS, TestedLines, View, find_faults};
 use rv_program::MAX_LINES;
 use rv_report::find_warning;
 use rv_stmt::Stmt;
@@ -45,6 +45,8 @@ impl Counted {
 
 /// How many faults a text has, and how many stand before a line, by its number from 0 on.
 pub fn count_faults<V: View>(view: &V, at: u32) -> Counted
+where
+    V::Lines: TestedLines,
     ensures all { result.all ≡ fault_count (V.shown view.now) }
     ensures before { result.before ≡ faults_before (V.shown view.now) at }
     ensures few { result.all ≤ 1004 * 16384 }
@@ -54,6 +56,9 @@ pub fn count_faults<V: View>(view: &V, at: u32) -> Counted
     let mut lines = view.lines();
     for k in 0..view.line_count() {
         lines.advance();
+        if !lines.may_have_faults() {
+            continue;
+        }
         find_faults(&mut faults, view, k + 1, &lines.line());
         counted.add(faults.len(), k < at);
     }

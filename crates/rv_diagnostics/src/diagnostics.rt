@@ -3,7 +3,6 @@
 ghost use Rattle.std.specs.Prelude.{◌≡◌, ◌≤◌, ◌<◌, ◌^◌, ◌++◌, [], length, option_map, string_bytes, IfOk, OnOk};
 ghost use Rattle.std.specs.List.{flat_map};
 ghost use Rattle.std.specs.Str.Lossy.{utf8_lossy};
-ghost use Rattle.rv_doc.specs.Positions.{without_return};
 ghost use Rattle.rv_list.specs.Faults.{body_faults, found};
 ghost use Rattle.rv_report.specs.FaultyNames.{name_used};
 ghost use Rattle.rv_report.specs.Lines.{line_of};
@@ -14,11 +13,11 @@ ghost use Rattle.rv_diagnostics.specs.Diagnostics.{column_at, diagnostic, diagno
 use crate::message::Message;
 use crate::part::Part;
 use crate::ranges::put_range;
-use rv_doc::{Encoding, column_of};
+use rv_doc::{Encoding, column_of, without_return};
 use rv_expr::Names;
 use rv_list::{DefinitionPlace, View, fault_name};
 use rv_program::MAX_LINES;
-use rv_report::{FaultyLine, UsedName, Warning, faulty_name_at, message};
+use rv_report::{FaultyLine, UsedName, Warning, faulty_name_at, message, push_warning_message};
 use rv_show::{Text, part};
 use rv_text::{Fault, FaultNumber, MAX_LINE_LENGTH};
 use std::alloc::{AllocError, Global};
@@ -38,27 +37,12 @@ pub const ERROR: u64 = 1;
 /// How grave a warning is.
 pub const WARNING: u64 = 2;
 
-// What a warning says behind the label. `rv_report` says the same.
-const LABEL_AS_REGISTER: &[u8] =
-    b" is a label: its address is taken as the number of the register; .equ gives such a number a name";
-
 // Where a diagnostic is, by a line and columns.
 #[derive(Clone, Copy)]
 struct Place {
     line: u32,
     from: u32,
     to: u32,
-}
-
-// A line without the 0x0D that belongs to its end.
-fn without_return(line: &[u8]) -> &[u8]
-    ensures value { result.now ≡ without_return line.entry.now }
-    ensures within { length result.now ≤ length line.entry.now }
-{
-    match line.split_last() {
-        Some((b'\r', before)) => before,
-        _ => line,
-    }
 }
 
 /// The column at a place of a line, in bytes: no column is behind the 0x0D that belongs to its end.
@@ -313,12 +297,11 @@ pub fn put_faults<N: Names, V: View>(
 }
 
 // What a warning says.
-#[tactic(auto, unfolding(rv_report::specs::Warnings::warning_message))]
 fn warning_text(alloc: Global, warning: &Warning<'_>) -> Result<String, AllocError>
     ensures { IfOk result (λ s. string_bytes s ≡ utf8_lossy (warning_message warning.now.label.now)) }
 {
     let mut text = Text::new(alloc);
-    text.push_about(b"", warning.label, LABEL_AS_REGISTER)?;
+    push_warning_message(&mut text, warning.label)?;
     String::from_utf8_lossy(alloc, text.bytes())
 }
 

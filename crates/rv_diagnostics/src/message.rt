@@ -4,7 +4,7 @@ ghost use Rattle.std.specs.Prelude.{◌≡◌, ◌∷◌, ◌++◌, [], true, co
 ghost use Rattle.std.specs.Fmt.{signed_decimal};
 ghost use Rattle.json.specs.Print.{print};
 ghost use Rattle.json.specs.Token.{begin_object, end_object, begin_array, end_array, key, string, number, boolean, null};
-ghost use Rattle.rv_diagnostics.specs.Json.{frame, number_member, string_member, token_of, tokens_of};
+ghost use Rattle.rv_diagnostics.specs.Json.{frame, string_member, token_of, tokens_of};
 
 use crate::part::Part;
 use json::Writer;
@@ -128,15 +128,6 @@ impl Message {
         ensures { OnOk result (self.new ≡ self.old ++ null ∷ []) }
     {
         self.writer.null()
-    }
-
-    /// Writes a number under a name.
-    pub fn put_number(&mut self, name: &str, number: u64) -> Result<(), AllocError>
-        ensures { OnOk result (self.new ≡ self.old ++ number_member name.now number) }
-    {
-        self.key(name)?;
-        self.number(number)?;
-        Ok(())
     }
 
     /// Writes a text under a name.

@@ -24,7 +24,7 @@ use arrayvec::ArrayVec;
 use rv_doc::{Lines, Window};
 use rv_files::{first_names, first_symbols, searched};
 use rv_fix::operand_values;
-use rv_list::{LineSource, LineView, MAX_FAULTS, View, find_faults};
+use rv_list::{LineSource, LineView, MAX_FAULTS, TestedLines, View, find_faults};
 use rv_program::MAX_LINES;
 use rv_report::{FaultyLine, find_warning};
 use rv_text::{Fault, Tally};
@@ -116,6 +116,8 @@ fn put_lines<T: Told>(
     told: &T,
     symbols: &[&[u8]],
 ) -> Result<(), AllocError>
+where
+    T::Lines: TestedLines,
     ensures { OnOk result (m.new ≡ m.old
         ++ shown_in window.old (all_diagnostics context.now.encoding context.now.uri.now (T.environments told.now) (T.View.shown told.now) (map (λ s. s.now) symbols.now))) }
 {
@@ -126,6 +128,9 @@ fn put_lines<T: Told>(
             return Ok(());
         }
         lines.advance();
+        if !lines.may_have_faults() {
+            continue;
+        }
         let line = lines.line();
         find_faults(&mut faults, told, k + 1, &line);
         let shown = window.pass(faults.as_slice());
@@ -179,6 +184,23 @@ fn put_warnings<T: Told>(
     Ok(())
 }
 
+// Writes the diagnostics of those warnings about a text that a window shows, of so many warnings.
+fn put_some_warnings<T: Told>(
+    m: &mut Message,
+    window: &mut Window,
+    context: &Context<'_>,
+    told: &T,
+    count: usize,
+) -> Result<(), AllocError>
+    requires { count ≡ warning_count (T.View.shown told.now) }
+    ensures { OnOk result (m.new ≡ m.old ++ shown_in window.old (all_warnings context.now.encoding (T.View.shown told.now))) }
+{
+    if count == 0 {
+        return Ok(());
+    }
+    put_warnings(m, window, context, told)
+}
+
 // Writes the diagnostics of those faults of a text that a window shows, of so many faults.
 fn put_some<T: Told>(
     m: &mut Message,
@@ -187,6 +209,8 @@ fn put_some<T: Told>(
     told: &T,
     count: usize,
 ) -> Result<(), AllocError>
+where
+    T::Lines: TestedLines,
     requires { count ≡ fault_count (T.View.shown told.now) }
     ensures { OnOk result (m.new ≡ m.old
         ++ shown_in window.old (all_diagnostics context.now.encoding context.now.uri.now (T.environments told.now) (T.View.shown told.now) (searched_names (T.View.shown told.now) (fault_count (T.View.shown told.now))))) }
@@ -208,6 +232,8 @@ fn put_fault_list<T: Told>(
     most: usize,
     at: u32,
 ) -> Result<usize, AllocError>
+where
+    T::Lines: TestedLines,
     ensures said { OnOk result (m.new ≡ m.old
         ++ fault_diagnostics context.now.encoding context.now.uri.now (T.environments told.now) (T.View.shown told.now) most at) }
     ensures count { IfOk result (λ all. all ≡ fault_count (T.View.shown told.now)) }
@@ -233,7 +259,7 @@ fn put_warning_list<T: Told>(
 {
     let counted = count_warnings(told, at);
     let mut window = Window::nearest(most, counted.before, counted.all);
-    put_warnings(m, &mut window, context, told)?;
+    put_some_warnings(m, &mut window, context, told, counted.all)?;
     Ok(counted.all)
 }
 
@@ -300,6 +326,8 @@ fn put_nearest<T: Told>(
     told: &T,
     at: u32,
 ) -> Result<(), AllocError>
+where
+    T::Lines: TestedLines,
     ensures { OnOk result (m.new ≡ m.old
         ++ diagnostics_of context.now.encoding context.now.uri.now (T.environments told.now) (T.View.shown told.now) (lines_of document.now) at) }
 {
@@ -322,6 +350,8 @@ fn put_publication<T: Told>(
     told: &T,
     at: u32,
 ) -> Result<(), AllocError>
+where
+    T::Lines: TestedLines,
     ensures { OnOk result (m.new ≡ m.old ++ (publication_head context.now.uri.now version
         ++ diagnostics_of context.now.encoding context.now.uri.now (T.environments told.now) (T.View.shown told.now) (lines_of document.now) at)) }
 {
@@ -344,6 +374,8 @@ pub fn publish_lines<T: Told>(
     at: u32,
     out: &mut Vec<u8>,
 ) -> Result<(), AllocError>
+where
+    T::Lines: TestedLines,
     ensures { OnOk result (out.new.items ≡ out.old.items
         ++ publication context.now.uri.now version (diagnostics_of context.now.encoding context.now.uri.now (T.environments told.now) (T.View.shown told.now) (lines_of document.now) at)) }
 {

@@ -49,7 +49,7 @@ impl Document {
         let (front, rest) = self.text.as_slice().split_at(from);
         let (_, back) = rest.split_at(to - from);
         let mut text = Vec::new(self.alloc);
-        text.reserve(front.len())?;
+        text.reserve(self.text.len().saturating_add(with.len()))?;
         text.extend_from_slice(front)?;
         text.extend_from_slice(with)?;
         text.extend_from_slice(back)?;

@@ -20,7 +20,7 @@ pub use encoding::{Encoding, before_column, column_of};
 pub use laws::{columns_have_room, lines_begin_there};
 pub use lines::line_count;
 pub use lines_left::Lines;
-pub use position::{Position, Range, offset_of};
+pub use position::{Position, Range, offset_of, without_return};
 pub use reading::{Change, change_in, number_at, position_at, position_of, text_at};
 pub use touched::{Touched, touched_lines};
 pub use window::Window;

@@ -41,15 +41,14 @@ fn line_start(text: &[u8], line: u32) -> usize
     at
 }
 
-// A line without a last `\r`.
-fn without_return(line: &[u8]) -> &[u8]
+/// A line without the 0x0D that belongs to its end.
+pub fn without_return(line: &[u8]) -> &[u8]
     ensures value { result.now ≡ without_return line.entry.now }
     ensures within { length result.now ≤ length line.entry.now }
 {
-    if !line.is_empty() && line[line.len() - 1] == b'\r' {
-        line.split_at(line.len() - 1).0
-    } else {
-        line
+    match line.split_last() {
+        Some((b'\r', before)) => before,
+        _ => line,
     }
 }
 

@@ -46,7 +46,7 @@ pub use line::read_line;
 pub use operand::{AlignmentUnit, DataWidth, Operand, OperandValue, Role};
 pub use operand_count::OperandCount;
 pub use runs::operands_from;
-pub use section::Sect;
+pub use section::{SECTION_NAMES, Sect};
 pub use sets::set_name;
 pub use slots::Slot;
 pub use statement::{Body, Instruction, Stmt};

@@ -14,6 +14,7 @@ use crate::loading::load;
 use rv_changes::put_lines;
 use rv_doc::{Document, Encoding, Lines, Touched, change_all, line_count, touched_lines};
 use rv_store::{MAX_LINES, Store};
+use rv_text::MAX_LINE_LENGTH;
 use serde_json::Value;
 use std::alloc::{AllocError, Global};
 use std::marker::Model;
@@ -105,6 +106,19 @@ impl Assembly {
     /// How many lines stand before those that changed last.
     pub fn edited(&self) -> u32 {
         self.edited
+    }
+
+    /// Whether all of the text is assembled: no line is too long, and none stands behind the last that a text can have.
+    pub fn is_whole(&self) -> bool {
+        let mut lines = Lines::new(self.text());
+        let mut left = MAX_LINES;
+        'lines: while let Some(line) = lines.next_line() {
+            if line.len() > MAX_LINE_LENGTH || (left == 0 && !line.is_empty()) {
+                return false;
+            }
+            left = left.saturating_sub(1);
+        }
+        true
     }
 
     // The text after the changes of a message, if each is well formed.

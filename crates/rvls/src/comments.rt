@@ -1,14 +1,12 @@
 //! Where lines end, and their comments.
 
+use rv_doc::without_return;
 use rv_show::bytes_from;
 use rv_text::{Span, Tokens};
 
 /// How many bytes stand before the end of a line, and the carriage return that belongs to it.
 pub fn end_of(text: &[u8]) -> usize {
-    match text.split_last() {
-        Some((b'\r', before)) => before.len(),
-        _ => text.len(),
-    }
+    without_return(text).len()
 }
 
 /// The comment of a line, without the carriage return that belongs to the end of the line.

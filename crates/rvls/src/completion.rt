@@ -3,7 +3,7 @@
 use crate::comments::end_of;
 use crate::name_uses::Expected;
 use crate::names::text_of;
-use crate::operand_lists::{NameKinds, directive_words, names_taken, slot_words};
+use crate::operand_lists::{NameKinds, Registers, directive_words, names_taken, slot_words};
 use crate::typed::{Typed, typed_in};
 use rv_diagnostics::{Context, Message, Part, column_at, put_range};
 use rv_doc::{Position, before_column};
@@ -12,7 +12,8 @@ use rv_list::{LineView, View};
 use rv_ops::{CSRS, Reg, TABLE, TableRow, reg_name};
 use rv_show::{first_bytes, part};
 use rv_stmt::{
-    DIRECTIVES, DirectiveForm, DirectiveKind, DirectiveRow, FORMS, FormRow, operand_slots, set_name,
+    DIRECTIVES, DirectiveForm, DirectiveRow, FORMS, FormRow, SECTION_NAMES, Sect, operand_slots,
+    set_name,
 };
 use rv_text::Span;
 use std::alloc::{AllocError, Global};
@@ -111,32 +112,55 @@ fn put_forms(
     Ok(())
 }
 
-// Writes the directives, or those alone that are sections.
+// Writes the directives.
 fn put_directives(
     m: &mut Message,
     word: &Word<'_>,
     mut rows: &[DirectiveRow],
-    kind: u64,
 ) -> Result<(), AllocError> {
     'rows: while let [row, later @ ..] = rows {
         let form = DirectiveForm {
             count: row.1,
             kind: row.2,
         };
-        if kind == KEYWORD || matches!(row.2, DirectiveKind::Switch(_)) {
-            put_item(m, word, row.0, kind, directive_words(form))?;
-        }
+        put_item(m, word, row.0, KEYWORD, directive_words(form))?;
         rows = later;
     }
     Ok(())
 }
 
-// Writes the registers.
-fn put_registers(m: &mut Message, word: &Word<'_>) -> Result<(), AllocError> {
-    for number in 0..32 {
-        if let Some(register) = Reg::new(number) {
-            put_item(m, word, reg_name(register), VARIABLE, "register")?;
+// Writes the sections.
+fn put_sections(
+    m: &mut Message,
+    word: &Word<'_>,
+    mut rows: &[(&str, Sect)],
+) -> Result<(), AllocError> {
+    'rows: while let [row, later @ ..] = rows {
+        put_item(m, word, row.0, MODULE, "section")?;
+        rows = later;
+    }
+    Ok(())
+}
+
+// Writes a register, if it is one of some.
+fn put_register(
+    m: &mut Message,
+    word: &Word<'_>,
+    registers: Registers,
+    number: u8,
+) -> Result<(), AllocError> {
+    match Reg::new(number) {
+        Some(register) if registers.has(register) => {
+            put_item(m, word, reg_name(register), VARIABLE, "register")
         }
+        _ => Ok(()),
+    }
+}
+
+// Writes some registers.
+fn put_registers(m: &mut Message, word: &Word<'_>, registers: Registers) -> Result<(), AllocError> {
+    for number in 0..32 {
+        put_register(m, word, registers, number)?;
     }
     Ok(())
 }
@@ -206,9 +230,7 @@ fn put_names<V: View>(
     word: &Word<'_>,
     kinds: NameKinds,
 ) -> Result<(), AllocError> {
-    if kinds.registers {
-        put_registers(m, word)?;
-    }
+    put_registers(m, word, kinds.registers)?;
     if kinds.csrs {
         put_csrs(m, word, &CSRS)?;
     }
@@ -216,7 +238,7 @@ fn put_names<V: View>(
         put_sets(m, word)?;
     }
     if kinds.sections {
-        put_directives(m, word, &DIRECTIVES, MODULE)?;
+        put_sections(m, word, &SECTION_NAMES)?;
     }
     if kinds.high_parts {
         put_modifiers(m, word, &HIGH_PARTS)?;
@@ -234,7 +256,7 @@ fn put_names<V: View>(
 fn put_statements(m: &mut Message, alloc: Global, word: &Word<'_>) -> Result<(), AllocError> {
     put_operations(m, alloc, word, &TABLE)?;
     put_forms(m, alloc, word, &FORMS)?;
-    put_directives(m, word, &DIRECTIVES, KEYWORD)
+    put_directives(m, word, &DIRECTIVES)
 }
 
 // Which names may stand in an operand where this was typed.
@@ -260,7 +282,10 @@ fn put_expected<V: View>(
         Expected::Operand | Expected::Modifier => {
             put_names(m, alloc, view, word, names_typed(typed))
         }
-        Expected::Base => put_registers(m, word),
+        Expected::Base => {
+            let kinds = names_taken(typed.statement, typed.operand, true);
+            put_registers(m, word, kinds.registers)
+        }
         Expected::Sign => Ok(()),
     }
 }

@@ -88,7 +88,7 @@ pub fn frame_at(bytes: &[u8]) -> Frame
     ensures { IsWithin result (length bytes.now) }
 {
     let Some(at) = memmem::find(bytes, HEADER_END) else {
-        return if bytes.len() > MAX_HEADER {
+        return if bytes.len() >= MAX_HEADER + HEADER_END.len() {
             Frame::Bad
         } else {
             Frame::More

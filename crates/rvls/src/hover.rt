@@ -1,13 +1,11 @@
 //! What is shown of a line: its address and bytes, the instructions that it stands for, and the value of a name.
 
 use crate::name_at::name_at;
-use crate::places::lines_to;
 use crate::symbol_text::push_meaning;
-use rv_diagnostics::Context;
+use rv_diagnostics::{Context, Message, Part};
 use rv_dis::disassemble;
-use rv_doc::Position;
 use rv_fix::Payload;
-use rv_list::{LineSource, LineView, View};
+use rv_list::{LineView, View};
 use rv_show::Text;
 use rv_stmt::Body;
 use rv_text::OutputRow;
@@ -77,7 +75,7 @@ pub fn hint_text(alloc: Global, line: &LineView<'_>) -> Result<String, AllocErro
     String::from_utf8_lossy(alloc, text.bytes())
 }
 
-// Appends what is said of a line: its address, its bytes, how many they are, and the instructions.
+// Appends what is said of a line: its address, its bytes, how many they are, and the instructions, unless it has a fault.
 fn push_line(text: &mut Text, alloc: Global, line: &LineView<'_>) -> Result<(), AllocError> {
     push_place(text, line, HOVER_BYTES)?;
     text.push(b" (")?;
@@ -89,7 +87,9 @@ fn push_line(text: &mut Text, alloc: Global, line: &LineView<'_>) -> Result<(), 
     };
     text.push(unit)?;
     match &line.stmt.body {
-        Body::Instr(_) | Body::Pseudo(_) => push_instructions(text, alloc, line),
+        Body::Instr(_) | Body::Pseudo(_) if line.code.fault.is_none() => {
+            push_instructions(text, alloc, line)
+        }
         _ => Ok(()),
     }
 }
@@ -117,36 +117,34 @@ fn push_said<V: View>(
     push_line(text, alloc, line)
 }
 
-// What is said at a column of a line, if anything is.
-fn said_at<V: View>(
+/// Writes what is said at a column of a line, by its number from 1 on, or null.
+///
+/// # Errors
+///
+/// `AllocError` if there is no memory for it.
+pub fn put_hover<V: View>(
+    m: &mut Message,
     context: &Context<'_>,
     view: &V,
     number: u32,
     line: &LineView<'_>,
     column: u32,
-) -> Result<Option<String>, AllocError> {
+) -> Result<(), AllocError> {
     let mut text = Text::new(context.alloc);
     push_said(&mut text, context, view, number, line, column)?;
     if text.bytes().is_empty() {
-        return Ok(None);
+        return m.null();
     }
     let said = String::from_utf8_lossy(context.alloc, text.bytes())?;
-    Ok(Some(said))
-}
-
-/// What is said at a position of a text, if there is a name that stands for something, or the line has bytes.
-///
-/// # Errors
-///
-/// `AllocError` if there is no memory for the text.
-pub fn hover_text<V: View>(
-    context: &Context<'_>,
-    view: &V,
-    position: Position,
-) -> Result<Option<String>, AllocError> {
-    let number = position.line.saturating_add(1);
-    match lines_to(view, number) {
-        Some(lines) => said_at(context, view, number, &lines.line(), position.character),
-        None => Ok(None),
-    }
+    m.put_all(&[
+        Part::BeginObject,
+        Part::Key("contents"),
+        Part::BeginObject,
+        Part::Key("kind"),
+        Part::Text("plaintext"),
+        Part::Key("value"),
+        Part::Text(said.as_str()),
+        Part::EndObject,
+        Part::EndObject,
+    ])
 }

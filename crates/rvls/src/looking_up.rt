@@ -3,9 +3,11 @@
 use crate::completion::put_completions;
 use crate::definition::put_definition;
 use crate::document_symbols::put_document_symbols;
+use crate::hints::put_hints;
+use crate::hover::put_hover;
 use crate::name_at::{Named, name_at};
 use crate::places::lines_to;
-use crate::references::{Wanted, put_references};
+use crate::references::{PlaceForm, Wanted, put_references};
 use crate::rename::{put_name, put_rename};
 use crate::semantic_tokens::put_semantic_tokens;
 use crate::writing::{Failure, Refusal};
@@ -15,19 +17,30 @@ use rv_list::{LineSource, LineView, View};
 use serde_json::Value;
 use std::alloc::AllocError;
 
-/// What is asked about a position, or the name there.
+/// What is asked about the name at a position.
 #[derive(Clone, Copy)]
-pub enum Wish<'a> {
+pub enum NameWish<'a> {
     /// Where it is defined.
     Definition,
     /// Where it stands, with its definition or without it.
     References(bool),
+    /// Where it stands in this document.
+    Highlights,
     /// Whether it can get another name.
     CanRename,
     /// To give it this name.
     Rename(&'a str),
+}
+
+/// What is asked about a position.
+#[derive(Clone, Copy)]
+pub enum Wish<'a> {
+    /// What stands there.
+    Hover,
     /// Which names may be typed there.
     Completion,
+    /// Something about the name there.
+    Name(NameWish<'a>),
 }
 
 /// What is asked about a document.
@@ -37,23 +50,48 @@ pub enum Question<'a> {
     Symbols,
     /// What the tokens are of the lines from the first number up to and with the second, from 0 on.
     Tokens(u32, u32),
+    /// What is shown beside such lines.
+    Hints(u32, u32),
     /// Something about a position.
     Place(Position, Wish<'a>),
 }
 
+impl Question<'_> {
+    /// Whether the answer is right only if all names of the document are known.
+    pub fn needs_all_names(&self) -> bool {
+        matches!(self, Question::Place(_, Wish::Name(NameWish::Rename(_))))
+    }
+}
+
 // What a request asks about the name at a position, if its other parameters are right.
-fn wish_in<'a>(method: &str, message: &'a Value) -> Option<Wish<'a>> {
+fn name_wish_in<'a>(method: &str, message: &'a Value) -> Option<NameWish<'a>> {
     match method {
-        "textDocument/definition" => Some(Wish::Definition),
+        "textDocument/definition" => Some(NameWish::Definition),
         "textDocument/references" => {
             let with_definition = message.pointer("/params/context/includeDeclaration")?;
-            Some(Wish::References(with_definition.as_bool()?))
+            Some(NameWish::References(with_definition.as_bool()?))
         }
-        "textDocument/prepareRename" => Some(Wish::CanRename),
-        "textDocument/rename" => Some(Wish::Rename(text_at(message, "/params/newName")?)),
-        "textDocument/completion" => Some(Wish::Completion),
+        "textDocument/documentHighlight" => Some(NameWish::Highlights),
+        "textDocument/prepareRename" => Some(NameWish::CanRename),
+        "textDocument/rename" => Some(NameWish::Rename(text_at(message, "/params/newName")?)),
         _ => None,
     }
+}
+
+// What a request asks about a position, if its other parameters are right.
+fn wish_in<'a>(method: &str, message: &'a Value) -> Option<Wish<'a>> {
+    match method {
+        "textDocument/hover" => Some(Wish::Hover),
+        "textDocument/completion" => Some(Wish::Completion),
+        _ => Some(Wish::Name(name_wish_in(method, message)?)),
+    }
+}
+
+// The first and the last line of the range of a request, from 0 on.
+fn lines_in(message: &Value) -> Option<(u32, u32)> {
+    let from = number_at(message, "/params/range/start/line")?;
+    let to = number_at(message, "/params/range/end/line")?;
+    Some((from, to))
 }
 
 /// What a request asks about a document, if its parameters are right.
@@ -61,10 +99,14 @@ pub fn question_in<'a>(method: &str, message: &'a Value) -> Option<Question<'a>>
     match method {
         "textDocument/documentSymbol" => Some(Question::Symbols),
         "textDocument/semanticTokens/full" => Some(Question::Tokens(0, u32::MAX)),
-        "textDocument/semanticTokens/range" => Some(Question::Tokens(
-            number_at(message, "/params/range/start/line")?,
-            number_at(message, "/params/range/end/line")?,
-        )),
+        "textDocument/semanticTokens/range" => {
+            let (from, to) = lines_in(message)?;
+            Some(Question::Tokens(from, to))
+        }
+        "textDocument/inlayHint" => {
+            let (from, to) = lines_in(message)?;
+            Some(Question::Hints(from, to))
+        }
         _ => {
             let position = position_of(message)?;
             Some(Question::Place(position, wish_in(method, message)?))
@@ -79,26 +121,40 @@ fn put_places<V: View>(
     view: &V,
     name: &Named<'_>,
     with_definition: bool,
+    form: PlaceForm<'_>,
 ) -> Result<(), AllocError> {
     let wanted = Wanted {
         meaning: name.meaning,
         with_definition,
-        new_text: None,
+        form,
     };
     m.begin_array()?;
     put_references(m, context, view, &wanted)?;
     m.end_array()
 }
 
-// Writes the answer where no name is, or no line.
-fn put_nothing(m: &mut Message, wish: Wish<'_>) -> Result<(), Failure> {
+// Writes the answer where no name is.
+fn put_no_name(m: &mut Message, wish: NameWish<'_>) -> Result<(), Failure> {
     match wish {
-        Wish::Definition | Wish::CanRename => m.null()?,
-        Wish::References(_) | Wish::Completion => {
+        NameWish::Definition | NameWish::CanRename => m.null()?,
+        NameWish::References(_) | NameWish::Highlights => {
             m.begin_array()?;
             m.end_array()?;
         }
-        Wish::Rename(_) => return Err(Failure::Refused(Refusal::NoName)),
+        NameWish::Rename(_) => return Err(Failure::Refused(Refusal::NoName)),
+    }
+    Ok(())
+}
+
+// Writes the answer where no line is.
+fn put_no_line(m: &mut Message, wish: Wish<'_>) -> Result<(), Failure> {
+    match wish {
+        Wish::Hover => m.null()?,
+        Wish::Completion => {
+            m.begin_array()?;
+            m.end_array()?;
+        }
+        Wish::Name(wish) => return put_no_name(m, wish),
     }
     Ok(())
 }
@@ -111,14 +167,21 @@ fn put_about_name<V: View>(
     number: u32,
     line: &LineView<'_>,
     name: &Named<'_>,
-    wish: Wish<'_>,
+    wish: NameWish<'_>,
 ) -> Result<(), Failure> {
     match wish {
-        Wish::Definition => put_definition(m, context, view, &name.meaning)?,
-        Wish::References(with_definition) => put_places(m, context, view, name, with_definition)?,
-        Wish::CanRename => put_name(m, context, view, number, line, name)?,
-        Wish::Rename(new_text) => put_rename(m, context, view, name, new_text)?,
-        Wish::Completion => {}
+        NameWish::Definition => put_definition(m, context, view, &name.meaning)?,
+        NameWish::References(with_definition) => put_places(
+            m,
+            context,
+            view,
+            name,
+            with_definition,
+            PlaceForm::Location,
+        )?,
+        NameWish::Highlights => put_places(m, context, view, name, true, PlaceForm::Highlight)?,
+        NameWish::CanRename => put_name(m, context, view, number, line, name)?,
+        NameWish::Rename(new_text) => put_rename(m, context, view, name, new_text)?,
     }
     Ok(())
 }
@@ -146,15 +209,19 @@ fn put_about_line<V: View>(
     position: Position,
     wish: Wish<'_>,
 ) -> Result<(), Failure> {
-    if let Wish::Completion = wish {
-        put_list(m, context, view, line, position)?;
-        return Ok(());
-    }
     let column = position.character;
-    match name_at(context.alloc, context.encoding, view, number, line, column)? {
-        Some(name) => put_about_name(m, context, view, number, line, &name, wish),
-        None => put_nothing(m, wish),
+    match wish {
+        Wish::Hover => put_hover(m, context, view, number, line, column)?,
+        Wish::Completion => put_list(m, context, view, line, position)?,
+        Wish::Name(wish) => {
+            let found = name_at(context.alloc, context.encoding, view, number, line, column)?;
+            return match found {
+                Some(name) => put_about_name(m, context, view, number, line, &name, wish),
+                None => put_no_name(m, wish),
+            };
+        }
     }
+    Ok(())
 }
 
 // Writes the answer about a position.
@@ -168,7 +235,7 @@ fn put_about_position<V: View>(
     let number = position.line.saturating_add(1);
     match lines_to(view, number) {
         Some(lines) => put_about_line(m, context, view, number, &lines.line(), position, wish),
-        None => put_nothing(m, wish),
+        None => put_no_line(m, wish),
     }
 }
 
@@ -192,6 +259,10 @@ pub fn put_answer<V: View>(
         }
         Question::Tokens(from, to) => {
             put_semantic_tokens(m, context, view, from, to)?;
+            Ok(())
+        }
+        Question::Hints(from, to) => {
+            put_hints(m, context, view, from, to)?;
             Ok(())
         }
         Question::Place(position, wish) => put_about_position(m, context, view, position, wish),

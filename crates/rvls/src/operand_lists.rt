@@ -4,17 +4,45 @@ ghost use Rattle.std.specs.Prelude.{◌≡◌};
 ghost use Rattle.rv_stmt.specs.declared.modifiers.Modifier.TheVariants.{High, Low};
 ghost use Rattle.rv_stmt.specs.Values.{takes_modifier};
 
-use rv_ops::{Shape, is_name, op_by_name, shape};
+use rv_code::in_class;
+use rv_ops::{Op, Reg, RegisterClass, Shape, classes, is_name, op_by_name, shape};
 use rv_stmt::{
     AlignmentUnit, DirectiveForm, DirectiveKind, FORMS, FormRow, Slot, directive_named,
     operand_slots,
 };
 use std::alloc::{AllocError, Global};
 
+/// Some registers, a bit for each.
+#[derive(Clone, Copy)]
+pub struct Registers {
+    bits: u32,
+}
+
+impl Registers {
+    // Those of a class.
+    fn of_class(class: RegisterClass) -> Registers {
+        let mut bits = 0;
+        for number in 0..32 {
+            if let Some(register) = Reg::new(number) {
+                bits |= u32::from(in_class(class, register)) << number;
+            }
+        }
+        Registers { bits }
+    }
+
+    /// Whether a register is one of them.
+    pub fn has(self, register: Reg) -> bool {
+        (self.bits >> register.number()) % 2 == 1
+    }
+}
+
+// The register `sp`, x2.
+const STACK_POINTER: Registers = Registers { bits: 1 << 2 };
+
 /// Which names an operand takes.
 #[derive(Clone, Copy)]
 pub struct NameKinds {
-    pub registers: bool,
+    pub registers: Registers,
     pub symbols: bool,
     /// `%hi` and `%pcrel_hi`.
     pub high_parts: bool,
@@ -26,7 +54,7 @@ pub struct NameKinds {
 }
 
 const NONE: NameKinds = NameKinds {
-    registers: false,
+    registers: Registers { bits: 0 },
     symbols: false,
     high_parts: false,
     low_parts: false,
@@ -47,7 +75,9 @@ impl NameKinds {
     // Those of either.
     fn or(self, other: NameKinds) -> NameKinds {
         NameKinds {
-            registers: self.registers | other.registers,
+            registers: Registers {
+                bits: self.registers.bits | other.registers.bits,
+            },
             symbols: self.symbols | other.symbols,
             high_parts: self.high_parts | other.high_parts,
             low_parts: self.low_parts | other.low_parts,
@@ -126,17 +156,28 @@ fn takes_low_part(shape: Shape) -> bool
     )
 }
 
-// Which names an operand of an instruction takes, in parentheses or not.
-fn names_of_slot(shape: Shape, slot: Slot, is_inside: bool) -> NameKinds {
+// Which registers an operand of an instruction takes, in parentheses or not.
+fn registers_of_slot(op: Op, slot: Slot, is_inside: bool) -> Registers {
+    let classes = classes(op);
+    match slot {
+        Slot::Rd => Registers::of_class(classes.rd),
+        Slot::Rs1 | Slot::Base | Slot::MemoryOrRegister => Registers::of_class(classes.rs1),
+        Slot::Rs2 => Registers::of_class(classes.rs2),
+        Slot::StackPointer => STACK_POINTER,
+        Slot::StackMemory if is_inside => STACK_POINTER,
+        Slot::Memory | Slot::MemoryOrAddress if is_inside => Registers::of_class(classes.rs1),
+        _ => NONE.registers,
+    }
+}
+
+// Which other names it takes.
+fn others_of_slot(shape: Shape, slot: Slot, is_inside: bool) -> NameKinds {
     let expression = NameKinds {
         symbols: true,
         ..NONE
     };
     match slot {
-        Slot::Rd | Slot::Rs1 | Slot::Rs2 | Slot::StackPointer | Slot::Base => NameKinds {
-            registers: true,
-            ..NONE
-        },
+        Slot::Rd | Slot::Rs1 | Slot::Rs2 | Slot::StackPointer | Slot::Base => NONE,
         Slot::Immediate => NameKinds {
             high_parts: !is_inside && takes_high_part(shape),
             low_parts: !is_inside && takes_low_part(shape),
@@ -145,7 +186,6 @@ fn names_of_slot(shape: Shape, slot: Slot, is_inside: bool) -> NameKinds {
         Slot::Memory | Slot::StackMemory | Slot::MemoryOrRegister | Slot::MemoryOrAddress =>
             NameKinds {
                 low_parts: !is_inside && takes_low_part(shape),
-                registers: is_inside,
                 ..expression
             },
         Slot::SourceImmediate
@@ -162,9 +202,12 @@ fn names_of_slot(shape: Shape, slot: Slot, is_inside: bool) -> NameKinds {
 }
 
 // Which names an operand of a list takes, by its number from 0 on.
-fn names_in_slots(shape: Shape, slots: &[Slot], operand: usize, is_inside: bool) -> NameKinds {
+fn names_in_slots(op: Op, slots: &[Slot], operand: usize, is_inside: bool) -> NameKinds {
     match slots.get(operand) {
-        Some(slot) => names_of_slot(shape, *slot, is_inside),
+        Some(slot) => NameKinds {
+            registers: registers_of_slot(op, *slot, is_inside),
+            ..others_of_slot(shape(op), *slot, is_inside)
+        },
         None => NONE,
     }
 }
@@ -174,7 +217,7 @@ fn names_in_forms(mut rows: &[FormRow], name: &[u8], operand: usize, is_inside: 
     let mut kinds = NONE;
     'rows: while let [row, later @ ..] = rows {
         if is_name(row.0, name) {
-            kinds = kinds.or(names_in_slots(shape(row.1), row.3, operand, is_inside));
+            kinds = kinds.or(names_in_slots(row.1, row.3, operand, is_inside));
         }
         rows = later;
     }
@@ -213,6 +256,5 @@ pub fn names_taken(statement: &[u8], operand: usize, is_inside: bool) -> NameKin
     let Some(op) = op_by_name(statement) else {
         return others;
     };
-    let shape = shape(op);
-    others.or(names_in_slots(shape, operand_slots(shape), operand, is_inside))
+    others.or(names_in_slots(op, operand_slots(shape(op)), operand, is_inside))
 }

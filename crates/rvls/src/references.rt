@@ -15,14 +15,24 @@ use rv_show::part;
 use rv_text::Span;
 use std::alloc::AllocError;
 
+/// How a place of a name is written.
+#[derive(Clone, Copy)]
+pub enum PlaceForm<'a> {
+    /// With its document.
+    Location,
+    /// Without it.
+    Highlight,
+    /// As an edit that puts this text there.
+    Edit(&'a str),
+}
+
 /// Which places of a name are asked for.
 #[derive(Clone, Copy)]
 pub struct Wanted<'a> {
     pub meaning: Meaning<'a>,
     /// Whether that of the definition is one of them.
     pub with_definition: bool,
-    /// The text that is put there, if the places are those of edits.
-    pub new_text: Option<&'a str>,
+    pub form: PlaceForm<'a>,
 }
 
 // Whether a name of a line is asked for.
@@ -60,7 +70,22 @@ fn put_edit(
     m.put_all(&[Part::Key("newText"), Part::Text(new_text), Part::EndObject])
 }
 
-// Writes the place of a name in a line, or an edit of it.
+// Writes a place of a name in a line, without its document.
+fn put_highlight(
+    m: &mut Message,
+    encoding: Encoding,
+    number: u32,
+    text: &[u8],
+    span: Span,
+) -> Result<(), AllocError>
+    requires { length text.now ≤ 1000 }
+{
+    m.put_all(&[Part::BeginObject, Part::Key("range")])?;
+    put_name_range(m, encoding, number, text, span)?;
+    m.end_object()
+}
+
+// Writes a place of a name in a line, or an edit there.
 fn put_place(
     m: &mut Message,
     context: &Context<'_>,
@@ -71,12 +96,13 @@ fn put_place(
 ) -> Result<(), AllocError>
     requires { length text.now ≤ 1000 }
 {
-    match wanted.new_text {
-        Some(new_text) => {
+    match wanted.form {
+        PlaceForm::Location => put_location(m, context, number, text, span),
+        PlaceForm::Highlight => put_highlight(m, context.encoding, number, text, span),
+        PlaceForm::Edit(new_text) => {
             let span = without_letter(text, span);
             put_edit(m, context.encoding, number, text, span, new_text)
         }
-        None => put_location(m, context, number, text, span),
     }
 }
 

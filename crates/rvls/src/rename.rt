@@ -6,7 +6,7 @@ use crate::name_at::Named;
 use crate::names::{names_in, text_of};
 use crate::new_names::is_symbol_name;
 use crate::places::put_name_range;
-use crate::references::{Wanted, put_references};
+use crate::references::{PlaceForm, Wanted, put_references};
 use crate::writing::{Failure, Refusal};
 use rv_diagnostics::{Context, Message, Part};
 use rv_expr::label_number;
@@ -188,7 +188,7 @@ pub fn put_rename<V: View>(
     let wanted = Wanted {
         meaning: name.meaning,
         with_definition: true,
-        new_text: Some(new_text),
+        form: PlaceForm::Edit(new_text),
     };
     put_edits(m, context, view, &wanted)?;
     Ok(())

@@ -1,9 +1,10 @@
 //! A session over a reader and a writer.
 
 ghost use Rattle.std.specs.Prelude.{◌≡◌, ◌≤◌, ◌<◌, ◌-◌, ◌^◌, length, IfOk, OnOk};
+ghost use Rattle.rvls.specs.declared.run.RunError.TheVariants.{Memory};
 
 use crate::frame::{Frame, frame_at};
-use crate::server::{CUT_OFF, MALFORMED, Next, Server};
+use crate::server::{CUT_OFF, Next, Server};
 use rv_show::bytes_from;
 use rv_text::{Failed, Sink, Source, write_all};
 use std::alloc::{AllocError, Global};
@@ -17,6 +18,8 @@ pub enum RunError {
 }
 
 impl From<AllocError> for RunError {
+    ghost from_gives = { λ _ e. e ≡ Memory };
+
     fn from(_: AllocError) -> Self {
         RunError::Memory
     }
@@ -24,6 +27,21 @@ impl From<AllocError> for RunError {
 
 // How many bytes are read at once at most.
 const CHUNK: usize = 65_536;
+
+// What is said of a frame whose length is not known.
+const BAD_FRAME: &str = "rvls: a message without a right Content-Length ends the session";
+
+// Answers a message, and says whether to go on. Where there is no memory for the whole answer, none of it stays.
+fn answer_whole(server: &mut Server, body: &[u8], out: &mut Vec<u8>) -> Result<Next, AllocError> {
+    let answered = out.len();
+    match server.answer(body, out) {
+        Ok(next) => Ok(next),
+        Err(error) => {
+            out.truncate(answered);
+            Err(error)
+        }
+    }
+}
 
 // Answers the frames at the front of some bytes, and says how many bytes they have, and whether to go on.
 fn answer_frames(
@@ -38,11 +56,11 @@ fn answer_frames(
         let (_, rest) = bytes.split_at(at);
         match frame_at(rest) {
             Frame::More => return Ok((at, Next::Go)),
-            Frame::Bad => return Ok((at, Next::Exit(MALFORMED))),
+            Frame::Bad => return Ok((at, server.give_up(BAD_FRAME, out)?)),
             Frame::Body(start, end) => {
                 let (front, _) = rest.split_at(end);
                 let (_, body) = front.split_at(start);
-                if let Next::Exit(status) = server.answer(body, out)? {
+                if let Next::Exit(status) = answer_whole(server, body, out)? {
                     return Ok((at, Next::Exit(status)));
                 }
                 at += end;
@@ -118,8 +136,9 @@ impl Session {
                 return Ok(CUT_OFF);
             }
             let (chunk, _) = buffer.split_at(count);
-            let (done, next) = self.answer(chunk)?;
+            let answered = self.answer(chunk);
             self.write(sink)?;
+            let (done, next) = answered?;
             if let Next::Exit(status) = next {
                 return Ok(status);
             }

@@ -2,19 +2,16 @@
 
 ghost use Rattle.std.specs.Prelude.{◌≡◌, ◌≤◌, ◌<◌, length, IfSome, vec_len};
 
+use crate::arguments::VERSION;
 use crate::assembly::Assembly;
 use crate::base::{Base, base_in};
 use crate::bodies::message_in;
-use crate::hints::put_hints;
-use crate::hover::hover_text;
 use crate::looking_up::{Question, put_answer, question_in};
 use crate::publishing::publish;
 use crate::semantic_tokens::TOKEN_TYPES;
-use crate::writing::{
-    Failure, Refusal, answer_null, answer_text, begin_result, refuse, show_error,
-};
+use crate::writing::{Failure, Refusal, answer_null, begin_result, refuse, show_error};
 use rv_diagnostics::{Context, Message, Part, publish_none};
-use rv_doc::{Encoding, Position, number_at, position_of, text_at};
+use rv_doc::{Encoding, text_at};
 use serde_json::Value;
 use std::alloc::{AllocError, Global};
 
@@ -204,6 +201,8 @@ fn put_simple_capabilities(m: &mut Message, encoding: Encoding) -> Result<(), Al
         Part::Boolean(true),
         Part::Key("referencesProvider"),
         Part::Boolean(true),
+        Part::Key("documentHighlightProvider"),
+        Part::Boolean(true),
         Part::Key("documentSymbolProvider"),
         Part::Boolean(true),
     ])
@@ -231,7 +230,7 @@ fn put_server(m: &mut Message) -> Result<(), AllocError> {
         Part::Key("name"),
         Part::Text("rvls"),
         Part::Key("version"),
-        Part::Text("0.1.0"),
+        Part::Text(VERSION),
         Part::EndObject,
     ])
 }
@@ -305,8 +304,8 @@ impl Server {
         Ok(())
     }
 
-    // Ends the session, since a message cannot be taken.
-    fn give_up(&self, what: &str, out: &mut Vec<u8>) -> Result<Next, AllocError> {
+    /// Ends the session, since a message cannot be taken.
+    pub fn give_up(&self, what: &str, out: &mut Vec<u8>) -> Result<Next, AllocError> {
         show_error(self.alloc, what, out)?;
         Ok(Next::Exit(MALFORMED))
     }
@@ -404,25 +403,19 @@ impl Server {
                 self.phase = Phase::Down;
                 answer_null(self.alloc, id, out)
             }
-            "textDocument/hover" => self.hover(message, out),
-            "textDocument/inlayHint" => self.hints(message, out),
-            "textDocument/definition"
+            "textDocument/hover"
+            | "textDocument/definition"
             | "textDocument/references"
+            | "textDocument/documentHighlight"
             | "textDocument/documentSymbol"
             | "textDocument/prepareRename"
             | "textDocument/rename"
             | "textDocument/completion"
+            | "textDocument/inlayHint"
             | "textDocument/semanticTokens/full"
             | "textDocument/semanticTokens/range" => self.look_up(method, message, out),
             _ => refuse(self.alloc, id, Refusal::UnknownMethod, out),
         }
-    }
-
-    // The document that a request is about, if it is open.
-    fn asked_about(&self, message: &Value) -> Option<&Open> {
-        let uri = text_at(message, "/params/textDocument/uri")?;
-        let at = self.place_of(uri)?;
-        self.documents.get(at)
     }
 
     // The document that a request is about, and what it asks.
@@ -430,10 +423,17 @@ impl Server {
         &'a self,
         method: &str,
         message: &'a Value,
-    ) -> Option<(&'a Open, Question<'a>)> {
-        let open = self.asked_about(message)?;
-        let question = question_in(method, message)?;
-        Some((open, question))
+    ) -> Result<(&'a Open, Question<'a>), Refusal> {
+        let Some(uri) = text_at(message, "/params/textDocument/uri") else {
+            return Err(Refusal::WrongParameters);
+        };
+        let Some(at) = self.place_of(uri) else {
+            return Err(Refusal::NotOpen);
+        };
+        match question_in(method, message) {
+            Some(question) => Ok((&self.documents[at], question)),
+            None => Err(Refusal::WrongParameters),
+        }
     }
 
     // The answer to a question about a document.
@@ -443,6 +443,9 @@ impl Server {
         id: Option<&Value>,
         question: Question<'_>,
     ) -> Result<Message, Failure> {
+        if question.needs_all_names() && !open.document.is_whole() {
+            return Err(Failure::Refused(Refusal::PastLimit));
+        }
         let context = self.context(open.uri.as_str());
         let mut m = begin_result(self.alloc, id)?;
         put_answer(&mut m, &context, &open.document.store(), question)?;
@@ -452,54 +455,15 @@ impl Server {
     // Answers a question about a document.
     fn look_up(&self, method: &str, message: &Value, out: &mut Vec<u8>) -> Result<(), AllocError> {
         let id = message.get("id");
-        let Some((open, question)) = self.question_about(method, message) else {
-            return refuse(self.alloc, id, Refusal::WrongParameters, out);
+        let (open, question) = match self.question_about(method, message) {
+            Ok(found) => found,
+            Err(refusal) => return refuse(self.alloc, id, refusal, out),
         };
         match self.answer_about(open, id, question) {
             Ok(m) => m.end(out),
             Err(Failure::Refused(refusal)) => refuse(self.alloc, id, refusal, out),
             Err(Failure::Memory) => Err(AllocError),
         }
-    }
-
-    // The document and the position that a request is about.
-    fn position_in(&self, message: &Value) -> Option<(&Open, Position)> {
-        let open = self.asked_about(message)?;
-        let position = position_of(message)?;
-        Some((open, position))
-    }
-
-    // Says what a name and its line are.
-    fn hover(&self, message: &Value, out: &mut Vec<u8>) -> Result<(), AllocError> {
-        let id = message.get("id");
-        let Some((open, position)) = self.position_in(message) else {
-            return refuse(self.alloc, id, Refusal::WrongParameters, out);
-        };
-        let context = self.context(open.uri.as_str());
-        match hover_text(&context, &open.document.store(), position)? {
-            Some(text) => answer_text(self.alloc, id, text.as_str(), out),
-            None => answer_null(self.alloc, id, out),
-        }
-    }
-
-    // The document that a request is about, and the first and the last line, from 0 on.
-    fn lines_in(&self, message: &Value) -> Option<(&Open, u32, u32)> {
-        let open = self.asked_about(message)?;
-        let from = number_at(message, "/params/range/start/line")?;
-        let to = number_at(message, "/params/range/end/line")?;
-        Some((open, from, to))
-    }
-
-    // Gives the hints of some lines.
-    fn hints(&self, message: &Value, out: &mut Vec<u8>) -> Result<(), AllocError> {
-        let id = message.get("id");
-        let Some((open, from, to)) = self.lines_in(message) else {
-            return refuse(self.alloc, id, Refusal::WrongParameters, out);
-        };
-        let context = self.context(open.uri.as_str());
-        let mut m = begin_result(self.alloc, id)?;
-        put_hints(&mut m, &context, &open.document.store(), from, to)?;
-        m.end(out)
     }
 
     // Answers a request.

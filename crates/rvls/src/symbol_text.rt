@@ -3,7 +3,7 @@
 use crate::meaning::Meaning;
 use crate::places::lines_to;
 use rv_list::{DefinitionPlace, LineSource, View};
-use rv_show::Text;
+use rv_show::{Notation, Text, push_number_in};
 use std::alloc::AllocError;
 
 // Appends which line it is that defines a name, by its number from 1 on.
@@ -23,6 +23,17 @@ fn push_label<V: View>(text: &mut Text, view: &V, number: u32) -> Result<(), All
     push_line(text, b" (label, line ", number)
 }
 
+// Appends a value, in hexadecimal as well if that looks different.
+fn push_value(text: &mut Text, value: i64) -> Result<(), AllocError> {
+    text.push(b" = ")?;
+    text.push_number(value)?;
+    if value < 10 {
+        return Ok(());
+    }
+    text.push(b" = ")?;
+    push_number_in(text, Notation::Hexadecimal, value)
+}
+
 // Appends the value of an `.equ` on a line, or that it has none.
 fn push_equ<V: View>(
     text: &mut Text,
@@ -31,10 +42,7 @@ fn push_equ<V: View>(
     number: u32,
 ) -> Result<(), AllocError> {
     match view.value(name) {
-        Some(value) => {
-            text.push(b" = ")?;
-            text.push_number(value)?;
-        }
+        Some(value) => push_value(text, value)?,
         None => text.push(b" has no value")?,
     }
     push_line(text, b" (.equ, line ", number)

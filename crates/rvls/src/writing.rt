@@ -1,5 +1,8 @@
 //! What the server writes.
 
+ghost use Rattle.std.specs.Prelude.{◌≡◌};
+ghost use Rattle.rvls.specs.declared.writing.Failure.TheVariants.{Memory};
+
 use rv_diagnostics::{Message, Part};
 use serde_json::{Number, Value};
 use std::alloc::{AllocError, Global};
@@ -52,28 +55,6 @@ pub fn answer_null(alloc: Global, id: Option<&Value>, out: &mut Vec<u8>) -> Resu
     message.end(out)
 }
 
-/// Answers a request with a text that is shown as it is.
-pub fn answer_text(
-    alloc: Global,
-    id: Option<&Value>,
-    text: &str,
-    out: &mut Vec<u8>,
-) -> Result<(), AllocError> {
-    let mut message = begin_result(alloc, id)?;
-    message.put_all(&[
-        Part::BeginObject,
-        Part::Key("contents"),
-        Part::BeginObject,
-        Part::Key("kind"),
-        Part::Text("plaintext"),
-        Part::Key("value"),
-        Part::Text(text),
-        Part::EndObject,
-        Part::EndObject,
-    ])?;
-    message.end(out)
-}
-
 /// Why a request is refused. (JSON-RPC 2.0, section 5.1; Language Server Protocol 3.17, Base Protocol)
 #[derive(Clone, Copy)]
 pub enum Refusal {
@@ -81,6 +62,8 @@ pub enum Refusal {
     NoRequest,
     UnknownMethod,
     WrongParameters,
+    /// The document that it is about is not open.
+    NotOpen,
     /// The first section cannot begin there.
     WrongBase,
     NotInitialized,
@@ -96,6 +79,8 @@ pub enum Refusal {
     NameTaken,
     /// A line would be too long.
     LineTooLong,
+    /// A line is past a limit, so that its names are not known.
+    PastLimit,
 }
 
 /// Why a request is not answered.
@@ -105,6 +90,8 @@ pub enum Failure {
 }
 
 impl From<AllocError> for Failure {
+    ghost from_gives = { λ _ e. e ≡ Memory };
+
     fn from(_: AllocError) -> Self {
         Failure::Memory
     }
@@ -117,13 +104,14 @@ impl Refusal {
             Refusal::NotJson => -32700,
             Refusal::NoRequest | Refusal::ShutDown | Refusal::InitializedTwice => -32600,
             Refusal::UnknownMethod => -32601,
-            Refusal::WrongParameters | Refusal::WrongBase => -32602,
+            Refusal::WrongParameters | Refusal::NotOpen | Refusal::WrongBase => -32602,
             Refusal::NotInitialized => -32002,
             Refusal::NoName
             | Refusal::NoSymbolName
             | Refusal::NoLocalName
             | Refusal::NameTaken
-            | Refusal::LineTooLong => -32803,
+            | Refusal::LineTooLong
+            | Refusal::PastLimit => -32803,
         }
     }
 
@@ -131,9 +119,10 @@ impl Refusal {
     fn text(self) -> &'static str {
         match self {
             Refusal::NotJson => "this is not JSON",
-            Refusal::NoRequest => "this is no request",
+            Refusal::NoRequest => "this is not a request",
             Refusal::UnknownMethod => "this method is not known",
             Refusal::WrongParameters => "the parameters are wrong",
+            Refusal::NotOpen => "the document is not open",
             Refusal::WrongBase => "the base is a multiple of 4096, at most 0x80000000",
             Refusal::NotInitialized => "'initialize' comes first",
             Refusal::ShutDown => "the server was shut down",
@@ -144,6 +133,7 @@ impl Refusal {
             Refusal::NoLocalName => "a local label is a number from 0 to 9999",
             Refusal::NameTaken => "the new name is in use, and would mean something else",
             Refusal::LineTooLong => "a line would have more than 1000 bytes",
+            Refusal::PastLimit => "the document has a line past a limit, whose names are not known",
         }
     }
 }
