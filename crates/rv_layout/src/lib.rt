@@ -22,7 +22,7 @@ pub use consts::Consts;
 pub use laws::{layouts_join, layouts_tell_places, shapes_are_limited, size_operands_are_few};
 pub use layout::Layout;
 pub use measured::Measured;
-pub use places::{bases, place};
+pub use places::{bases, bases_by_ends, place};
 pub use sections::{CODE_SECTIONS, SECTIONS, is_code, section_number};
 pub use shapes::measure;
 pub use sizes::{alignment_by_role, fill_size, is_loadable, with_value};

@@ -17,9 +17,10 @@ ghost use Rattle.rv_program.specs.internal.Work.{high_operands, work};
 use crate::before::Before;
 use crate::groups::{Groups, Kind};
 use crate::invalidation::is_invalidated;
-use crate::line_names::{high_in, references_at};
+use crate::line_names::references_at;
 use crate::lines_of_kind::lines_up_to;
 use crate::name_set::NameSet;
+use crate::pairs::high_in;
 use crate::room::row_of;
 use crate::symbol_rows::SymbolRows;
 use crate::text_lines::{place_on, statement_on};
@@ -144,7 +145,7 @@ fn high_after<C: Count>(
     }
     if !is_line_invalidated(before, after, line) {
         if let Some(stood) = before.edit.line_before(line) {
-            return high_in(before.highs, stood);
+            return high_in(before.highs, stood as usize);
         }
     }
     high_on(&after.text, after.equ_values, line, counter)

@@ -33,7 +33,7 @@ pub mod locals_after;
 mod moved_definitions;
 mod name_set;
 mod names;
-pub mod paired_highs;
+mod pairs;
 mod refusals;
 mod renewal_pass;
 mod renewed_line;

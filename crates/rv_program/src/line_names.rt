@@ -2,14 +2,14 @@
 
 ghost use Rattle.std.specs.Prelude.{◌≡◌, ◌-◌, ◌≤◌, length};
 ghost use Rattle.rv_program.specs.declared.limits.TheConstants.{MAX_LINES};
-ghost use Rattle.rv_program.specs.internal.LineNames.{label_line_in, high_in, rows_of, rows_for, given_by};
+ghost use Rattle.rv_program.specs.internal.LineNames.{label_line_in, given_by};
 ghost use Rattle.rv_program.specs.Pairs.{names_at};
 ghost use Rattle.rv_program.specs.Program.{body_at};
 ghost use Rattle.rv_program.specs.References.{line_of_place, or_faulty_equ, by_definition, usable_equs, references_at};
-ghost use Rattle.rv_program.specs.internal.TextRows.{address_in, program_in, AreTextRows, AreEquValuesIn, ArePairedHighsIn, address_in_text, references_through};
+ghost use Rattle.rv_program.specs.internal.TextRows.{address_in, program_in, AreTextRows, AreEquValuesIn, AreHighsIn, address_in_text, references_through};
 
-use crate::locals::Locals;
-use crate::names::{NameTable, entry_at, entry_of};
+use crate::names::{entry_at, entry_of};
+use crate::pairs::paired_high;
 use crate::text_rows::{TextRows, address_in, address_of_found};
 use rv_expr::{Direction, LabelReference, Names, ValueFault};
 use rv_fix::Entry;
@@ -19,13 +19,11 @@ use rv_stmt::Body;
 /// What names give on a line, by the rows of its text.
 #[derive(Drop)]
 pub struct LineNames<'a> {
-    names: &'a NameTable,
-    definitions: &'a [DefinitionPlace],
-    places: &'a [LinePlace],
-    locals: &'a Locals,
+    text: TextRows<'a>,
+    // The values of the `.equ`s, by the numbers of their names.
     equ_values: &'a [Entry],
-    // What `%pcrel_lo` takes from a label, by the label's line.
-    paired_highs: &'a [Entry],
+    // The high halves on the lines.
+    highs: &'a [Entry],
     line: u32,
     // The `.equ`s of the lines up to this one may be used.
     usable_equs: u32,
@@ -35,14 +33,15 @@ impl Names for LineNames<'_> {
     ghost environment = { given_by };
 
     fn symbol(&self, _here: u32, name: &[u8]) -> Result<i64, ValueFault> {
-        let number = self.names.number(name);
-        let place = entry_at(self.definitions, DefinitionPlace::Nowhere, number);
+        let number = self.text.names.number(name);
+        let place = entry_at(self.text.definitions, DefinitionPlace::Nowhere, number);
         let value = entry_at(self.equ_values, Err(ValueFault::LaterEqu), number);
-        by_definition(self.places, self.usable_equs, place, value)
+        by_definition(self.text.places, self.usable_equs, place, value)
     }
 
     fn local(&self, _here: u32, number: u16, direction: Direction) -> Result<i64, ValueFault> {
-        address_of_found(self.places, self.locals.line(self.line, number, direction))
+        let text = &self.text;
+        address_of_found(text.places, text.locals.line(self.line, number, direction))
     }
 
     fn here(&self, here: u32) -> Result<i64, ValueFault> {
@@ -51,39 +50,30 @@ impl Names for LineNames<'_> {
 
     fn paired_high(&self, _here: u32, label: &LabelReference) -> Result<i64, ValueFault> {
         let line = self.label_line(label)?;
-        high_in(self.paired_highs, line)
+        paired_high(self.text.places, self.highs, line)
     }
 }
 
 impl LineNames<'_> {
     // The line of a label.
     fn label_line(&self, label: &LabelReference) -> Result<u32, ValueFault>
-        ensures { result ≡ label_line_in (rows_of self.now) label.now }
+        ensures { result ≡ label_line_in self.now.text self.now.line label.now }
     {
         match label {
             LabelReference::Symbol(name) => line_of_place(entry_of(
-                self.names,
-                self.definitions,
+                self.text.names,
+                self.text.definitions,
                 DefinitionPlace::Nowhere,
                 name.bytes(),
             )),
             LabelReference::Local(number, direction) => self
+                .text
                 .locals
                 .line(self.line, *number, *direction)
                 .ok_or(ValueFault::Undefined),
             LabelReference::Here => Err(ValueFault::Undefined),
         }
     }
-}
-
-// What a row of high halves holds for a line.
-pub(crate) fn high_in(highs: &[Entry], line: u32) -> Entry
-    ensures { result ≡ high_in highs.now line }
-{
-    highs
-        .get((line as usize).saturating_sub(1))
-        .copied()
-        .unwrap_or(Err(ValueFault::NoPartner))
 }
 
 // The line of the label that a name is.
@@ -125,28 +115,6 @@ fn or_faulty_equ(value: Entry) -> Entry
     }
 }
 
-// The names of a line by these rows.
-fn line_names<'a>(
-    text: &TextRows<'a>,
-    equ_values: &'a [Entry],
-    paired_highs: &'a [Entry],
-    line: u32,
-    usable_equs: u32,
-) -> LineNames<'a>
-    ensures { rows_of result ≡ rows_for text.now equ_values.now paired_highs.now line usable_equs }
-{
-    LineNames {
-        names: text.names,
-        definitions: text.definitions,
-        places: text.places,
-        locals: text.locals,
-        equ_values,
-        paired_highs,
-        line,
-        usable_equs,
-    }
-}
-
 // Up to which line the `.equ`s may be used on a line: an `.equ` may use those before it, and any other line all.
 fn usable_equs(text: &TextRows<'_>, line: u32) -> u32
     requires first { 1 ≤ line }
@@ -174,7 +142,13 @@ pub fn references_before<'a>(
     requires last { line ≤ length text.now.lines.now }
     ensures { given_by result (address_in_text text.now line) ≡ references_through text.now (line - 1) line }
 {
-    line_names(text, equ_values, &[], line, line - 1)
+    LineNames {
+        text: *text,
+        equ_values,
+        highs: &[],
+        line,
+        usable_equs: line - 1,
+    }
 }
 
 /// What names give in the expressions of a line, in which `%pcrel_lo` does not stand.
@@ -186,29 +160,35 @@ pub fn references_at<'a>(text: &TextRows<'a>, equ_values: &'a [Entry], line: u32
     requires few { length text.now.lines.now ≤ MAX_LINES }
     ensures { given_by result (address_in_text text.now line) ≡ references_at text.now.base (program_in text.now) line }
 {
-    line_names(text, equ_values, &[], line, usable_equs(text, line))
+    LineNames {
+        text: *text,
+        equ_values,
+        highs: &[],
+        line,
+        usable_equs: usable_equs(text, line),
+    }
 }
 
 /// What names give on a line, `%pcrel_lo` among it.
 pub fn names_at<'a>(
     text: &TextRows<'a>,
     equ_values: &'a [Entry],
-    paired_highs: &'a [Entry],
+    highs: &'a [Entry],
     line: u32,
 ) -> LineNames<'a>
     requires rows { AreTextRows text.now }
     requires values { AreEquValuesIn text.now (length text.now.lines.now) equ_values.now }
-    requires highs { ArePairedHighsIn text.now paired_highs.now }
+    requires highs { AreHighsIn text.now highs.now }
     requires first { 1 ≤ line }
     requires last { line ≤ length text.now.lines.now }
     requires few { length text.now.lines.now ≤ MAX_LINES }
     ensures { given_by result (address_in_text text.now line) ≡ names_at text.now.base (program_in text.now) line }
 {
-    line_names(
-        text,
+    LineNames {
+        text: *text,
         equ_values,
-        paired_highs,
+        highs,
         line,
-        usable_equs(text, line),
-    )
+        usable_equs: usable_equs(text, line),
+    }
 }

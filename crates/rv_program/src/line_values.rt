@@ -113,7 +113,7 @@ fn values_of_body<C: Count>(
             let names = names_at(
                 &rows.symbols.text,
                 rows.symbols.equ_values,
-                rows.paired_highs,
+                rows.highs,
                 line,
             );
             let values = operand_values(alloc, stmt, &names, place.address, counter)?;

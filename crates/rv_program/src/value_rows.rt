@@ -14,8 +14,8 @@ pub struct ValueRows<'a> {
     pub symbols: SymbolRows<'a>,
     /// The shapes of the lines.
     pub shapes: &'a [Measured],
-    /// What `%pcrel_lo` of a label takes, by the label's line.
-    pub paired_highs: &'a [Entry],
+    /// The high halves on the lines.
+    pub highs: &'a [Entry],
 }
 
 /// The shape of a line.

@@ -1,10 +1,9 @@
 -- The ends of a text tell where its sections begin.
-use Rattle.std.proofs.Common.{◌≡◌, ℕ, zero, suc, ◌+◌, ◌^◌, ◌<◌, ◌≤◌, List, length, get_or, arith, refl}
+use Rattle.std.proofs.Common.{◌≡◌, ℕ, ◌^◌, ◌<◌, ◌≤◌, List, length, get_or, arith}
 use Rattle.std.proofs.lemmas.List.FromFn.{get_or-map-range_with_len}
 use Rattle.rv_layout.specs.declared.measured.Measured.{Measured}
 use Rattle.rv_layout.specs.PlaceLaws.{bases_agree, ends_together, sums_agree}
-use Rattle.rv_layout.specs.Places.{base_from, section_end_of, section_base_of, sum_below, AreLimited}
-use Rattle.rv_layout.specs.Rounding.{round_up}
+use Rattle.rv_layout.specs.Places.{section_end_of, section_base_of, sum_below, AreLimited}
 use Rattle.rv_layout.specs.Sections.{sections}
 use Rattle.rv_store.specs.internal.Ends.{by_section, ends_of, end_in, base_by_ends}
 

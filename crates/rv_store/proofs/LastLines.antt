@@ -23,7 +23,7 @@ use Rattle.rv_program.specs.Program.{Program, program_of, for_lines, lines_that}
 use Rattle.rv_program.specs.References.{among_local, has_local, equ_value}
 use Rattle.rv_program.specs.Text.{Edit, Delete, lines_after}
 use Rattle.rv_program.specs.internal.Items.{AreItems}
-use Rattle.rv_program.specs.internal.Rows.{AreConstants, AreEquValues, AreShapes, AreHighs, ArePairedHighs}
+use Rattle.rv_program.specs.internal.Rows.{AreConstants, AreEquValues, AreShapes, AreHighs}
 use Rattle.rv_program.specs.internal.LinesAhead.{all_ahead, none_ahead}
 use Rattle.rv_program.specs.lemmas.LocalLines.{statement-of-line}
 use Rattle.rv_program.specs.lemmas.Programs.{at-for_lines, length-for_lines, length-program}
@@ -42,7 +42,7 @@ use Rattle.rv_store.proofs.Endings.{ending-line}
 use Rattle.rv_store.proofs.LongerPrograms.{shapes-more, for_lines-same}
 use Rattle.rv_store.proofs.LongerTexts.{count-longer, program-longer}
 use Rattle.rv_program.specs.lemmas.LineRows.{row-through}
-use Rattle.rv_store.proofs.StillLaws.{shape-still, locals-put, highs-back, paired_highs-back, values-still, code-still, constant-all, equ_value-all}
+use Rattle.rv_store.proofs.StillLaws.{shape-still, locals-put, highs-back, values-still, code-still, constant-all, equ_value-all}
 use Rattle.rv_store.proofs.StillTexts.{end-set_or_push}
 
 -- Rows without their last value
@@ -235,8 +235,8 @@ module _ {base : ℕ} {lines : List (List ℕ)} {line : List ℕ} {there : Still
 
   -- the rows by lines lose their last values
   pub survey-without : (names : List (List ℕ)) (old new : Survey) → IsSurvey base whole names old → AreSymbols base without (length lines) names new → new.shapes.items ≡ take (length lines) old.shapes.items → new.ends ≡ ends_of (shapes_of without)
-      → new.places.items ≡ take (length lines) old.places.items → ((number : ℕ) → get_or new.locals number [] ≡ get_or old.locals number []) → ((number : ℕ) → among_local number (statement_of line).labels ≡ false) → new.highs.items ≡ take (length lines) old.highs.items → new.paired_highs.items ≡ take (length lines) old.paired_highs.items → IsSurvey base without names new
-  survey-without names old new are symbols shapes ends places locals local highs paired_highs =
+      → new.places.items ≡ take (length lines) old.places.items → ((number : ℕ) → get_or new.locals number [] ≡ get_or old.locals number []) → ((number : ℕ) → among_local number (statement_of line).labels ≡ false) → new.highs.items ≡ take (length lines) old.highs.items → IsSurvey base without names new
+  survey-without names old new are symbols shapes ends places locals local highs =
       let count : length lines ≡ length without = sym (length-program lines) in
       let kept : AreShapes without new.shapes.items = shapes ∙ survey-row (shape_at without) (shape_at whole) old.shapes.items (shape-still still) are.shapes in
       let constants = subst (λ k. AreConstants without k names new.constants.items) count symbols.constants in
@@ -251,7 +251,6 @@ module _ {base : ℕ} {lines : List (List ℕ)} {line : List ℕ} {there : Still
         locals = λ number. locals number ∙ are.locals number ∙ locals-without number (local number);
         equ_values = equ_values;
         highs = subst (AreHighs base without) (sym (highs ∙ ap (λ n. take n old.highs.items) count)) (highs-back still old.highs.items are.highs);
-        paired_highs = subst (ArePairedHighs base without) (sym (paired_highs ∙ ap (λ n. take n old.paired_highs.items) count)) (paired_highs-back still old.paired_highs.items are.paired_highs);
       }
 
   -- The items

@@ -27,7 +27,7 @@ use Rattle.rv_program.specs.Layout.{shape_at, section_at, address_at, size_at}
 use Rattle.rv_program.specs.Pairs.{pcrel_high_of, high_by, high_at, has_bytes_in, high_at_line, paired_high_of, names_at}
 use Rattle.rv_program.specs.Program.{Program, body_at, lines_that, last_line, first_line}
 use Rattle.rv_program.specs.References.{has_local, local_line, line_of_place, label_line, or_faulty_equ, by_definition, address_of_line, names_on, no_pairs, equ_value, symbol_through, usable_equs, reference_of, references_at}
-use Rattle.rv_program.specs.internal.Rows.{HoldHighs}
+use Rattle.rv_program.specs.internal.Rows.{AreHighs}
 use Rattle.rv_store.specs.internal.Still.{Touched, uses_any, IsOther, IsStill}
 use Rattle.rv_program.specs.Uses.{names_in, has_local_label, tree_of_label, names_used, uses_local_label}
 use Rattle.rv_store.proofs.AgreeingNames.{Agree, operand_values-agree, defined_value-agrees, defined_value-settled, high-settled}
@@ -91,24 +91,6 @@ by_definition-all address n m (Equ line) value up within =
     let one : nat_le line m ≡ true = le-leb line m (omega (arith, up, within.1)) in
     let other : nat_le line n ≡ true = le-leb line n (omega (arith, within.1)) in
     ap (λ b. if b then or_faulty_equ value else Err LaterEqu) (one ∙ sym other)
-
--- lines behind the first n have no high half
-holds-still : (high high' : ℕ → Entry) (n m : ℕ) (row : List Entry) → n ≤ m → ((i : ℕ) → 1 ≤ i → i ≤ n → high' i ≡ high i) → ((i : ℕ) → n < i → i ≤ m → high' i ≡ Err NoPartner) → HoldHighs high n row → HoldHighs high' m row
-holds-still high high' n m row up same none are = record {
-  each = λ k below. at k below (cases_lt k n);
-  within = omega (arith, are.within, up);
-}
-  where
-    at : (k : ℕ) → k < m → (k < n) ⊎ (n ≤ k) → get_or row k (Err NoPartner) ≡ high' (suc k)
-    at k below (inl earlier) = are.each k earlier ∙ sym (same (suc k) (omega arith) (omega (arith, earlier)))
-    at k below (inr past) =
-        get_or_past row k (Err NoPartner) (omega (arith, past, are.within)) ∙ sym (none (suc k) (omega (arith, past)) (omega (arith, below)))
-
-holds-back : (high high' : ℕ → Entry) (n m : ℕ) (row : List Entry) → n ≤ m → ((i : ℕ) → 1 ≤ i → i ≤ n → high' i ≡ high i) → HoldHighs high' m row → HoldHighs high n (take n row)
-holds-back high high' n m row up same are = record {
-  each = λ k below. get_or-take n row k (Err NoPartner) below ∙ are.each k (omega (arith, below, up)) ∙ same (suc k) (omega arith) (omega (arith, below));
-  within = omega (arith, length-take n row);
-}
 
 -- The two texts
 
@@ -321,11 +303,22 @@ module _ {base : ℕ} {p q : Program} {k : ℕ} {touched : Touched} (is : IsStil
   high-behind : (i : ℕ) → length p < i → i ≤ length q → high_at base q i ≡ Err NoPartner
   high-behind i past last = ap (high_at base q) (is.behind i past last) ∙ high-new
 
-  pub highs-still : (row : List Entry) → HoldHighs (high_at base p) (length p) row → HoldHighs (high_at base q) (length q) row
-  highs-still row = holds-still (high_at base p) (high_at base q) (length p) (length q) row is.longer high-still high-behind
+  pub highs-still : (row : List Entry) → AreHighs base p row → AreHighs base q row
+  highs-still row are = record {
+    each = λ i below. at i below (cases_lt i (length p));
+    within = let longer = is.longer in omega (arith, are.within, longer);
+  }
+    where
+      at : (i : ℕ) → i < length q → (i < length p) ⊎ (length p ≤ i) → get_or row i (Err NoPartner) ≡ high_at base q (suc i)
+      at i below (inl earlier) = are.each i earlier ∙ sym (high-still (suc i) (omega arith) (omega (arith, earlier)))
+      at i below (inr past) =
+          get_or_past row i (Err NoPartner) (omega (arith, past, are.within)) ∙ sym (high-behind (suc i) (omega (arith, past)) (omega (arith, below)))
 
-  pub highs-back : (row : List Entry) → HoldHighs (high_at base q) (length q) row → HoldHighs (high_at base p) (length p) (take (length p) row)
-  highs-back row = holds-back (high_at base p) (high_at base q) (length p) (length q) row is.longer high-still
+  pub highs-back : (row : List Entry) → AreHighs base q row → AreHighs base p (take (length p) row)
+  highs-back row are = record {
+    each = λ i below. let longer = is.longer in get_or-take (length p) row i (Err NoPartner) below ∙ are.each i (omega (arith, below, longer)) ∙ high-still (suc i) (omega arith) (omega (arith, below));
+    within = omega (arith, length-take (length p) row);
+  }
 
   has_bytes-still : (section i : ℕ) → 1 ≤ i → i ≤ length p → has_bytes_in q section i ≡ has_bytes_in p section i
   has_bytes-still section i first last =
@@ -358,17 +351,6 @@ module _ {base : ℕ} {p q : Program} {k : ℕ} {touched : Touched} (is : IsStil
       let section = section-still i first last in
       (λ j. high_at_line base q (first_line (has_bytes_in q (section_number (section j))) (i - 1) (length q - (i - 1))))
       ∙ next_high-still (section_number (section_at p i)) (i - 1) (length p - (i - 1)) (length q - (i - 1)) (omega (arith, first, last)) (omega (arith, first, last, longer))
-
-  paired_high-behind : (i : ℕ) → length p < i → i ≤ length q → paired_high_of base q i ≡ Err NoPartner
-  paired_high-behind i past last =
-      next_high-none (section_number (section_at q i)) (i - 1) (length q - (i - 1)) (omega (arith, past)) (omega (arith, past, last))
-
-  pub paired_highs-still : (row : List Entry) → HoldHighs (paired_high_of base p) (length p) row → HoldHighs (paired_high_of base q) (length q) row
-  paired_highs-still row =
-      holds-still (paired_high_of base p) (paired_high_of base q) (length p) (length q) row is.longer paired_high-still paired_high-behind
-
-  pub paired_highs-back : (row : List Entry) → HoldHighs (paired_high_of base q) (length q) row → HoldHighs (paired_high_of base p) (length p) (take (length p) row)
-  paired_highs-back row = holds-back (paired_high_of base p) (paired_high_of base q) (length p) (length q) row is.longer paired_high-still
 
   pair-still : (i : ℕ) (label : LabelReference) → i ≤ length p → NoneIn (names_in (tree_of_label label)) → (has_local_label (tree_of_label label) ≡ true → Near i) → and_then (label_line q i label) (paired_high_of base q) ≡ and_then (label_line p i label) (paired_high_of base p)
   pair-still i label within none near =

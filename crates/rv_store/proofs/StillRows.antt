@@ -16,7 +16,7 @@ use Rattle.rv_program.specs.Layout.{shape_at, place_at}
 use Rattle.rv_program.specs.Program.{Program, program_of, no_statement, statement_at, lines_that}
 use Rattle.rv_program.specs.References.{among_local, has_local}
 use Rattle.rv_program.specs.internal.Locals.{with_last, lines_below}
-use Rattle.rv_program.specs.internal.Rows.{AreDefinitions, AreConstants, AreEquValues, AreShapes, ArePlaces, AreLocals, AreHighs, ArePairedHighs}
+use Rattle.rv_program.specs.internal.Rows.{AreDefinitions, AreConstants, AreEquValues, AreShapes, ArePlaces, AreLocals, AreHighs}
 use Rattle.rv_program.specs.internal.Still.{set_or_push}
 use Rattle.rv_store.specs.internal.Still.{Touched, IsStill}
 use Rattle.rv_store.specs.internal.Column.{taken_back}
@@ -25,7 +25,7 @@ use Rattle.rv_store.specs.internal.Surveys.{IsSurvey}
 use Rattle.rv_store.proofs.Columns.{set-back, set-same}
 use Rattle.rv_program.specs.lemmas.LocalLines.{first-below, below-last}
 use Rattle.rv_program.specs.lemmas.Programs.{length-program}
-use Rattle.rv_store.proofs.StillLaws.{shape-still, locals-put, highs-still, paired_highs-still}
+use Rattle.rv_store.proofs.StillLaws.{shape-still, locals-put, highs-still}
 use Rattle.rv_store.proofs.StillTexts.{set-set_or_push, end-set_or_push, map-set_or_push, at-set_or_push, within-next, row-still, symbols-still}
 
 -- whatever the error
@@ -76,11 +76,10 @@ partly place line given old new located put = record {
   places = inr (given.place, put.places);
   locals = has-last place old located line new put.locals;
   highs = put.highs;
-  paired_highs = put.paired_highs;
 }
 
 pub partly-none : (place : ℕ) (s : Survey) → AreLocals (program_of s.lines.items) (length (program_of s.lines.items)) s.locals → ArePartlyPut place s s
-partly-none place s located = record { lines = inl refl; shapes = inl refl; places = inl refl; locals = has-last-none place s located; highs = refl; paired_highs = refl }
+partly-none place s located = record { lines = inl refl; shapes = inl refl; places = inl refl; locals = has-last-none place s located; highs = refl }
 
 -- where the rows by lines change no more
 pub partly-still : (place : ℕ) (old middle new : Survey) → ArePartlyPut place old middle → AreSameLines middle new → ArePartlyPut place old new
@@ -93,7 +92,6 @@ partly-still place old middle new put same = record {
     behind = λ l number. ap (lines_below (suc place)) (same.locals number) ∙ put.locals.behind l number;
   };
   highs = same.highs ∙ put.highs;
-  paired_highs = same.paired_highs ∙ put.paired_highs;
 }
 
 limited-put : (ms : List Measured) (i : ℕ) (m : Measured) → AreLimited ms → IsLimited m → AreLimited (set_or_push ms i m)
@@ -126,7 +124,6 @@ survey-back base lines names names' old new are same symbols =
       locals = λ number. same.locals number ∙ are.locals number;
       equ_values = equ_values;
       highs = subst (AreHighs base (program_of lines)) (sym same.highs) are.highs;
-      paired_highs = subst (ArePairedHighs base (program_of lines)) (sym same.paired_highs) are.paired_highs;
     }
 
 -- what a survey holds by names
@@ -157,8 +154,8 @@ record AreLineRows (base : ℕ) (program : Program) (s : Survey) : Type 0 where
 module _ {base : ℕ} {p q : Program} {k : ℕ} {touched : Touched} (is : IsStill base p q k touched) where
   -- the rows of high halves stay
   survey-still : (names names' : List (List ℕ)) (old new : Survey) → IsSurvey base p names old → AreSymbols base q (length q) names' new → AreLineRows base q new
-      → AreLocals q (length q) new.locals → new.highs.items ≡ old.highs.items → new.paired_highs.items ≡ old.paired_highs.items → IsSurvey base q names' new
-  survey-still names names' old new are symbols rows locals highs paired_highs = record {
+      → AreLocals q (length q) new.locals → new.highs.items ≡ old.highs.items → IsSurvey base q names' new
+  survey-still names names' old new are symbols rows locals highs = record {
     definitions = symbols.definitions;
     constants = symbols.constants;
     shapes = rows.shapes;
@@ -168,7 +165,6 @@ module _ {base : ℕ} {p q : Program} {k : ℕ} {touched : Touched} (is : IsStil
     locals = locals;
     equ_values = symbols.equ_values;
     highs = subst (AreHighs base q) (sym highs) (highs-still is old.highs.items are.highs);
-    paired_highs = subst (ArePairedHighs base q) (sym paired_highs) (paired_highs-still is old.paired_highs.items are.paired_highs);
   }
 
 module _ {base : ℕ} {lines : List (List ℕ)} {k : ℕ} {line : List ℕ} {given : Still} {due : List ℕ} (is : IsStillLine base lines k line given due) where
@@ -241,7 +237,7 @@ module _ {base : ℕ} {lines : List (List ℕ)} {k : ℕ} {line : List ℕ} {giv
           ends = same.ends ∙ put.ends ∙ is.ends ∙ ap ends_of (sym shapes);
           places = same.places ∙ places-put;
         })
-        (λ number. same.locals number ∙ locals-here listed number) (same.highs ∙ put.highs) (same.paired_highs ∙ put.paired_highs)
+        (λ number. same.locals number ∙ locals-here listed number) (same.highs ∙ put.highs)
 
     -- the same by the lines that the survey holds
     pub survey-whole : (names' : List (List ℕ)) (settled : Survey) → AreSameLines new settled → AreSymbols base (program_of settled.lines.items) (length settled.lines.items) names' settled → old.lines.items ≡ lines → IsSurvey base (program_of settled.lines.items) names' settled

@@ -52,7 +52,6 @@ survey_grown base program old new s grows is =
       locals = is.locals;
       equ_values = symbols.equ_values;
       highs = is.highs;
-      paired_highs = is.paired_highs;
     }
 
 -- what the parts of a row by lines hold for line k

@@ -30,8 +30,10 @@ pub fn edited_row<T: Copy>(
             after.extend_from_slice(below)?;
         }
         LineEdit::Delete(k) => {
-            after.extend_from_slice(row)?;
-            let _ = after.remove(k as usize - 1);
+            let (above, _) = row.split_at(k as usize - 1);
+            let (_, below) = row.split_at(k as usize);
+            after.extend_from_slice(above)?;
+            after.extend_from_slice(below)?;
         }
         LineEdit::Replace(k, _) => {
             after.extend_from_slice(row)?;

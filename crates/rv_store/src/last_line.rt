@@ -75,7 +75,6 @@ impl Survey {
         self.shapes.truncate(place);
         self.places.truncate(place);
         self.highs.truncate(place);
-        self.paired_highs.truncate(place);
         self.ends = last.before;
     }
 }

@@ -15,7 +15,6 @@ mod last_line;
 mod new_shape;
 mod places;
 mod renewal;
-mod section_bases;
 mod shapes;
 mod still;
 mod store;

@@ -10,8 +10,7 @@ ghost use Rattle.rv_program.specs.Program.{for_lines};
 ghost use Rattle.rv_store.specs.internal.Unmoved.{place_put_in};
 
 use crate::ends::Ends;
-use crate::section_bases::bases;
-use rv_layout::{Measured, SECTIONS, section_number};
+use rv_layout::{Measured, SECTIONS, bases_by_ends, section_number};
 use rv_list::LinePlace;
 use rv_program::{LineEdit, row_for};
 use std::alloc::{AllocError, Global};
@@ -170,7 +169,7 @@ pub fn stay_sections(base: u32, before: &Ends, after: &Ends) -> bool
     requires ends { sum_below (end_in after.now) sections ≤ 2 ^ 30 }
     ensures { IsTrue result → (t : ℕ) → t < sections → base_by_ends base after.now t ≡ base_by_ends base before.now t }
 {
-    bases(after, base) == bases(before, base)
+    bases_by_ends(&after.offsets, base) == bases_by_ends(&before.offsets, base)
 }
 
 /// Where the last line lies, which is of this shape, by the ends after the lines before it and those after all.
@@ -179,7 +178,7 @@ pub fn last_place(base: u32, before: &Ends, after: &Ends, shape: &Measured) -> L
     requires behind { (ms : List Measured) × IsBehind shape.now before.now after.now ms }
     ensures { (ms : List Measured) → IsBehind shape.now before.now after.now ms → result ≡ place_by_shapes base (ms ++ shape.now ∷ []) (suc (length ms)) }
 {
-    next_place(&bases(after, base), before, shape)
+    next_place(&bases_by_ends(&after.offsets, base), before, shape)
 }
 
 /// Where the line lies that an edit puts in that moves no line.
@@ -218,10 +217,10 @@ impl Placed {
         ensures ends { IfOk result (λ p. p.ends ≡ ends_of shapes.now) }
         ensures places { IfOk result (λ p. p.places.items ≡ for_lines (place_by_shapes base shapes.now) (length shapes.now)) }
     {
-        let placed = places(alloc, &bases(guess, base), shapes)?;
+        let placed = places(alloc, &bases_by_ends(&guess.offsets, base), shapes)?;
         if stay_sections(base, guess, &placed.ends) {
             return Ok(placed);
         }
-        places(alloc, &bases(&placed.ends, base), shapes)
+        places(alloc, &bases_by_ends(&placed.ends.offsets, base), shapes)
     }
 }

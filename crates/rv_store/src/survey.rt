@@ -22,15 +22,13 @@ use crate::column::Column;
 use crate::edited_row::edited_row;
 use crate::ends::Ends;
 use crate::places::{Placed, place_put_in};
-use crate::section_bases::bases;
 use crate::shapes::{ShapeRows, shapes};
 use rv_fix::Entry;
-use rv_layout::Measured;
+use rv_layout::{Measured, bases_by_ends};
 use rv_list::{DefinitionPlace, LinePlace, SectionPlace};
 use rv_program::equ_values::equ_values;
 use rv_program::highs::highs;
 use rv_program::locals_after::locals_after;
-use rv_program::paired_highs::paired_highs;
 use rv_program::{
     Before, Groups, Line, LineEdit, Lines, Locals, MAX_LINES, NameTable, SymbolRows, TextRows,
     ValueRows, definitions_after,
@@ -60,8 +58,6 @@ pub struct Survey {
     pub equ_values: Vec<Entry>,
     /// The high half on each line. The row may end before the lines do, if those behind its end have none.
     pub highs: Vec<Entry>,
-    /// What `%pcrel_lo` takes from a label on each line. Behind the end of the row that is no high half.
-    pub paired_highs: Vec<Entry>,
 }
 
 // What a derive would do, but proved once: each way out of a function that has a survey would drop its fields one by one.
@@ -77,7 +73,6 @@ impl Drop for Survey {
             locals: _,
             equ_values: _,
             highs: _,
-            paired_highs: _,
         } = self;
     }
 }
@@ -98,7 +93,6 @@ impl Survey {
             locals: Locals::new(alloc),
             equ_values: Vec::new(alloc),
             highs: Vec::new(alloc),
-            paired_highs: Vec::new(alloc),
         }
     }
 
@@ -241,7 +235,6 @@ impl Survey {
             equ_values: &equ_values,
         };
         let highs = highs(alloc, before, &after, groups, counter)?;
-        let paired_highs = paired_highs(alloc, &text, groups, &highs)?;
         Ok(Survey {
             lines: Column::new(alloc),
             definitions,
@@ -252,7 +245,6 @@ impl Survey {
             locals,
             equ_values,
             highs,
-            paired_highs,
         })
     }
 
@@ -319,7 +311,7 @@ impl Survey {
         ensures { result ≡ record { base = section_base_of base self.now.shapes.items section; size = section_end_of self.now.shapes.items section } }
     {
         SectionPlace {
-            base: bases(&self.ends, base)[section],
+            base: bases_by_ends(&self.ends.offsets, base)[section],
             size: self.ends.offsets[section],
         }
     }
@@ -340,7 +332,7 @@ impl Survey {
         ValueRows {
             symbols: self.symbols(lines, base, names),
             shapes: &self.shapes,
-            paired_highs: &self.paired_highs,
+            highs: &self.highs,
         }
     }
 }

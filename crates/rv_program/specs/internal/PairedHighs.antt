@@ -1,22 +1,32 @@
--- What `%pcrel_lo` of the labels of a text takes, where only the high halves on its first lines are known.
-use Rattle.std.specs.Prelude.{◌≡◌, ℕ, suc, ◌-◌, ◌<◌, List, length, get_or, Err}
+-- What `%pcrel_lo` of a label takes, by the rows that are kept of a text.
+use Rattle.std.specs.Prelude.{ℕ, ◌-◌, ◌==◌, Bool, not, ◌&&◌, List, length, get_or, Option, ok_or, Err}
 use Rattle.rv_expr.specs.declared.faults.ValueFault.TheVariants.{NoPartner}
+use Rattle.rv_stmt.specs.Readings.{and_then}
 use Rattle.rv_layout.specs.Sections.{section_number}
 use Rattle.rv_fix.specs.Values.{Entry}
-use Rattle.rv_program.specs.Layout.{section_at}
-use Rattle.rv_program.specs.Pairs.{has_bytes_in, high_at_line}
-use Rattle.rv_program.specs.Program.{Program, first_line}
+use Rattle.rv_list.specs.declared.view.LinePlace.{LinePlace}
+use Rattle.rv_program.specs.Program.{first_line}
+use Rattle.rv_program.specs.internal.TextRows.{no_place}
 
--- the section of the line after line k
-abbrev pub section_behind : Program → (k : ℕ) → ℕ
-section_behind program k = section_number (section_at program (suc k))
+-- what a row of high halves holds for a line
+abbrev pub high_in : List Entry → (line : ℕ) → Entry
+high_in highs line = get_or highs (line - 1) (Err NoPartner)
 
--- for the line after line k, by the first i lines
-abbrev pub paired_high_through : (base : ℕ) → Program → (i k : ℕ) → Entry
-paired_high_through base program i k =
-    high_at_line base program (first_line (has_bytes_in program (section_behind program k)) k (i - k))
+abbrev pub section_in : List LinePlace → (line : ℕ) → ℕ
+section_in places line = section_number (get_or places (line - 1) no_place).section
 
--- for each line
-pub record ArePairedThrough (base : ℕ) (program : Program) (i : ℕ) (row : List Entry) : Type 0 where
-  pub many : length row ≡ length program
-  pub each : (k : ℕ) → k < length program → get_or row k (Err NoPartner) ≡ paired_high_through base program i k
+-- a line that lies there is in the section, and has bytes
+abbrev pub has_bytes_there : (section : ℕ) → LinePlace → Bool
+has_bytes_there section place = section_number place.section == section && not (place.size == 0)
+
+abbrev pub has_bytes_by : List LinePlace → (section line : ℕ) → Bool
+has_bytes_by places section line = has_bytes_there section (get_or places (line - 1) no_place)
+
+-- the first line with bytes in the section of a line, from this one on
+abbrev pub next_with_bytes_in : List LinePlace → (line : ℕ) → Option ℕ
+next_with_bytes_in places line =
+    first_line (has_bytes_by places (section_in places line)) (line - 1) (length places - (line - 1))
+
+-- its high half
+abbrev pub paired_high_in : List LinePlace → List Entry → (line : ℕ) → Entry
+paired_high_in places highs line = and_then (ok_or (next_with_bytes_in places line) NoPartner) (high_in highs)

@@ -10,7 +10,7 @@ use Rattle.rv_list.specs.declared.view.LinePlace.{LinePlace}
 use Rattle.rv_program.specs.Constants.{constant_through}
 use Rattle.rv_program.specs.Definitions.{definition_of}
 use Rattle.rv_program.specs.Layout.{shapes_of, place_at}
-use Rattle.rv_program.specs.Pairs.{high_at, paired_high_of}
+use Rattle.rv_program.specs.Pairs.{high_at}
 use Rattle.rv_program.specs.Program.{Program, for_lines, lines_that}
 use Rattle.rv_program.specs.References.{has_local, equ_value}
 
@@ -65,18 +65,10 @@ AreShapes program row = row ≡ shapes_of program
 abbrev pub ArePlaces : (base : ℕ) → Program → List LinePlace → Type 0
 ArePlaces base program row = row ≡ for_lines (place_at base program) (length program)
 
--- a row of high halves, which may end before the lines do: the lines behind its end have none
-pub record HoldHighs (high : ℕ → Entry) (count : ℕ) (row : List Entry) : Type 0 where
-  pub each : (k : ℕ) → k < count → get_or row k (Err NoPartner) ≡ high (suc k)
-  pub within : length row ≤ count
-
--- the high half on each line
-abbrev pub AreHighs : (base : ℕ) → Program → List Entry → Type 0
-AreHighs base program row = HoldHighs (high_at base program) (length program) row
-
--- what `%pcrel_lo` of a label takes, by the label's line
-abbrev pub ArePairedHighs : (base : ℕ) → Program → List Entry → Type 0
-ArePairedHighs base program row = HoldHighs (paired_high_of base program) (length program) row
+-- the high half on each line; the row may end before the lines do, if those behind its end have none
+pub record AreHighs (base : ℕ) (program : Program) (row : List Entry) : Type 0 where
+  pub each : (k : ℕ) → k < length program → get_or row k (Err NoPartner) ≡ high_at base program (suc k)
+  pub within : length row ≤ length program
 
 -- the lines of local labels, by their numbers: those of the first k lines
 abbrev pub AreLocals : Program → (k : ℕ) → List (List ℕ) → Type 0

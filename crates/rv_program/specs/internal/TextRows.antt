@@ -8,7 +8,7 @@ use Rattle.rv_program.specs.declared.text_rows.TextRows.{TextRows}
 use Rattle.rv_program.specs.Layout.{address_at}
 use Rattle.rv_program.specs.Program.{Program, program_of}
 use Rattle.rv_program.specs.References.{names_on, symbol_through, no_pairs}
-use Rattle.rv_program.specs.internal.Rows.{AreDefinitions, AreEquValues, ArePlaces, ArePairedHighs, AreLocals}
+use Rattle.rv_program.specs.internal.Rows.{AreDefinitions, AreEquValues, ArePlaces, AreHighs, AreLocals}
 
 -- what stands past the end
 abbrev pub no_place : LinePlace
@@ -30,8 +30,8 @@ pub record AreTextRows (text : TextRows) : Type 0 where
 abbrev pub AreEquValuesIn : TextRows → (k : ℕ) → List Entry → Type 0
 AreEquValuesIn text k row = AreEquValues text.base (program_in text) k text.names.now row
 
-abbrev pub ArePairedHighsIn : TextRows → List Entry → Type 0
-ArePairedHighsIn text row = ArePairedHighs text.base (program_in text) row
+abbrev pub AreHighsIn : TextRows → List Entry → Type 0
+AreHighsIn text row = AreHighs text.base (program_in text) row
 
 abbrev pub address_in_text : TextRows → (i : ℕ) → ℕ
 address_in_text text i = address_at text.base (program_in text) i

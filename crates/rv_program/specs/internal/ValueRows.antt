@@ -5,7 +5,7 @@ use Rattle.rv_program.specs.declared.value_rows.ValueRows.{ValueRows}
 use Rattle.rv_program.specs.Program.{Program, body_at}
 use Rattle.rv_program.specs.internal.Rows.{AreShapes}
 use Rattle.rv_program.specs.internal.SymbolRows.{AreSymbolRows}
-use Rattle.rv_program.specs.internal.TextRows.{ArePairedHighsIn, program_in}
+use Rattle.rv_program.specs.internal.TextRows.{AreHighsIn, program_in}
 
 abbrev pub base_of : ValueRows → ℕ
 base_of rows = rows.symbols.text.base
@@ -20,4 +20,4 @@ body_in rows line = body_at (program_of_rows rows) line
 pub record AreValueRows (rows : ValueRows) : Type 0 where
   pub symbols : AreSymbolRows rows.symbols
   pub shapes : AreShapes (program_of_rows rows) rows.shapes.now
-  pub paired_highs : ArePairedHighsIn rows.symbols.text rows.paired_highs.now
+  pub highs : AreHighsIn rows.symbols.text rows.highs.now

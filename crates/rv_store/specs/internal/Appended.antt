@@ -81,7 +81,6 @@ pub record AreSameLines (old new : Survey) : Type 0 where
   pub places : new.places.items ≡ old.places.items
   pub locals : (number : ℕ) → get_or new.locals number [] ≡ get_or old.locals number []
   pub highs : new.highs.items ≡ old.highs.items
-  pub paired_highs : new.paired_highs.items ≡ old.paired_highs.items
 
 -- the rows by names hold where a text defines them, and the constants and the values of the `.equ`s of its first k lines, and no row is
 -- longer than there are names

@@ -53,7 +53,6 @@ pub record AreLinesPut (place : ℕ) (line : List ℕ) (given : Still) (old new 
   pub places : new.places.items ≡ set_or_push old.places.items place given.place
   pub locals : (number : ℕ) → get_or new.locals number [] ≡ with_last (suc place) (is_behind_with old place line number) (get_or old.locals number [])
   pub highs : new.highs.items ≡ old.highs.items
-  pub paired_highs : new.paired_highs.items ≡ old.paired_highs.items
 
 -- a row is another one, or that with something in place
 abbrev pub MayBePut : {A : Type 0} → (place : ℕ) → (old new : List A) → Type 0
@@ -65,7 +64,6 @@ pub record StayButLocals (old new : Survey) : Type 0 where
   pub shapes : new.shapes.items ≡ old.shapes.items
   pub places : new.places.items ≡ old.places.items
   pub highs : new.highs.items ≡ old.highs.items
-  pub paired_highs : new.paired_highs.items ≡ old.paired_highs.items
 
 -- the rows of local labels may have a line behind the lines
 pub record MayHaveLast (place : ℕ) (old new : Survey) : Type 0 where
@@ -79,7 +77,6 @@ pub record ArePartlyPut (place : ℕ) (old new : Survey) : Type 0 where
   pub places : MayBePut place old.places.items new.places.items
   pub locals : MayHaveLast place old new
   pub highs : new.highs.items ≡ old.highs.items
-  pub paired_highs : new.paired_highs.items ≡ old.paired_highs.items
 
 -- what stands at a place of a row, if it does not end there
 abbrev pub IsAt : {A : Type 0} → List A → (place : ℕ) → Option A → Type 0

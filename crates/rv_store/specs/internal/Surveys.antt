@@ -4,7 +4,7 @@ use Rattle.rv_layout.specs.Places.{AreLimited}
 use Rattle.rv_store.specs.declared.survey.Survey.{Survey}
 use Rattle.rv_store.specs.internal.Ends.{ends_of}
 use Rattle.rv_program.specs.Program.{Program}
-use Rattle.rv_program.specs.internal.Rows.{AreDefinitions, AreConstants, AreEquValues, AreShapes, ArePlaces, AreHighs, ArePairedHighs, AreLocals}
+use Rattle.rv_program.specs.internal.Rows.{AreDefinitions, AreConstants, AreEquValues, AreShapes, ArePlaces, AreHighs, AreLocals}
 
 pub record IsSurvey (base : ℕ) (program : Program) (names : List (List ℕ)) (s : Survey) : Type 0 where
   pub definitions : AreDefinitions program names s.definitions.items
@@ -16,4 +16,3 @@ pub record IsSurvey (base : ℕ) (program : Program) (names : List (List ℕ)) (
   pub locals : AreLocals program (length program) s.locals
   pub equ_values : AreEquValues base program (length program) names s.equ_values.items
   pub highs : AreHighs base program s.highs.items
-  pub paired_highs : ArePairedHighs base program s.paired_highs.items

@@ -40,7 +40,7 @@ impl NamesOnLine<'_> {
         let store = self.store;
         let rows = store.survey.rows(lines, store.base, &store.names);
         let text = &rows.symbols.text;
-        names_at(text, rows.symbols.equ_values, rows.paired_highs, self.line)
+        names_at(text, rows.symbols.equ_values, rows.highs, self.line)
     }
 }
 

@@ -1,28 +1,14 @@
-use Rattle.std.proofs.Common.{◌<◌, length, arith, suc, ◌+◌, ◌≡◌, ap, ◌∙◌}
-use Rattle.std.proofs.lemmas.List.{length-set}
-use Rattle.rv_layout.specs.Rounding.{round_up}
+use Rattle.std.proofs.Common.{slice_index, arith, ◌∙◌}
+use Rattle.rv_layout.specs.Effects.{offset_reached}
+use Rattle.rv_layout.specs.PlaceLaws.{bases_agree, sums_agree}
 use Rattle.rv_layout.specs.Sections.{sections}
-use Rattle.rv_layout.specs.Effects.{base_by_layout, offset_reached}
-use Rattle.rv_layout.specs.BaseLaws.{row-more, base-bound, base_from-fits}
 use Rattle.rv_layout.proofs.places.bases.Goals as goal
 
-pub next_base-next-requires : goal.next_base-next-requires
-next_base-next-requires c =
-    let fits = base_from-fits c.args.base (offset_reached c.args.total.now) c.loop-section.section sections c.loop-section-test.true (omega arith) (base-bound c.args.base c.requires.base) c.requires.ends in
-    omega (arith, fits, c.loop-section.invariant.next, c.offset.ensures)
+pub bases_by_ends-requires-clause-ends : goal.bases_by_ends-requires-clause-ends
+bases_by_ends-requires-clause-ends c =
+    omega (arith, sums_agree (slice_index c.ends_of.result) (offset_reached c.args.total.now) sections sections (omega arith) c.ends_of.ensures, c.requires.ends)
 
-pub loop-section-preserved : goal.loop-section-preserved
-loop-section-preserved c =
-    let t = c.loop-section.section in
-    let base = base_by_layout c.args.base c.args.total.now in
-    let within : t < length c.loop-section.bases = omega (arith, c.loop-section-test.true, c.loop-section.invariant.count) in
-    let more : suc t ≡ t + 1 = omega arith in
-    record {
-      count = length-set c.loop-section.bases t c.loop-section.next ∙ c.loop-section.invariant.count;
-      so_far = row-more c.loop-section.bases base t c.loop-section.next within c.loop-section.invariant.next c.loop-section.invariant.so_far;
-      next =
-          c.next_base-next.ensures
-          ∙ ap (λ n. round_up (n + c.offset.result) 4096) c.loop-section.invariant.next
-          ∙ ap (λ n. round_up (base t + n) 4096) c.offset.ensures
-          ∙ ap base more;
-    }
+pub returns : goal.returns
+returns c t l =
+    c.bases_by_ends.ensures t l
+    ∙ bases_agree c.args.base (slice_index c.ends_of.result) (offset_reached c.args.total.now) t sections (omega (arith, l)) c.ends_of.ensures

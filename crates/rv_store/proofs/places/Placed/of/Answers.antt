@@ -11,18 +11,18 @@ pub stay_sections-requires-clause-ends : goal.stay_sections-requires-clause-ends
 stay_sections-requires-clause-ends c =
     subst (λ e. sum_below (end_in e) sections ≤ 2 ^ 30) (sym c.in_ok-placed.ensures.ends) (ends-together c.args.shapes.now c.requires.limited c.requires.few)
 
-pub bases-requires-2-clause-ends : goal.bases-requires-2-clause-ends
-bases-requires-2-clause-ends c =
+pub bases_by_ends-requires-2-clause-ends : goal.bases_by_ends-requires-2-clause-ends
+bases_by_ends-requires-2-clause-ends c =
     subst (λ e. sum_below (end_in e) sections ≤ 2 ^ 30) (sym c.in_ok-placed.ensures.ends) (ends-together c.args.shapes.now c.requires.limited c.requires.few)
 
 pub returns-then-stay_sections-clause-places : goal.returns-then-stay_sections-clause-places
 returns-then-stay_sections-clause-places c =
     c.in_ok-placed.ensures.places c.args.base c.requires.base
-    (bases-AreBases c.args.base c.args.shapes.now c.in_ok-placed.placed.ends c.bases.result c.in_ok-placed.ensures.ends
-    (λ t within. c.bases.ensures t within ∙ sym (c.stay_sections.ensures c.if-stay_sections.true t within)))
+    (bases-AreBases c.args.base c.args.shapes.now c.in_ok-placed.placed.ends c.bases_by_ends.result c.in_ok-placed.ensures.ends
+    (λ t within. c.bases_by_ends.ensures t within ∙ sym (c.stay_sections.ensures c.if-stay_sections.true t within)))
 
 pub returns-clause-places : goal.returns-clause-places
 returns-clause-places c =
     IfOk-weaker c.places-2.result _ _
-    (λ p is. is c.args.base c.requires.base (bases-AreBases c.args.base c.args.shapes.now c.in_ok-placed.placed.ends c.bases-2.result c.in_ok-placed.ensures.ends c.bases-2.ensures))
+    (λ p is. is c.args.base c.requires.base (bases-AreBases c.args.base c.args.shapes.now c.in_ok-placed.placed.ends c.bases_by_ends-2.result c.in_ok-placed.ensures.ends c.bases_by_ends-2.ensures))
     c.places-2.ensures.places

@@ -15,7 +15,7 @@ use Rattle.rv_store.proofs.Stores.{survey_grown}
 use Rattle.rv_store.proofs.store.Store.assemble.Goals as goal
 
 -- what is so of the rows of a text is so beside other lines
-relined : (base : ℕ) (program : Program) (names : List (List ℕ)) (s : Survey) (lines : Listed) → IsSurvey base program names s → IsSurvey base program names (record { lines = lines; definitions = s.definitions; constants = s.constants; shapes = s.shapes; ends = s.ends; places = s.places; locals = s.locals; equ_values = s.equ_values; highs = s.highs; paired_highs = s.paired_highs })
+relined : (base : ℕ) (program : Program) (names : List (List ℕ)) (s : Survey) (lines : Listed) → IsSurvey base program names s → IsSurvey base program names (record { lines = lines; definitions = s.definitions; constants = s.constants; shapes = s.shapes; ends = s.ends; places = s.places; locals = s.locals; equ_values = s.equ_values; highs = s.highs })
 relined base program names s lines is = record {
   definitions = is.definitions;
   constants = is.constants;
@@ -26,7 +26,6 @@ relined base program names s lines is = record {
   locals = is.locals;
   equ_values = is.equ_values;
   highs = is.highs;
-  paired_highs = is.paired_highs;
 }
 
 pub assembled-made-requires-clause-survey : goal.assembled-made-requires-clause-survey

@@ -26,7 +26,6 @@ invariant_of-self c =
         locals = is.locals;
         equ_values = equ_values-remembered base program (length program) names survey kept c.in-Ok.ensures is.definitions is.equ_values;
         highs = is.highs;
-        paired_highs = is.paired_highs;
       };
       assembled = c.self.invariant.assembled;
     }

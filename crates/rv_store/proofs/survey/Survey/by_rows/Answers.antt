@@ -23,13 +23,6 @@ highs-requires-clause-rows g c = record {
   equ_values = rw c.deref-4.ensures.value c.in_ok-equ_values.ensures.values;
 }
 
-pub paired_highs-requires-clause-rows : goal.paired_highs-requires-clause-rows
-paired_highs-requires-clause-rows g c = record {
-  defined = rw (c.in_column-column.ensures, c.deref.ensures.value) c.requires.definitions;
-  placed = rw (c.in_column-column.ensures, c.deref-2.ensures.value) (placed (base_before c.args.before.now) (program_of c.args.lines.now) c.args.sized.shapes.items _ c.requires.shapes c.requires.places);
-  located = rw (c.in_column-column.ensures, length-program) c.requires.locals;
-}
-
 pub returns-clause-survey : goal.returns-clause-survey
 returns-clause-survey g c = record {
   definitions = c.requires.definitions;
@@ -41,7 +34,6 @@ returns-clause-survey g c = record {
   locals = rw length-program c.requires.locals;
   equ_values = rw length-program (rw c.in_column-column.ensures at c.in_ok-equ_values.ensures.values);
   highs = rw c.in_column-column.ensures at c.in_ok-highs.ensures.highs;
-  paired_highs = rw c.in_column-column.ensures at c.in_ok-paired_highs.ensures;
 }
 
 pub returns-in_err-equ_values-clause-parsed : goal.returns-in_err-equ_values-clause-parsed
@@ -49,9 +41,6 @@ returns-in_err-equ_values-clause-parsed g c = c.equ_values.ensures.parsed
 
 pub returns-in_err-highs-clause-parsed : goal.returns-in_err-highs-clause-parsed
 returns-in_err-highs-clause-parsed g c = c.highs.ensures.parsed ∙ c.equ_values.ensures.parsed
-
-pub returns-in_err-paired_highs-clause-parsed : goal.returns-in_err-paired_highs-clause-parsed
-returns-in_err-paired_highs-clause-parsed g c = c.highs.ensures.parsed ∙ c.equ_values.ensures.parsed
 
 pub returns-clause-parsed : goal.returns-clause-parsed
 returns-clause-parsed g c = c.highs.ensures.parsed ∙ c.equ_values.ensures.parsed
@@ -61,9 +50,6 @@ returns-in_err-equ_values-clause-encoded g c = c.equ_values.ensures.encoded
 
 pub returns-in_err-highs-clause-encoded : goal.returns-in_err-highs-clause-encoded
 returns-in_err-highs-clause-encoded g c = c.highs.ensures.encoded ∙ c.equ_values.ensures.encoded
-
-pub returns-in_err-paired_highs-clause-encoded : goal.returns-in_err-paired_highs-clause-encoded
-returns-in_err-paired_highs-clause-encoded g c = c.highs.ensures.encoded ∙ c.equ_values.ensures.encoded
 
 pub returns-clause-encoded : goal.returns-clause-encoded
 returns-clause-encoded g c = c.highs.ensures.encoded ∙ c.equ_values.ensures.encoded

@@ -20,7 +20,6 @@ returns-clause-survey c base is named are =
     (c.truncate-3.ensures.items ∙ (λ i. take (place i) (c.forget_last.ensures.lines.places i)))
     c.forget_last.ensures.lines.locals is.local
     (c.truncate-4.ensures.items ∙ (λ i. take (place i) (c.forget_last.ensures.lines.highs i)))
-    (c.truncate-5.ensures.items ∙ (λ i. take (place i) (c.forget_last.ensures.lines.paired_highs i)))
   where
     whole : List (List ℕ)
     whole = is.lines ++ is.line ∷ []

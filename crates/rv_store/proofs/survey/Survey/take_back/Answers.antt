@@ -17,7 +17,6 @@ returns-clause-lines c old put former =
       places = c.put_back-3.ensures ∙ ap (λ row. taken_back row place c.args.former.place) stay.places ∙ back old.places.items _ _ _ put.places former.lies;
       locals = at c.args.former.line c.is_none.ensures former.line;
       highs = stay.highs ∙ put.highs;
-      paired_highs = stay.paired_highs ∙ put.paired_highs;
     }
   where
     at : (line : Option (List ℕ)) → is_some line ≡ not c.is_none.result → IsAt old.lines.items c.args.place line → (number : ℕ) → get_or c.take_locals.new.self.locals number [] ≡ get_or old.locals number []
