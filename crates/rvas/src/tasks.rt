@@ -354,9 +354,22 @@ fn write_rows<W: Write>(out: &mut W, bytes: &[u8], base: u32) -> io::Result<()> 
     out.flush()
 }
 
+// Whether bytes are those of an ELF file, by the first four. No instruction begins so.
+fn is_elf(bytes: &[u8]) -> bool {
+    matches!(bytes, [0x7f, b'E', b'L', b'F', ..])
+}
+
 // Writes the rows of a file of raw bytes.
 fn write_bytes(rt: &HostRuntime, file: &str, base: u32) -> Result<(), Failure> {
     let bytes = read(rt, file)?;
+    if is_elf(bytes.as_slice()) {
+        let _ = say_about(
+            rt,
+            shown_file(file),
+            "is an ELF file",
+            "its headers are shown as code, too",
+        );
+    }
     let Ok(mut out) = io::BufWriter::new(rt.alloc(), io::writer(rt)) else {
         return Err(Failure::Memory);
     };
