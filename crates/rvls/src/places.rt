@@ -1,6 +1,6 @@
 //! Places in a text: lines by their numbers, and the places of names.
 
-ghost use Rattle.std.specs.Prelude.{◌≡◌, ◌++◌, ◌≤◌, length, IfSome, OnOk};
+ghost use Rattle.std.specs.Prelude.{◌≡◌, ◌++◌, ◌≤◌, None, length, IfSome, OnOk};
 ghost use Rattle.rvls.specs.Names.{location, name_range};
 
 use rv_diagnostics::{Context, Message, column_at, put_range};
@@ -14,6 +14,7 @@ pub fn lines_to<V: View>(view: &V, number: u32) -> Option<V::Lines>
     ensures text { IfSome result (λ l. V.Lines.shown l ≡ V.shown view.now) }
     ensures passed { IfSome result (λ l. V.Lines.passed l ≡ number) }
     ensures first { IfSome result (λ l. 1 ≤ number) }
+    ensures found { 1 ≤ number → number ≤ (V.shown view.now).count → result ≡ None → ⊥ }
 {
     if number == 0 || number > view.line_count() {
         return None;

@@ -1,6 +1,7 @@
 //! A session over a reader and a writer.
 
-ghost use Rattle.std.specs.Prelude.{◌≡◌, ◌≤◌, ◌<◌, ◌-◌, ◌^◌, length, IfOk, OnOk};
+ghost use Rattle.std.specs.Prelude.{◌≡◌, ◌≤◌, ◌<◌, ◌-◌, ◌^◌, [], length, IfOk, OnOk};
+ghost use Rattle.rv_text.specs.Streams.{Writes};
 ghost use Rattle.rvls.specs.declared.run.RunError.TheVariants.{Memory};
 
 use crate::frame::{Frame, frame_at};
@@ -96,10 +97,12 @@ impl Session {
         answer_frames(&mut self.server, self.pending.as_slice(), &mut self.out)
     }
 
-    // Writes the answers.
+    // Writes the answers, of which none is left then.
     fn write<W: Sink>(&mut self, sink: &mut W) -> Result<(), RunError>
         requires { W.failures sink.old < 2 ^ 64 - 1 }
-        ensures { OnOk result (W.failures sink.new ≡ W.failures sink.old) }
+        ensures written { Writes (W.taken sink.old) self.old.out.items result (W.taken sink.new) }
+        ensures empty { OnOk result (self.new.out.items ≡ []) }
+        ensures count { OnOk result (W.failures sink.new ≡ W.failures sink.old) }
     {
         let Ok(()) = write_all(sink, self.out.as_slice()) else {
             return Err(RunError::Write);
