@@ -1,6 +1,8 @@
 //! What the server does with a message.
 
-ghost use Rattle.std.specs.Prelude.{◌≡◌, ℕ, ◌≤◌, ◌<◌, None, length, get_or, IfSome, vec_len};
+ghost use Rattle.std.specs.Prelude.{◌≡◌, ◌≤◌, ◌<◌, length, IfSome, vec_len};
+ghost use Rattle.std.specs.List.{position};
+ghost use Rattle.std.specs.Str.{bytes_eq};
 ghost use Rattle.std.specs.String.{string_bytes};
 
 use crate::arguments::VERSION;
@@ -278,16 +280,12 @@ impl Server {
 
     // Where a document is among those that are open.
     fn place_of(&self, uri: &str) -> Option<usize>
+        ensures place { result ≡ position (λ o. bytes_eq (string_bytes o.uri) uri.now) self.now.documents.items }
         ensures within { IfSome result (λ at. at < vec_len self.now.documents) }
-        ensures named { (o : Open) → IfSome result (λ at. string_bytes (get_or self.now.documents.items at o).uri ≡ uri.now) }
-        ensures none { result ≡ None → (o : Open) → (k : ℕ) → k < vec_len self.now.documents → string_bytes (get_or self.now.documents.items k o).uri ≡ uri.now → ⊥ }
     {
-        for at in 0..self.documents.len() {
-            if self.documents[at].uri.as_str() == uri {
-                return Some(at);
-            }
-        }
-        None
+        self.documents
+            .iter()
+            .position(|open| open.uri.as_str() == uri)
     }
 
     // Takes a document out of those that are open, if it is one.
