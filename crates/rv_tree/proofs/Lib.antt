@@ -4,3 +4,4 @@ pub mod Fewest
 pub mod LeftOver
 pub mod Prefixes
 pub mod Rows
+pub mod Turns

@@ -1,12 +1,20 @@
 use Rattle.std.proofs.Common.{◌-◌, sym}
-use Rattle.std.proofs.lemmas.List.Edits.{remove-append_right}
-use Rattle.rv_tree.proofs.LeftOver.{items_right, height_left, height_right}
+use Rattle.std.proofs.lemmas.List.Edits.{remove-append_left, remove-append_right}
+use Rattle.rv_tree.proofs.LeftOver.{items_left, items_right, height_left, height_right}
 use Rattle.rv_tree.proofs.node.Subtree.+deleted.Goals as goal
 
 pub returns-then-before-left_len-clause-height : goal.returns-then-before-left_len-clause-height
 returns-then-before-left_len-clause-height g t c =
     let s = c.sides.ensures in
     height_left (λ d. d.value.height) c.in_ok-side.side _ _ _ _ s.height s.balanced s.high.1 (rw c.deref-then-before-left_len.ensures at c.in_ok-side.ensures.height) c.in_ok-left_over.ensures.height
+
+pub returns-then-before-left_len-clause-items : goal.returns-then-before-left_len-clause-items
+returns-then-before-left_len-clause-items g t c =
+    let left = c.sides.result.0.now.value.items in
+    let right = c.sides.result.1.now.value.items in
+    let within = rw (c.len-left_len.ensures, c.deref.ensures) at c.if-before-left_len.true in
+    let edit = remove-append_left left right c.args.before within in
+    rw (← c.sides.ensures.items, edit) (items_left (λ d. d.value.items) c.in_ok-side.side left right _ c.args.before (rw c.deref-then-before-left_len.ensures at c.in_ok-side.ensures.items) c.in_ok-left_over.ensures.items)
 
 pub returns-clause-items : goal.returns-clause-items
 returns-clause-items g t c =

@@ -1,0 +1,33 @@
+use Rattle.std.proofs.Common.{inl, arith, ap, ◌∙◌}
+use Rattle.std.proofs.lemmas.Result.{IfOk-weaker}
+use Rattle.rv_tree.proofs.Turns.{items-before, shared-before, height-turned, height-shared}
+use Rattle.rv_tree.proofs.node.Subtree.rotated_left.Goals as goal
+
+pub returns-then-height : goal.returns-then-height
+returns-then-height g c =
+    let s = c.sides.ensures in
+    let left = c.args.left.value in
+    let right = c.args.right.now in
+    let inner = c.sides.result.0.now.value in
+    let outer = c.sides.result.1.now.value in
+    let low = c.in_ok-low.low.value in
+    let outer_is = c.height.ensures.value ∙ ap (λ x. x.height) c.deref.ensures in
+    let inner_is = c.height-2.ensures.value ∙ ap (λ x. x.height) c.deref-2.ensures in
+    record {
+      items = IfOk-weaker c.joined-then-height.result _ _ (λ t is. items-before left.items inner.items outer.items right.items low.items t.value.items s.items (rw c.in_ok-clone.ensures.cases at c.in_ok-low.ensures.items) is) (rw c.in_ok-clone-2.ensures.cases at c.joined-then-height.ensures.items);
+      height = IfOk-weaker c.joined-then-height.result _ _ (λ t is. height-turned left.height right.height inner.height outer.height low.height t.value.height s.height s.balanced c.requires.higher (omega (arith, outer_is, inner_is, c.if-height.true)) (rw c.in_ok-clone.ensures.cases at c.in_ok-low.ensures.height) is) (rw c.in_ok-clone-2.ensures.cases at c.joined-then-height.ensures.height);
+    }
+
+pub returns : goal.returns
+returns g c =
+    let s = c.sides.ensures in
+    let left = c.args.left.value in
+    let right = c.args.right.now in
+    let inner = c.sides.result.0.now.value in
+    let outer = c.sides.result.1.now.value in
+    let outer_is = c.height.ensures.value ∙ ap (λ x. x.height) c.deref.ensures in
+    let inner_is = c.height-2.ensures.value ∙ ap (λ x. x.height) c.deref-2.ensures in
+    record {
+      items = IfOk-weaker c.shared_out.result _ _ (λ t is. shared-before left.items inner.items outer.items right.items t.value.items s.items is) (rw (c.in_ok-clone-3.ensures.cases, c.deref-3.ensures) at c.shared_out.ensures.items);
+      height = IfOk-weaker c.shared_out.result _ _ (λ t is. height-shared left.height right.height inner.height outer.height t.value.height s.height s.balanced c.requires.higher (omega (arith, outer_is, inner_is, c.if-height.false)) (inl is)) c.shared_out.ensures.height;
+    }
