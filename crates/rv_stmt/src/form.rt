@@ -111,22 +111,29 @@ fn other_form(
     Err(fault)
 }
 
+// The first way of the table that has the mnemonic and takes so many operands; `unknown` where none has the mnemonic.
+#[tactic(auto, unfolding(crate::specs::Forms::other_forms))]
+fn form_in_table(name: &[u8], count: usize, unknown: FaultNumber) -> Reading<Form>
+    ensures { result ≡ first_of_count unknown count (forms_named other_forms name.now) }
+{
+    other_form(&FORMS, name, count, unknown)
+}
+
 /// The way of a mnemonic that takes so many operands.
 ///
 /// # Errors
 ///
 /// `UnknownName` if the mnemonic has no way at all, else `OperandCount`.
-#[tactic(auto, unfolding(crate::specs::Forms::other_forms))]
 pub fn form_of(name: &[u8], count: usize) -> Reading<Form>
     ensures { result ≡ form_of name.now count }
 {
     let Some(op) = op_by_name(name) else {
-        return other_form(&FORMS, name, count, FaultNumber::UnknownName);
+        return form_in_table(name, count, FaultNumber::UnknownName);
     };
     let form = own_form(op);
     if form.operand_count().takes(count) {
         Ok(form)
     } else {
-        other_form(&FORMS, name, count, FaultNumber::OperandCount)
+        form_in_table(name, count, FaultNumber::OperandCount)
     }
 }
