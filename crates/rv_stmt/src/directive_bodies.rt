@@ -1,15 +1,17 @@
 //! Reads the operands of directives.
 
-ghost use Rattle.std.specs.Prelude.{◌≡◌, [], option_and_then, option_map, IfOk};
+ghost use Rattle.std.specs.Prelude.{◌≡◌, [], option_and_then, option_map, Ok, IfOk};
 ghost use Rattle.rv_stmt.specs.declared.directive.DataContent.TheVariants.{Values, Bytes};
-ghost use Rattle.rv_stmt.specs.declared.statement.Body.TheVariants.{Emit};
-ghost use Rattle.rv_stmt.specs.DirectiveBodies.{next_role, operand_in_role, with_operands, first_operand, section_in, symbol_of_text, symbol_in, definition_in, body_of_kind, body_of_form};
+ghost use Rattle.rv_stmt.specs.declared.operand.Role.TheVariants as role;
+ghost use Rattle.rv_stmt.specs.declared.statement.Body.TheVariants.{Emit, Fill, Align, Equ};
+ghost use Rattle.rv_stmt.specs.DirectiveBodies.{next_role, operand_in_role, with_operands, first_operand, section_in, directive, symbol_of_text, symbol_in, definition_in, body_of_kind, body_of_form};
 ghost use Rattle.rv_stmt.specs.Readings.{and_then};
+ghost use Rattle.rv_stmt.specs.Strings.{with_strings};
 ghost use Rattle.rv_stmt.specs.Tokens.{one_identifier};
 
 use crate::directive::{Data, DataContent, Definition, Directive};
 use crate::directives::{DirectiveForm, DirectiveKind};
-use crate::operand::{Operand, Role};
+use crate::operand::{AlignmentUnit, DataWidth, Operand, Role};
 use crate::reading::Outcome;
 use crate::runs::Run;
 use crate::section::{Sect, section_named};
@@ -87,9 +89,9 @@ fn symbol_in(alloc: Global, run: &Run<'_>) -> Outcome<Name>
     }
 }
 
-// A symbol, and the expression that defines it.
-fn definition(alloc: Global, name: Span, runs: &[Run<'_>]) -> Outcome<Definition>
-    ensures { IfOk result (λ r. r ≡ definition_in name runs.now) }
+// The body of a symbol and the expression that defines it.
+fn body_of_definition(alloc: Global, name: Span, runs: &[Run<'_>]) -> Outcome<Body>
+    ensures { IfOk result (λ r. r ≡ and_then (definition_in name runs.now) (λ d. Ok (Equ d))) }
 {
     let [first, rest @ ..] = runs else {
         return Ok(Err(Fault {
@@ -103,33 +105,61 @@ fn definition(alloc: Global, name: Span, runs: &[Run<'_>]) -> Outcome<Definition
     };
     let span = first.span;
     match operands(alloc, Role::Definition, rest)? {
-        Ok(operands) => Ok(Ok(Definition {
+        Ok(operands) => Ok(Ok(Body::Equ(Definition {
             symbol,
             span,
             operands,
-        })),
+        }))),
         Err(fault) => Ok(Err(fault)),
     }
 }
 
-// The body of data that are values.
-fn values(name: Span, operands: Sequence<Operand>) -> Body
-    ensures { result ≡ Emit (record { name = name; content = Values operands }) }
+// The body of data that are values of this width.
+fn data_of_values(alloc: Global, width: DataWidth, name: Span, runs: &[Run<'_>]) -> Outcome<Body>
+    ensures { IfOk result (λ r. r
+        ≡ and_then (with_operands (role.Data width) runs.now []) (λ os. Ok (Emit (record { name = name; content = Values os })))) }
 {
-    Body::Emit(Data {
-        name,
-        content: DataContent::Values(operands),
-    })
+    match operands(alloc, Role::Data(width), runs)? {
+        Ok(operands) => Ok(Ok(Body::Emit(Data {
+            name,
+            content: DataContent::Values(operands),
+        }))),
+        Err(fault) => Ok(Err(fault)),
+    }
 }
 
-// The body of data that are strings.
-fn text(name: Span, bytes: Sequence<u8>) -> Body
-    ensures { result ≡ Emit (record { name = name; content = Bytes bytes }) }
+// The body of data that are strings, with an end after each.
+fn data_of_strings(alloc: Global, end: &[u8], name: Span, runs: &[Run<'_>]) -> Outcome<Body>
+    ensures { IfOk result (λ r. r
+        ≡ and_then (with_strings end.now runs.now []) (λ bs. Ok (Emit (record { name = name; content = Bytes bs })))) }
 {
-    Body::Emit(Data {
-        name,
-        content: DataContent::Bytes(bytes),
-    })
+    match strings(alloc, end, runs)? {
+        Ok(bytes) => Ok(Ok(Body::Emit(Data {
+            name,
+            content: DataContent::Bytes(bytes),
+        }))),
+        Err(fault) => Ok(Err(fault)),
+    }
+}
+
+// The body of equal bytes.
+fn fill(alloc: Global, name: Span, runs: &[Run<'_>]) -> Outcome<Body>
+    ensures { IfOk result (λ r. r ≡ and_then (with_operands role.Size runs.now []) (λ os. Ok (Fill (directive name os)))) }
+{
+    match operands(alloc, Role::Size, runs)? {
+        Ok(operands) => Ok(Ok(Body::Fill(Directive { name, operands }))),
+        Err(fault) => Ok(Err(fault)),
+    }
+}
+
+// The body of an alignment in this unit.
+fn alignment(alloc: Global, unit: AlignmentUnit, name: Span, runs: &[Run<'_>]) -> Outcome<Body>
+    ensures { IfOk result (λ r. r ≡ and_then (with_operands (role.Alignment unit) runs.now []) (λ os. Ok (Align (directive name os)))) }
+{
+    match operands(alloc, Role::Alignment(unit), runs)? {
+        Ok(operands) => Ok(Ok(Body::Align(Directive { name, operands }))),
+        Err(fault) => Ok(Err(fault)),
+    }
 }
 
 // The section whose name the first operand is.
@@ -149,25 +179,17 @@ fn first_section(name: Span, runs: &[Run<'_>]) -> Result<Sect, Fault>
 fn body_of_kind(alloc: Global, kind: DirectiveKind, name: Span, runs: &[Run<'_>]) -> Outcome<Body>
     ensures { IfOk result (λ r. r ≡ body_of_kind kind name runs.now) }
 {
-    Ok(match kind {
-        DirectiveKind::Data(width) => {
-            operands(alloc, Role::Data(width), runs)?.map(|operands| values(name, operands))
-        }
-        DirectiveKind::Strings => strings(alloc, b"", runs)?.map(|bytes| text(name, bytes)),
-        DirectiveKind::TerminatedStrings => {
-            strings(alloc, b"\0", runs)?.map(|bytes| text(name, bytes))
-        }
-        DirectiveKind::Fill => operands(alloc, Role::Size, runs)?.map(|operands| Body::Fill(
-            Directive { name, operands },
-        )),
-        DirectiveKind::Alignment(unit) => operands(alloc, Role::Alignment(unit), runs)?.map(
-            |operands| Body::Align(Directive { name, operands }),
-        ),
-        DirectiveKind::Switch(section) => Ok(Body::Switch(section)),
-        DirectiveKind::Section => first_section(name, runs).map(Body::Switch),
-        DirectiveKind::Definition => definition(alloc, name, runs)?.map(Body::Equ),
-        DirectiveKind::Ignored => Ok(Body::Ignored),
-    })
+    match kind {
+        DirectiveKind::Data(width) => data_of_values(alloc, width, name, runs),
+        DirectiveKind::Strings => data_of_strings(alloc, b"", name, runs),
+        DirectiveKind::TerminatedStrings => data_of_strings(alloc, b"\0", name, runs),
+        DirectiveKind::Fill => fill(alloc, name, runs),
+        DirectiveKind::Alignment(unit) => alignment(alloc, unit, name, runs),
+        DirectiveKind::Switch(section) => Ok(Ok(Body::Switch(section))),
+        DirectiveKind::Section => Ok(first_section(name, runs).map(Body::Switch)),
+        DirectiveKind::Definition => body_of_definition(alloc, name, runs),
+        DirectiveKind::Ignored => Ok(Ok(Body::Ignored)),
+    }
 }
 
 /// The body of a directive and its operands.
