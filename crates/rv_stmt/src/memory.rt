@@ -1,7 +1,8 @@
 //! Operands in memory: `offset(register)`.
 
-ghost use Rattle.std.specs.Prelude.{◌≡◌, ◌+◌, ◌<◌, ◌≤◌, ◌^◌, IfOk, IfSome, option_map, length, take, drop};
+ghost use Rattle.std.specs.Prelude.{◌≡◌, ◌+◌, ◌-◌, ◌<◌, ◌≤◌, ◌^◌, IfOk, IfSome, option_map, length, take, drop};
 ghost use Rattle.rv_text.specs.Numbers.{number_of};
+ghost use Rattle.rv_stmt.specs.Values.{modified_value};
 ghost use Rattle.rv_stmt.specs.Memory.{base_at, base_of, offset, closed_within, group_from, group_of, base_after, modified_memory, plain_memory, memory, is_zero_value, is_zero_of_kind, is_no_offset, base_behind, bare_base};
 
 use crate::operand::OperandValue;
@@ -63,18 +64,30 @@ fn closed_within(run: &TokenRange<'_>) -> Option<usize>
     None
 }
 
+// How many tokens there are up to the parenthesis that closes the one at a place.
+#[tactic(auto, using(crate::proofs::Ranges::length_after))]
+fn group_from(run: &TokenRange<'_>, place: usize) -> Option<usize>
+    requires { place ≤ 2 }
+    ensures value { result ≡ group_from run.now place }
+    ensures within { IfSome result (λ n. n ≤ length run.now) }
+{
+    if !run.punctuation_at(b"(", place) {
+        return None;
+    }
+    Some(place + closed_within(&run.skip(place))?)
+}
+
 // How many tokens a modifier has with its parentheses: `%`, a name if there is one, and up to the parenthesis that
 // closes the first.
-#[tactic(auto, using(crate::proofs::Ranges::length_after))]
 fn group_of(run: &TokenRange<'_>) -> Option<usize>
     ensures value { result ≡ group_of run.now }
     ensures within { IfSome result (λ n. n ≤ length run.now) }
 {
-    let open = if run.identifier_at(1).is_some() { 2 } else { 1 };
-    if !run.punctuation_at(b"(", open) {
-        return None;
+    if run.identifier_at(1).is_some() {
+        group_from(run, 2)
+    } else {
+        group_from(run, 1)
     }
-    Some(open + closed_within(&run.skip(open))?)
 }
 
 // The register in parentheses after a modifier, if nothing else follows.
@@ -98,6 +111,19 @@ fn offset(alloc: Global, run: &TokenRange<'_>) -> Attempt<Option<OperandValue>>
     Ok(plain(alloc, run)?.map(Some))
 }
 
+// The value with a modifier that the first tokens are.
+fn first_value(
+    alloc: Global,
+    shape: Shape,
+    run: &TokenRange<'_>,
+    count: usize,
+) -> Attempt<OperandValue>
+    requires { count ≤ length run.now }
+    ensures { IfOk result (λ r. r ≡ modified_value shape (take count run.now)) }
+{
+    modified_value(alloc, shape, &run.part(0, count))
+}
+
 // A place in memory whose offset has a modifier.
 fn modified_memory(
     alloc: Global,
@@ -114,11 +140,13 @@ fn modified_memory(
         Ok(base) => base,
         Err(fault) => return Ok(Err(fault)),
     };
-    let value = modified_value(alloc, shape, &run.part(0, length))?;
-    Ok(value.map(|value| Located {
-        base,
-        offset: Some(value),
-    }))
+    match first_value(alloc, shape, run, length)? {
+        Ok(value) => Ok(Ok(Located {
+            base,
+            offset: Some(value),
+        })),
+        Err(fault) => Ok(Err(fault)),
+    }
 }
 
 // A place in memory whose offset has no modifier.
@@ -129,8 +157,10 @@ fn plain_memory(alloc: Global, accepted: Accepted, run: &TokenRange<'_>) -> Atte
         Ok(base) => base,
         Err(fault) => return Ok(Err(fault)),
     };
-    let offset = offset(alloc, &run.part(0, run.len().saturating_sub(3)))?;
-    Ok(offset.map(|offset| Located { base, offset }))
+    match offset(alloc, &run.part(0, run.len().saturating_sub(3)))? {
+        Ok(offset) => Ok(Ok(Located { base, offset })),
+        Err(fault) => Ok(Err(fault)),
+    }
 }
 
 /// The place in memory that some tokens are: `offset(register)`, where the register is one of those accepted and the
@@ -180,6 +210,13 @@ fn is_no_offset(run: &TokenRange<'_>) -> bool
     }
 }
 
+// Whether nothing stands before the base at the end, or a number alone whose value is 0.
+fn has_no_offset(run: &TokenRange<'_>) -> bool
+    ensures { result ≡ is_no_offset (take (length run.now - 3) run.now) }
+{
+    is_no_offset(&run.part(0, run.len().saturating_sub(3)))
+}
+
 // The base after an offset with a modifier, or a plain one.
 fn base_behind(run: &TokenRange<'_>) -> Option<Reg>
     ensures { result ≡ base_behind run.now }
@@ -196,7 +233,7 @@ pub fn bare_base(accepted: Accepted, run: &TokenRange<'_>) -> Reading<Reg>
     ensures { result ≡ bare_base accepted run.now }
 {
     let base = accepted.check(base_behind(run))?;
-    if is_no_offset(&run.part(0, run.len().saturating_sub(3))) {
+    if has_no_offset(run) {
         Ok(base)
     } else {
         Err(FaultNumber::BadOperand)
