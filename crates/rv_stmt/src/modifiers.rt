@@ -6,7 +6,7 @@ ghost use Rattle.rv_stmt.specs.Values.{modifier_named, takes_modifier};
 use rv_ops::{Shape, first_named};
 
 /// A modifier of an expression, written `%name(expression)`.
-#[derive(Clone, Copy, Debug, PartialEq, Eq)]
+#[derive(Clone, Copy)]
 pub enum Modifier {
     /// `%hi`
     High,

@@ -12,7 +12,7 @@ use rv_ops::{Csr, Reg, RegisterClass, csr_by_name, reg_by_name};
 use rv_text::FaultNumber;
 
 /// The registers that an operand accepts.
-#[derive(Clone, Copy, Debug, PartialEq, Eq)]
+#[derive(Clone, Copy)]
 pub enum Accepted {
     /// Those of a class.
     Class(RegisterClass),
