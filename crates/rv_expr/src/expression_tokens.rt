@@ -58,7 +58,9 @@ pub fn label_number(text: &[u8]) -> Option<u16>
 fn local<'a>(text: &[u8]) -> Option<Primary<'a>>
     ensures { local_operand text.now ≡ option_map primary_tree result }
 {
-    let (letter, number) = text.split_last()?;
+    let [number @ .., letter] = text else {
+        return None;
+    };
     let direction = direction(*letter)?;
     Some(Primary::Local(label_number(number)?, direction))
 }
