@@ -69,10 +69,11 @@ impl Draft {
             let [run, more_runs @ ..] = runs else {
                 return Ok(Ok(draft));
             };
-            match draft.read_operand(alloc, op, *slot, run)? {
-                Ok(next) => draft = next,
-                Err(fault) => return Ok(Err(fault)),
-            }
+            let reading = draft.read_operand(alloc, op, *slot, run);
+            let Ok(Ok(next)) = reading else {
+                return reading;
+            };
+            draft = next;
             slots = more_slots;
             runs = more_runs;
         }
