@@ -157,7 +157,8 @@ fn plain_memory(alloc: Global, accepted: Accepted, run: &TokenRange<'_>) -> Atte
         Ok(base) => base,
         Err(fault) => return Ok(Err(fault)),
     };
-    match offset(alloc, &run.part(0, run.len().saturating_sub(3)))? {
+    let before = run.part(0, run.len().saturating_sub(3));
+    match offset(alloc, &before)? {
         Ok(offset) => Ok(Ok(Located { base, offset })),
         Err(fault) => Ok(Err(fault)),
     }

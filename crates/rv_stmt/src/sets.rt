@@ -3,7 +3,7 @@
 ghost use Rattle.std.specs.Prelude.{◌≡◌, map};
 ghost use Rattle.std.specs.Option.{option_map};
 ghost use Rattle.rv_ops.specs.Names.{first_name};
-ghost use Rattle.rv_stmt.specs.Registers.{set, set_name};
+ghost use Rattle.rv_stmt.specs.Registers.{set, set_name, set_named};
 
 use crate::reading::Reading;
 use crate::token_range::TokenRange;
@@ -29,14 +29,20 @@ pub const SETS: [(u8, &str); 15] = [
     (15, "iorw"),
 ];
 
-/// The set that some tokens spell, as the number of a register, in whose field a fence keeps it.
+// The set of a name, as the number of a register.
 #[tactic(auto, unfolding(crate::specs::Registers::set_names, crate::specs::Registers::set_named))]
+fn set_named(name: &[u8]) -> Option<Reg>
+    ensures { result ≡ set_named name.now }
+{
+    first_named(&SETS, name).and_then(Reg::new)
+}
+
+/// The set that some tokens spell, as the number of a register, in whose field a fence keeps it.
 pub fn set(run: &TokenRange<'_>) -> Reading<Reg>
     ensures { result ≡ set run.now }
 {
-    let name = run.one_identifier().ok_or(FaultNumber::BadOperand)?;
-    let bits = first_named(&SETS, name).and_then(Reg::new);
-    bits.ok_or(FaultNumber::BadOperand)
+    let set = run.one_identifier().and_then(set_named);
+    set.ok_or(FaultNumber::BadOperand)
 }
 
 // The name in the first row that has the number.
