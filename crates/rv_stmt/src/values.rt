@@ -52,8 +52,10 @@ fn label_reference(alloc: Global, run: &TokenRange<'_>) -> Attempt<LabelReferenc
     if run.len() != 1 {
         return Ok(Err(FaultNumber::BadOperand));
     }
-    let expr = expression(alloc, run)?;
-    Ok(expr.and_then(|expr| expr.into_label().ok_or(FaultNumber::BadOperand)))
+    match expression(alloc, run)? {
+        Ok(expr) => Ok(expr.into_label().ok_or(FaultNumber::BadOperand)),
+        Err(fault) => Ok(Err(fault)),
+    }
 }
 
 // What a modifier makes of an expression or a label.
