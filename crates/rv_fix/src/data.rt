@@ -1,7 +1,8 @@
 //! The bytes of data.
 
-ghost use Rattle.std.specs.Prelude.{◌≡◌, ◌++◌, [], replicate, IfOk, OnOk};
+ghost use Rattle.std.specs.Prelude.{◌≡◌, ◌++◌, [], replicate, Ok, IfOk, OnOk};
 ghost use Rattle.rv_stmt.specs.Data.{data_width, values_size};
+ghost use Rattle.rv_stmt.specs.Readings.{and_then};
 ghost use Rattle.rv_fix.specs.Data.{in_width, low_bytes, with_values};
 ghost use Rattle.rv_fix.specs.Reports.{made_of};
 
@@ -43,27 +44,41 @@ fn append_value(bytes: &mut LineBytes, role: Role, value: i64) -> Result<(), All
     }
 }
 
-/// The bytes of values from left to right, or the first fault.
-pub fn bytes_of_values(
-    alloc: Global,
+// Appends the bytes of values from left to right, up to the first fault.
+fn append_values(
+    bytes: &mut LineBytes,
     mut operands: &[Operand],
     mut entries: &[Entry],
-) -> Result<Result<LineBytes, Fault>, AllocError>
-    ensures { IfOk result (λ r. r ≡ with_values operands.entry.now entries.entry.now []) }
+) -> Result<Result<(), Fault>, AllocError>
+    ensures { IfOk result (λ r. with_values operands.entry.now entries.entry.now bytes.old ≡ and_then r (λ _. Ok bytes.new)) }
 {
-    let mut bytes = LineBytes::new(alloc);
     while let [operand, more_operands @ ..] = operands {
         let [entry, more_entries @ ..] = entries else {
-            return Ok(Ok(bytes));
+            return Ok(Ok(()));
         };
         match checked(operand, *entry) {
-            Ok(value) => append_value(&mut bytes, operand.role, value)?,
+            Ok(value) => append_value(bytes, operand.role, value)?,
             Err(fault) => return Ok(Err(fault)),
         }
         operands = more_operands;
         entries = more_entries;
     }
-    Ok(Ok(bytes))
+    Ok(Ok(()))
+}
+
+/// The bytes of values from left to right, or the first fault.
+pub fn bytes_of_values(
+    alloc: Global,
+    operands: &[Operand],
+    entries: &[Entry],
+) -> Result<Result<LineBytes, Fault>, AllocError>
+    ensures { IfOk result (λ r. r ≡ with_values operands.entry.now entries.entry.now []) }
+{
+    let mut bytes = LineBytes::new(alloc);
+    match append_values(&mut bytes, operands, entries)? {
+        Ok(()) => Ok(Ok(bytes)),
+        Err(fault) => Ok(Err(fault)),
+    }
 }
 
 // Appends as many zeros as a value has bytes in its role.

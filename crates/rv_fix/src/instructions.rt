@@ -18,6 +18,19 @@ fn append(bytes: &mut LineBytes, instruction: &MachineInstruction) -> Result<(),
     bytes.append(word.bytes().as_slice())
 }
 
+// Appends the bytes of one instruction or two, as they stand in memory.
+fn append_all(bytes: &mut LineBytes, instructions: &Instructions) -> Result<(), AllocError>
+    ensures { OnOk result (bytes.new ≡ bytes.old ++ bytes_of_instructions instructions.now) }
+{
+    match instructions {
+        Instructions::One(only) => append(bytes, only),
+        Instructions::Two(first, second) => {
+            append(bytes, first)?;
+            append(bytes, second)
+        }
+    }
+}
+
 /// The bytes of one instruction or two, as they stand in memory.
 pub fn bytes_of_instructions(
     alloc: Global,
@@ -26,13 +39,7 @@ pub fn bytes_of_instructions(
     ensures { IfOk result (λ b. b ≡ bytes_of_instructions instructions.now) }
 {
     let mut bytes = LineBytes::new(alloc);
-    match instructions {
-        Instructions::One(only) => append(&mut bytes, only)?,
-        Instructions::Two(first, second) => {
-            append(&mut bytes, first)?;
-            append(&mut bytes, second)?;
-        }
-    }
+    append_all(&mut bytes, instructions)?;
     Ok(bytes)
 }
 

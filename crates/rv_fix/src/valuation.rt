@@ -1,8 +1,11 @@
 //! Computes the values of a line's operands.
 
-ghost use Rattle.std.specs.Prelude.{◌≡◌, ◌+◌, ◌-◌, ◌<◌, ◌≤◌, ◌^◌, min, pos, length, map, IfOk};
+ghost use Rattle.std.specs.Prelude.{◌≡◌, ◌+◌, ◌-◌, ◌<◌, ◌≤◌, ◌^◌, min, pos, length, map, Ok, IfOk};
+ghost use Rattle.rv_stmt.specs.Readings.{and_then};
 ghost use Rattle.rv_stmt.specs.Statement.{operands_of};
+ghost use Rattle.rv_stmt.specs.ValueParts.{high_part, low_part};
 ghost use Rattle.rv_layout.specs.Shapes.{exponent_by_role};
+ghost use Rattle.rv_fix.specs.Displacements.{displacement};
 ghost use Rattle.rv_fix.specs.Values.{given_to, operand_value, bytes_to_alignment, counted_from, entry_of, operand_values_of};
 
 use crate::constants::ForConstants;
@@ -14,6 +17,30 @@ use rv_layout::alignment_by_role;
 use rv_stmt::{Operand, OperandValue, Role, Stmt, high_part, low_part};
 use rv_text::{Count, Sequence};
 use std::alloc::{AllocError, Global};
+
+// The upper part of a value, if there is one.
+fn high_of(given: Entry) -> Entry
+    ensures { result ≡ and_then given (λ v. Ok (high_part v)) }
+{
+    let given = given?;
+    Ok(i64::from(high_part(given)))
+}
+
+// The lower part of a value, if there is one.
+fn low_of(given: Entry) -> Entry
+    ensures { result ≡ and_then given (λ v. Ok (low_part v)) }
+{
+    let given = given?;
+    Ok(i64::from(low_part(given)))
+}
+
+// The upper part of how far an address is from that of the line, if there is one.
+fn high_of_displacement(here: u32, address: Entry) -> Entry
+    ensures { result ≡ and_then address (λ v. Ok (high_part (displacement here v))) }
+{
+    let address = address?;
+    Ok(i64::from(high_part(i64::from(displacement(here, address)))))
+}
 
 // The value of an expression, or the part of it that a modifier takes.
 fn operand_value<N: Names, C: Count>(
@@ -31,22 +58,12 @@ fn operand_value<N: Names, C: Count>(
 {
     match operand {
         OperandValue::Plain(expression) => value(expression, names, here, counter),
-        OperandValue::High(expression) => {
-            let given = value(expression, names, here, counter)?;
-            Ok(i64::from(high_part(given)))
-        }
-        OperandValue::Low(expression) => {
-            let given = value(expression, names, here, counter)?;
-            Ok(i64::from(low_part(given)))
-        }
+        OperandValue::High(expression) => high_of(value(expression, names, here, counter)),
+        OperandValue::Low(expression) => low_of(value(expression, names, here, counter)),
         OperandValue::PcrelHigh(expression) => {
-            let address = value(expression, names, here, counter)?;
-            Ok(i64::from(high_part(i64::from(displacement(here, address)))))
+            high_of_displacement(here, value(expression, names, here, counter))
         }
-        OperandValue::PcrelLow(label) => {
-            let given = names.paired_high(here, label)?;
-            Ok(i64::from(low_part(given)))
-        }
+        OperandValue::PcrelLow(label) => low_of(names.paired_high(here, label)),
     }
 }
 

@@ -1,9 +1,0 @@
-use Rattle.std.proofs.Common.{◌≡◌, [], length}
-use Rattle.rv_fix.specs.Data.{with_values}
-use Rattle.rv_fix.proofs.data.bytes_of_values.Given as goal
-
-abbrev pub invariant-loop-operands : goal.invariant-loop-operands
-invariant-loop-operands l = with_values l.operands l.entries l.bytes ≡ with_values l.initial.operands l.initial.entries []
-
-abbrev pub decreases-loop-operands : goal.decreases-loop-operands
-decreases-loop-operands l = length l.operands
