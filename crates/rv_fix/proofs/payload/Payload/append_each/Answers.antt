@@ -1,5 +1,6 @@
-use Rattle.std.proofs.Common.{◌≡◌, ◌+◌, ◌++◌, [], ◌∷◌, Some, take, slice_get, ap, sym, ◌∙◌, add-one, append_assoc}
+use Rattle.std.proofs.Common.{◌≡◌, ◌+◌, ◌++◌, [], ◌∷◌, Some, take, slice_get, arith, ap, sym, ◌∙◌, add-one, append_assoc}
 use Rattle.std.proofs.lemmas.Option.{get_or_from_slice_get, slice_get_within}
+use Rattle.std.proofs.lemmas.List.{take_all}
 use Rattle.std.proofs.Math.Seq.{take-suc}
 use Rattle.rv_fix.proofs.payload.Payload.append_each.Goals as goal
 
@@ -13,3 +14,9 @@ loop-place-preserved c =
     let more : take (k + 1) bytes ≡ take k bytes ++ byte ∷ [] =
     rw add-one (take-suc bytes k byte (slice_get_within bytes k byte found) ∙ ap (λ x. take k bytes ++ x ∷ []) (get_or_from_slice_get bytes k byte byte found)) in
     c.in_ok-push.ensures.items ∙ ap (λ xs. xs ++ byte ∷ []) c.loop-place.invariant ∙ append_assoc before (take k bytes) (byte ∷ []) ∙ ap (λ xs. before ++ xs) (sym more)
+
+pub returns : goal.returns
+returns c = record {
+  appended = c.loop-place.invariant ∙ ap (λ xs. c.args.list.now.items ++ xs) (take_all c.loop-place.place c.args.self.now (omega arith));
+  begins = tt;
+}
