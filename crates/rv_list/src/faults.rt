@@ -9,7 +9,7 @@ ghost use Rattle.rv_list.specs.Faults.{fault_if, fault_at_name, is_later_label, 
 ghost use Rattle.rv_list.specs.Shown.{shown_line};
 
 use crate::error::ListError;
-use crate::rows::{push_count, push_field};
+use crate::rows::{end_text, push_count, push_field};
 use crate::untested::Untested;
 use crate::view::{LinePlace, LineView, TestedLines, View, shows_bytes};
 use arrayvec::ArrayVec;
@@ -358,9 +358,8 @@ pub fn write_faults<V: View, W: Sink>(view: &V, sink: &mut W) -> Result<(), List
     let mut block = OutputBlock::new();
     let lines = Untested::new(view.lines());
     let again = Untested::new(view.lines());
-    push_faults(&mut block, sink, view, lines, again)?;
-    block.flush(sink)?;
-    Ok(())
+    let pushed = push_faults(&mut block, sink, view, lines, again);
+    end_text(&mut block, sink, pushed)
 }
 
 /// It is as for `write_faults`, but only the lines that may have faults are looked at.
@@ -376,7 +375,6 @@ where
     ensures count { W.failures sink.new ≡ failures_after (W.failures sink.old) result }
 {
     let mut block = OutputBlock::new();
-    push_faults(&mut block, sink, view, view.lines(), view.lines())?;
-    block.flush(sink)?;
-    Ok(())
+    let pushed = push_faults(&mut block, sink, view, view.lines(), view.lines());
+    end_text(&mut block, sink, pushed)
 }

@@ -8,7 +8,7 @@ ghost use Rattle.rv_list.specs.Image.{byte_row, byte_rows, section_row, section_
 
 use crate::bytes_left::SectionBytes;
 use crate::error::ListError;
-use crate::rows::push_number;
+use crate::rows::{end_text, push_number};
 use crate::view::{SectionPlace, View, shows_bytes};
 use rv_layout::SECTIONS;
 use rv_text::{Failed, OutputBlock, OutputRow, Sink};
@@ -151,7 +151,6 @@ pub fn write_image<V: View, W: Sink>(view: &V, sink: &mut W) -> Result<(), ListE
     ensures count { W.failures sink.new ≡ failures_after (W.failures sink.old) result }
 {
     let mut block = OutputBlock::new();
-    push_image(&mut block, sink, view)?;
-    block.flush(sink)?;
-    Ok(())
+    let pushed = push_image(&mut block, sink, view);
+    end_text(&mut block, sink, pushed)
 }

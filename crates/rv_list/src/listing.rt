@@ -9,7 +9,7 @@ ghost use Rattle.rv_list.specs.Listing.{listed_bytes, first_bytes, listing_colum
 ghost use Rattle.rv_list.specs.Shown.{shown_line};
 
 use crate::error::ListError;
-use crate::rows::{push_count, push_right, push_row, push_spaces};
+use crate::rows::{end_text, push_count, push_right, push_row, push_spaces};
 use crate::view::{LineSource, LineView, View, shows_bytes};
 use arrayvec::ArrayVec;
 use rv_fix::Payload;
@@ -154,7 +154,6 @@ pub fn write_listing<V: View, W: Sink>(view: &V, sink: &mut W) -> Result<(), Lis
     ensures count { W.failures sink.new ≡ failures_after (W.failures sink.old) result }
 {
     let mut block = OutputBlock::new();
-    push_listing(&mut block, sink, view)?;
-    block.flush(sink)?;
-    Ok(())
+    let pushed = push_listing(&mut block, sink, view);
+    end_text(&mut block, sink, pushed)
 }

@@ -1,10 +1,11 @@
 //! Rows of output text and their parts.
 
-ghost use Rattle.std.specs.Prelude.{◌≡◌, ◌-◌, ◌^◌, ◌+◌, ◌<◌, ◌≤◌, ◌++◌, length, codes, decimal};
+ghost use Rattle.std.specs.Prelude.{◌≡◌, ℕ, ◌-◌, ◌^◌, ◌+◌, ◌<◌, ◌≤◌, List, [], ◌++◌, length, codes, decimal, Option, IfOk};
 ghost use Rattle.rv_text.specs.Blocks.{Gathers};
-ghost use Rattle.rv_text.specs.Streams.{failures_after};
+ghost use Rattle.rv_text.specs.Streams.{failures_after, Writes};
 ghost use Rattle.rv_list.specs.Rows.{spaces, right, count_row};
 
+use crate::error::ListError;
 use itoa::{Buffer, Integer};
 use rv_text::{BLOCK_SIZE, Failed, OutputBlock, OutputRow, Sink, write_all};
 
@@ -86,6 +87,25 @@ pub fn push_text<W: Sink>(block: &mut OutputBlock, sink: &mut W, text: &[u8]) ->
     }
     block.flush(sink)?;
     write_all(sink, text)
+}
+
+/// Ends a text that was gathered in an empty block: writes what waits there, unless a call of the writer failed before.
+///
+/// # Errors
+///
+/// `Write` if a call of the writer failed.
+pub fn end_text<W: Sink>(
+    block: &mut OutputBlock,
+    sink: &mut W,
+    pushed: Result<(), Failed>,
+) -> Result<(), ListError>
+    requires { IfOk pushed (λ _. W.failures sink.old < 2 ^ 64 - 1) }
+    ensures text { (taken : Option (List ℕ)) (text : List ℕ) → Gathers taken [] text pushed (W.taken sink.old) block.old → Writes taken text result (W.taken sink.new) }
+    ensures count { (failures : ℕ) → W.failures sink.old ≡ failures_after failures pushed → W.failures sink.new ≡ failures_after failures result }
+{
+    pushed?;
+    block.flush(sink)?;
+    Ok(())
 }
 
 /// Adds a row that begins with columns, at most 64 bytes, and ends with a text of any length and a line break.

@@ -9,7 +9,7 @@ ghost use Rattle.rv_stmt.specs.LentLabels.{name_lent};
 ghost use Rattle.rv_list.specs.Symbols.{label_columns, label_row, value_text, equ_columns, equ_row, label_symbols, labels_symbols, body_symbols, line_symbols, symbol_rows, symbol_text};
 
 use crate::error::ListError;
-use crate::rows::{push_count, push_field, push_number, push_row};
+use crate::rows::{end_text, push_count, push_field, push_number, push_row};
 use crate::view::{LineSource, LineView, View};
 use rv_stmt::{Body, LabelName, LabelSlice};
 use rv_text::{Failed, OutputBlock, OutputRow, Sink};
@@ -284,7 +284,6 @@ pub fn write_symbols<V: View, W: Sink>(view: &V, sink: &mut W) -> Result<(), Lis
     ensures count { W.failures sink.new ≡ failures_after (W.failures sink.old) result }
 {
     let mut block = OutputBlock::new();
-    push_symbols(&mut block, sink, view)?;
-    block.flush(sink)?;
-    Ok(())
+    let pushed = push_symbols(&mut block, sink, view);
+    end_text(&mut block, sink, pushed)
 }
