@@ -1,6 +1,0 @@
-use Rattle.std.proofs.Common.{arith}
-use Rattle.std.proofs.lemmas.Grind.{common_steps}
-use Rattle.rv_fix.proofs.valuation.entries.Goals as goal
-
-pub loop-operands-preserved : goal.loop-operands-preserved
-loop-operands-preserved g c = grind (arith, common_steps)
