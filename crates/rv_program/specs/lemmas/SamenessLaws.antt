@@ -1,5 +1,5 @@
 -- The tests for sameness answer whether two things are equal.
-use Rattle.std.proofs.Common.{◌≡◌, ℤ, refl, ap, sym, ◌∙◌, Bool, true, Option, rules}
+use Rattle.std.proofs.Common.{◌≡◌, ℤ, refl, ap, sym, ◌∙◌, Bool, true, Option, None, Some, rules}
 use Rattle.std.proofs.lemmas.Bool.{and_parts, false≢true}
 use Rattle.std.proofs.lemmas.Bool.Decides.{Decides-and, Decides-like}
 use Rattle.std.proofs.lemmas.Slice.Eq.{bytes_eq-Decides, slice_eq-Decides}
@@ -10,6 +10,7 @@ use Rattle.rv_text.specs.declared.faults.Fault.{Fault}
 use Rattle.rv_text.specs.contracts.faults.FaultPartialEq.TheImpl.{ghosts as faults}
 use Rattle.rv_stmt.specs.declared.section.Sect.{Sect}
 use Rattle.rv_layout.specs.declared.measured.Measured.{Measured}
+use Rattle.rv_layout.specs.declared.measured.Measured.TheVariants.{Bytes, Align, Switch, Faulty}
 use Rattle.rv_fix.specs.declared.coded.Coded.{Coded}
 use Rattle.rv_fix.specs.Values.{Entry}
 use Rattle.rv_program.specs.declared.line_values.LineValues.{LineValues}
@@ -23,8 +24,19 @@ decides test equal same x y = (equal x y, λ e. ap (test x) (sym e) ∙ same x)
 pub same_section-Decides : (s t : Sect) → Decides (same_section s t) (s ≡ t)
 same_section-Decides = decides same_section (λ s t e. search (rules, e)) (λ s. search rules)
 
+fault-equal : (f g : Fault) → faults.eq f g ≡ true → f ≡ g
+fault-equal f g e = search (rules, e)
+
+same_shape-equal : (x y : Measured) → same_shape x y ≡ true → x ≡ y
+same_shape-equal (Bytes m) (Bytes n) e = search (rules, e)
+same_shape-equal (Align a) (Align b) e = search (rules, e)
+same_shape-equal (Switch s) (Switch t) e = search (rules, e)
+same_shape-equal Measured.Nothing Measured.Nothing e = refl
+same_shape-equal (Faulty f) (Faulty g) e = ap Faulty (fault-equal f g e)
+same_shape-equal _ _ e = absurd (false≢true e)
+
 pub same_shape-Decides : (x y : Measured) → Decides (same_shape x y) (x ≡ y)
-same_shape-Decides = decides same_shape (λ x y e. search (rules, e)) (λ x. search rules)
+same_shape-Decides = decides same_shape same_shape-equal (λ x. search rules)
 
 pub same_constant-Decides : (x y : Option ℤ) → Decides (same_constant x y) (x ≡ y)
 same_constant-Decides = decides same_constant (λ x y e. search (rules, e)) (λ x. search rules)
@@ -32,8 +44,13 @@ same_constant-Decides = decides same_constant (λ x y e. search (rules, e)) (λ 
 pub same_entry-Decides : (x y : Entry) → Decides (same_entry x y) (x ≡ y)
 same_entry-Decides = decides same_entry (λ x y e. search (rules, e)) (λ x. search rules)
 
+same_fault-equal : (x y : Option Fault) → option_eq faults.eq x y ≡ true → x ≡ y
+same_fault-equal None None e = refl
+same_fault-equal (Some f) (Some g) e = ap Some (fault-equal f g e)
+same_fault-equal _ _ e = absurd (false≢true e)
+
 same_fault-Decides : (x y : Option Fault) → Decides (option_eq faults.eq x y) (x ≡ y)
-same_fault-Decides = decides (option_eq faults.eq) (λ x y e. search (rules, e)) (λ x. search rules)
+same_fault-Decides = decides (option_eq faults.eq) same_fault-equal (λ x. search rules)
 
 same_values-equal : (x y : LineValues) → same_values x y ≡ true → x ≡ y
 same_values-equal Nothing Nothing e = refl
