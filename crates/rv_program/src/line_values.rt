@@ -27,7 +27,6 @@ use rv_text::Count;
 use std::alloc::Global;
 
 /// The values from which, with its statement and its shape, the code of a line is made.
-#[derive(Drop)]
 pub enum LineValues {
     /// There are none: the shape of the line is a fault, or it is an `.equ` that is not the definition of its symbol.
     Nothing,
@@ -37,6 +36,16 @@ pub enum LineValues {
     Symbol(Entry),
     /// The padding of an alignment: whether it is in a section of code, and how many bytes it has.
     Padding(bool, u32),
+}
+
+// What a derive would do, but proved once, and not at each way out of a function that has values.
+impl Drop for LineValues {
+    fn drop(self) {
+        match self {
+            LineValues::Nothing | LineValues::Symbol(_) | LineValues::Padding(_, _) => {}
+            LineValues::Operands(_) => {}
+        }
+    }
 }
 
 impl LineValues {

@@ -83,13 +83,23 @@ impl Mark {
 
 /// What an edit did to the symbols, by the buckets of their names: the set has all names of a bucket of which one may differ. Contracts
 /// see a mark for each bucket, or none where the set has every name, and how far the lines behind the edit moved.
-#[derive(Drop)]
 pub struct NameSet {
     // How far the lines behind the edit moved.
     shift: i64,
     // The groups of the buckets of which a name may differ, and maybe others.
     groups: Groups,
     marks: Option<Vec<Mark>>,
+}
+
+// What a derive would do, but proved once, and not at each way out of a function that has a set.
+impl Drop for NameSet {
+    fn drop(self) {
+        let NameSet {
+            shift: _,
+            groups: _,
+            marks: _,
+        } = self;
+    }
 }
 
 impl Model for NameSet {
