@@ -162,7 +162,7 @@ fn rows_after(
     for number in 0..end {
         let labelled = is_among(labels, number);
         let row = row_after(alloc, edit, lines_of(rows, number), labelled)?;
-        after.push(row)?;
+        after.push_reserved(row);
     }
     Ok(after)
 }

@@ -10,18 +10,19 @@ use Rattle.rv_program.proofs.locals_after.rows_after.Goals as goal
 pub loop-number-preserved : goal.loop-number-preserved
 loop-number-preserved c =
     record {
-      count = omega (arith, ap length c.in_ok-push.ensures.items, length-append c.loop-number.after.items (c.in_ok-row.row ∷ []), c.loop-number.invariant.count);
+      count = omega (arith, ap length c.push_reserved.ensures.items, length-append c.loop-number.after.items (c.in_ok-row.row ∷ []), c.loop-number.invariant.count);
+      room = omega (arith, c.push_reserved.ensures.capacity, c.loop-number.invariant.room);
       rows = λ k below. at k (cases_lt k c.loop-number.number) below;
     }
   where
-    at : (k : ℕ) → (k < c.loop-number.number) ⊎ (c.loop-number.number ≤ k) → k < c.loop-number.number + 1 → get_or c.push.new.self.items k [] ≡ row_after (edit_of c.args.edit.now) (among_local k c.args.labels.now) (get_or c.args.rows.now k [])
+    at : (k : ℕ) → (k < c.loop-number.number) ⊎ (c.loop-number.number ≤ k) → k < c.loop-number.number + 1 → get_or c.push_reserved.new.self.items k [] ≡ row_after (edit_of c.args.edit.now) (among_local k c.args.labels.now) (get_or c.args.rows.now k [])
     at k (inl earlier) below =
-        ap (λ ls. get_or ls k []) c.in_ok-push.ensures.items
+        ap (λ ls. get_or ls k []) c.push_reserved.ensures.items
         ∙ get_or_append_left c.loop-number.after.items (c.in_ok-row.row ∷ []) [] k (omega (arith, earlier, c.loop-number.invariant.count))
         ∙ c.loop-number.invariant.rows k earlier
     at k (inr last) below =
         let here : k ≡ c.loop-number.number = omega (arith, last, below) in
-        ap (λ ls. get_or ls k []) c.in_ok-push.ensures.items
+        ap (λ ls. get_or ls k []) c.push_reserved.ensures.items
         ∙ get_or_push c.loop-number.after.items c.in_ok-row.row [] k (omega (arith, here, c.loop-number.invariant.count))
         ∙ c.in_ok-row.ensures
         ∙ ap (row_after (edit_of c.args.edit.now) c.is_among-labelled.result) c.lines_of.ensures
