@@ -1,14 +1,14 @@
 -- Sets of names: what they have, and which tests no name of a line passes.
-use Rattle.std.proofs.Common.{◌≡◌, ◌≤◌, ℕ, ◌<◌, ◌%◌, ◌==◌, ◌⊎◌, inl, inr, Bool, true, false, ◌||◌, List, [], ◌∷◌, length, replicate, slice_set, Option, Some, None, true≢false, arith, ap, sym, ◌∙◌, refl}
+use Rattle.std.proofs.Common.{◌≡◌, ◌≤◌, ℕ, ◌<◌, ◌%◌, ◌==◌, ◌⊎◌, inl, inr, Bool, true, false, ◌||◌, List, [], ◌∷◌, length, get_or, replicate, slice_set, Option, Some, None, true≢false, arith, ap, sym, subst, ◌∙◌, refl}
 use Rattle.std.specs.List.{list_any, fold}
 use Rattle.std.proofs.lemmas.Bool.{cases_eq, eqb-true, eq-eqb, or_cases, or_left, or_right}
-use Rattle.std.proofs.lemmas.List.{get_or-set_other}
+use Rattle.std.proofs.lemmas.List.{get_or-set_same, get_or-set_other}
 use Rattle.rv_program.specs.declared.groups.Groups.{Groups}
 use Rattle.rv_program.specs.declared.used_names.UsedNames.{UsedNames}
 use Rattle.rv_program.specs.declared.used_names.UsedNames.TheVariants.{Few, Many}
 use Rattle.rv_program.specs.declared.name_set.Mark.{Mark}
-use Rattle.rv_program.specs.declared.name_set.Mark.TheVariants.{Unknown}
-use Rattle.rv_program.specs.internal.NameSets.{next_bucket, bucket_of, differs, AreGrouped, no_names, with_bucket, with_name, with_names, brief_of_names, is_bucket, may_have, with_group_of, groups_used}
+use Rattle.rv_program.specs.declared.name_set.Mark.TheVariants.{Unknown, Same, Moved, Changed}
+use Rattle.rv_program.specs.internal.NameSets.{next_bucket, bucket_of, differs, IsBelow, AreGrouped, no_names, with_bucket, with_name, with_names, brief_of_names, is_bucket, may_have, with_group_of, groups_used}
 use Rattle.rv_program.specs.internal.Groups.{no_groups, has_bit, with_group, has_group}
 use Rattle.rv_program.specs.lemmas.GroupLaws.{bit-left, no-bit, group-added, group-kept}
 use Rattle.rv_program.specs.lemmas.Lists.{get_or-same}
@@ -32,6 +32,22 @@ module _ (marks : List Mark) (groups : Groups) (place : ℕ) (mark : Mark) (with
       at : (bucket ≡ place) ⊎ (bucket ≡ place → ⊥) → has_group (with_group groups place) bucket ≡ true
       at (inl same) = ap (has_group (with_group groups place)) same ∙ group-added groups place
       at (inr other) = group-kept groups place bucket (grouped bucket (sym (ap differs (get_or-set_other marks place bucket mark Unknown other)) ∙ has))
+
+below-itself : (mark : Mark) → IsBelow mark mark
+below-itself Unknown = tt
+below-itself Same = tt
+below-itself Moved = tt
+below-itself Changed = tt
+
+-- a mark is put in the place of one that says more
+pub below-put : (marks : List Mark) (place : ℕ) (mark : Mark) → place < length marks → IsBelow (get_or marks place Unknown) mark → (other : ℕ) → IsBelow (get_or marks other Unknown) (get_or (slice_set marks place mark) other Unknown)
+below-put marks place mark within below other = at (cases_eq other place)
+  where
+    at : (other ≡ place) ⊎ (other ≡ place → ⊥) → IsBelow (get_or marks other Unknown) (get_or (slice_set marks place mark) other Unknown)
+    at (inl same) =
+        subst (λ k. IsBelow (get_or marks k Unknown) (get_or (slice_set marks place mark) k Unknown)) (sym same)
+        (subst (IsBelow (get_or marks place Unknown)) (sym (get_or-set_same marks place mark Unknown within)) below)
+    at (inr apart) = subst (IsBelow (get_or marks other Unknown)) (sym (get_or-set_other marks place other mark Unknown apart)) (below-itself (get_or marks other Unknown))
 
 -- The names of a line
 

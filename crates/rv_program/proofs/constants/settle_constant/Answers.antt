@@ -1,4 +1,5 @@
-use Rattle.std.proofs.Common.{◌≡◌, suc, ◌+◌, true, false, None, arith, ap, sym, refl, ◌∙◌}
+use Rattle.rv_program.specs.internal.Work.{equ_operands}
+use Rattle.std.proofs.Common.{◌≡◌, suc, ◌+◌, true, false, None, arith, ap, sym, refl, ◌∙◌, ◌≤◌, subst}
 use Rattle.std.specs.Result.{result_ok}
 use Rattle.std.proofs.lemmas.List.{length-set}
 use Rattle.rv_stmt.specs.declared.statement.Body.TheVariants.{Equ as EquBody}
@@ -47,3 +48,14 @@ returns-clause-parsed g c = c.defined_value-value.ensures.parsed
 
 pub returns-clause-encoded : goal.returns-clause-encoded
 returns-clause-encoded g c = c.defined_value-value.ensures.encoded
+
+pub returns-clause-operands : goal.returns-clause-operands
+returns-clause-operands g c =
+    let program : Program = program_of c.args.lines.now in
+    let next : c.args.i + 1 ≡ suc c.args.i = omega arith in
+    let here : body_at program (suc c.args.i) ≡ (statement_of c.index-lines-i.result).body = body-read c.args.lines.now c.args.i _ c.requires.within c.index-lines-i.is in
+    let body : body_at program (c.args.i + 1) ≡ EquBody c.in-Some.definition.now = ap (body_at program) next ∙ here ∙ c.in-Some.ensures.body in
+    subst (λ b. g.C.Count.valued_count c.defined_value-value.new.counter ≤ g.C.Count.valued_count c.args.counter.now + equ_operands b) (sym body) c.defined_value-value.ensures.operands
+
+pub returns-clause-as_many : goal.returns-clause-as_many
+returns-clause-as_many g c = rw length-set c.requires.as_many

@@ -1,3 +1,4 @@
+use Rattle.std.proofs.lemmas.Grind.{common_steps}
 use Rattle.std.proofs.Common.{◌≡◌, ◌+◌, length, ap, sym, ◌∙◌, arith}
 use Rattle.rv_program.specs.internal.Before.{base_before, lines_before, edit_on}
 use Rattle.rv_program.specs.internal.Briefs.{brief_of}
@@ -92,3 +93,20 @@ returns-in_err-push-clause-compared g c =
     let new = counts c.is_due_by_brief.new.counter in
     more-compared c.args.before.now (c.lines.i + 1) (length c.args.after.now.text.lines.now) old new (omega (arith, c.lines-test.true, ap length c.requires.column))
     (next-compared c.args.before.now c.lines.i old (counts c.lines.counter) new c.lines.invariant.compared c.is_due_by_brief.ensures.compared)
+
+pub lines_up_to_due-i-requires-in-lines : goal.lines_up_to_due-i-requires-in-lines
+lines_up_to_due-i-requires-in-lines g c = grind (arith, common_steps)
+
+pub is_due_by_brief-requires-clause-last : goal.is_due_by_brief-requires-clause-last
+is_due_by_brief-requires-clause-last g c = omega (arith, c.lines-test.true, ap length c.requires.column)
+
+pub overflow_cast-line : goal.overflow_cast-line
+overflow_cast-line g c = omega (arith, c.lines-test.true, c.requires.after.few, ap length c.requires.column)
+
+pub overflow_add-line : goal.overflow_add-line
+overflow_add-line g c = omega (arith, c.lines-test.true, c.requires.after.few, ap length c.requires.column)
+
+pub returns-clause-compared : goal.returns-clause-compared
+returns-clause-compared g c =
+    let counts = counts_of g.C.Count.parsed_count g.C.Count.valued_count g.C.Count.encoded_count in
+    more-compared c.args.before.now c.lines.i (length c.args.after.now.text.lines.now) (counts c.args.counter.now) (counts c.lines.counter) (omega (arith, c.lines.invariant.within, ap length c.requires.column)) c.lines.invariant.compared

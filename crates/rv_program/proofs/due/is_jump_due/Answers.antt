@@ -65,3 +65,19 @@ returns-in-Local-clause-compared g c =
       most = omega (arith, counted.valued, one);
       encoded = counted.encoded;
     }
+
+pub returns-in_default-clause-compared : goal.returns-in_default-clause-compared
+returns-in_default-clause-compared g c =
+    not-compared c.args.before.now c.args.after.now.text c.args.line c.requires.after c.requires.first (counts_of g.C.Count.parsed_count g.C.Count.valued_count g.C.Count.encoded_count c.args.counter.now)
+
+pub differs_in_distance-requires-clause-first_stood : goal.differs_in_distance-requires-clause-first_stood
+differs_in_distance-requires-clause-first_stood g c =
+    (stood-before c.args.before.now c.args.after.now.text c.args.line c.in-Some.stood c.requires.before c.requires.after c.requires.first c.requires.last (sym c.line_before.ensures ∙ c.in-Some.is)).first
+
+pub differs_in_distance-requires-clause-last_stood : goal.differs_in_distance-requires-clause-last_stood
+differs_in_distance-requires-clause-last_stood g c =
+    (stood-before c.args.before.now c.args.after.now.text c.args.line c.in-Some.stood c.requires.before c.requires.after c.requires.first c.requires.last (sym c.line_before.ensures ∙ c.in-Some.is)).last
+
+pub differs_in_local_distance-requires-clause-first_stood : goal.differs_in_local_distance-requires-clause-first_stood
+differs_in_local_distance-requires-clause-first_stood g c =
+    (stood-before c.args.before.now c.args.after.now.text c.args.line c.in-Some.stood c.requires.before c.requires.after c.requires.first c.requires.last (sym c.line_before.ensures ∙ c.in-Some.is)).first

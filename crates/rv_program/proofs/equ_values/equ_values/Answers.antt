@@ -1,4 +1,5 @@
-use Rattle.std.proofs.Common.{◌≡◌, ◌+◌, length, replicate, Err, rules, arith, ap, refl, subst, ◌∙◌}
+use Rattle.std.proofs.lemmas.Grind.{common_steps}
+use Rattle.std.proofs.Common.{◌≡◌, ◌+◌, length, replicate, Err, rules, arith, ap, refl, subst, ◌∙◌, ◌≤◌}
 use Rattle.std.proofs.lemmas.List.{length-replicate}
 use Rattle.rv_expr.specs.declared.faults.ValueFault.TheVariants.{LaterEqu}
 use Rattle.rv_program.specs.internal.TextRows.{program_in, AreEquValuesIn}
@@ -60,3 +61,15 @@ returns-clause-parsed g c = c.loop-i.invariant.parsed
 
 pub returns-clause-encoded : goal.returns-clause-encoded
 returns-clause-encoded g c = c.loop-i.invariant.encoded
+
+pub settle_equ-requires-clause-within : goal.settle_equ-requires-clause-within
+settle_equ-requires-clause-within g c = grind (arith, common_steps)
+
+pub returns-clause-valued_within : goal.returns-clause-valued_within
+returns-clause-valued_within g c = grind (arith, common_steps)
+
+pub returns-clause-operands : goal.returns-clause-operands
+returns-clause-operands g c =
+    let text = c.args.text.now in
+    let end : c.loop-i.i ≤ length text.lines.now = omega (arith, c.loop-i.invariant.within, count-groups text.lines.now c.args.groups.now c.requires.groups) in
+    omega (arith, c.loop-i.invariant.operands, operands-more equ_operands (program_in text) c.loop-i.i (length text.lines.now) end)

@@ -1,4 +1,6 @@
-use Rattle.std.proofs.Common.{◌≡◌, ℕ, suc, ◌+◌, ◌-◌, true, false, get_or, arith, ap, sym, refl, subst, ◌∙◌}
+use Rattle.std.proofs.lemmas.List.{length-set}
+use Rattle.rv_program.specs.internal.Work.{equ_operands}
+use Rattle.std.proofs.Common.{◌≡◌, ℕ, suc, ◌+◌, ◌-◌, true, false, get_or, arith, ap, sym, refl, subst, ◌∙◌, ◌≤◌}
 use Rattle.rv_stmt.specs.declared.statement.Body.TheVariants.{Equ as EquBody}
 use Rattle.rv_stmt.specs.Statement.{statement_of}
 use Rattle.rv_program.specs.Constants.{defined_value}
@@ -51,3 +53,17 @@ returns-clause-parsed g c = c.value_on.ensures.parsed
 
 pub returns-clause-encoded : goal.returns-clause-encoded
 returns-clause-encoded g c = c.value_on.ensures.encoded
+
+pub returns-clause-operands : goal.returns-clause-operands
+returns-clause-operands g c =
+    let text = c.args.text.now in
+    let program : Program = program_in text in
+    let read = c.line-read.result.now in
+    let here : body_at program (suc c.args.i) ≡ (statement_of read).body =
+    body-read text.lines.now c.args.i read c.requires.within (c.line-read.ensures ∙ ap (λ n. get_or text.lines.now n read) (less-one c.args.i)) in
+    let next : c.args.i + 1 ≡ suc c.args.i = omega arith in
+    let body : body_at program (c.args.i + 1) ≡ EquBody c.in-Some.definition.now = ap (body_at program) next ∙ here ∙ c.in-Some.ensures.body in
+    subst (λ b. g.C.Count.valued_count c.value_on.new.counter ≤ g.C.Count.valued_count c.args.counter.now + equ_operands b) (sym body) c.value_on.ensures.operands
+
+pub returns-clause-as_many : goal.returns-clause-as_many
+returns-clause-as_many g c = rw length-set c.requires.as_many

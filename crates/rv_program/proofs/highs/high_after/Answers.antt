@@ -60,3 +60,9 @@ returns-clause-parsed g c = c.high_on.ensures.parsed
 
 pub returns-clause-encoded : goal.returns-clause-encoded
 returns-clause-encoded g c = c.high_on.ensures.encoded
+
+pub returns-then-not-has_pcrel_high-clause-most : goal.returns-then-not-has_pcrel_high-clause-most
+returns-then-not-has_pcrel_high-clause-most g c =
+    let before = c.args.before.now in
+    let more = work-up high_operands (base_before before) (lines_before before) (edit_on before) (c.args.line - 1) c.args.line (omega arith) in
+    omega (arith, more)

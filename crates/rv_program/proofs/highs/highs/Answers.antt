@@ -1,4 +1,5 @@
-use Rattle.std.proofs.Common.{◌≡◌, ◌<◌, suc, ◌+◌, ◌-◌, [], length, set, replicate, Err, arith, ap, sym, refl, subst, ◌∙◌}
+use Rattle.std.proofs.lemmas.Grind.{common_steps}
+use Rattle.std.proofs.Common.{◌≡◌, ◌<◌, suc, ◌+◌, ◌-◌, [], length, set, replicate, Err, arith, ap, sym, refl, subst, ◌∙◌, ◌≤◌}
 use Rattle.std.proofs.lemmas.List.{length-set, length-replicate}
 use Rattle.rv_expr.specs.declared.faults.ValueFault.TheVariants.{NoPartner}
 use Rattle.rv_program.specs.internal.Before.{base_before, lines_before, edit_on}
@@ -87,3 +88,25 @@ returns-clause-parsed g c = c.loop-i.invariant.parsed
 
 pub returns-clause-encoded : goal.returns-clause-encoded
 returns-clause-encoded g c = c.loop-i.invariant.encoded
+
+pub overflow_cast-i : goal.overflow_cast-i
+overflow_cast-i g c = grind (arith, common_steps)
+
+pub overflow_add-i : goal.overflow_add-i
+overflow_add-i g c = grind (arith, common_steps)
+
+pub high_after-requires-clause-last : goal.high_after-requires-clause-last
+high_after-requires-clause-last g c = grind (arith, common_steps)
+
+pub high_after-requires-clause-valued : goal.high_after-requires-clause-valued
+high_after-requires-clause-valued g c = grind (arith, common_steps)
+
+pub returns-clause-most : goal.returns-clause-most
+returns-clause-most g c = grind (arith, common_steps)
+
+pub returns-clause-work : goal.returns-clause-work
+returns-clause-work g c =
+    let before = c.args.before.now in
+    let lines = c.args.after.now.text.lines.now in
+    let end : c.loop-i.i ≤ length lines = omega (arith, c.loop-i.invariant.within, count-groups lines c.args.groups.now c.requires.groups) in
+    omega (arith, c.loop-i.invariant.work, work-up high_operands (base_before before) (lines_before before) (edit_on before) c.loop-i.i (length lines) end)

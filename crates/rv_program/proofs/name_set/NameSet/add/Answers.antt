@@ -1,8 +1,10 @@
-use Rattle.std.proofs.Common.{◌≡◌, ◌<◌, length, slice_set, Some, option_map, rules, ap, sym, subst, ◌∙◌}
-use Rattle.std.proofs.lemmas.List.{length-set}
-use Rattle.rv_program.specs.internal.NameSets.{AreGrouped}
+use Rattle.std.proofs.Common.{◌≡◌, ◌<◌, length, slice_set, Some, option_map, rules, ap, sym, subst, ◌∙◌, ℕ, get_or}
+use Rattle.std.proofs.lemmas.List.{length-set, get_or_default}
+use Rattle.rv_program.specs.declared.name_set.Mark.TheVariants.{Unknown}
+use Rattle.rv_program.specs.internal.NameSets.{IsBelow, AreGrouped, mark_among, mark_of}
 use Rattle.rv_program.specs.internal.Groups.{with_group}
-use Rattle.rv_program.specs.lemmas.NameSetLaws.{grouped-with}
+use Rattle.rv_program.specs.lemmas.NameSetLaws.{below-put, grouped-with}
+use Rattle.rv_program.proofs.name_set.NameSet.add.Goals.{After-differs}
 use Rattle.rv_program.proofs.name_set.NameSet.add.Goals as goal
 
 pub invariant_of-self : goal.invariant_of-self
@@ -17,3 +19,20 @@ invariant_of-self c =
       subst (λ groups. AreGrouped (Some (slice_set marks place c.with-mark.result)) groups) (ap (with_group c.self.inside.groups) at ∙ sym c.with-self-inside.ensures)
           (grouped-with marks c.self.inside.groups place c.with-mark.result within grouped),
     )
+
+kept : (c : After-differs) (other : ℕ) → IsBelow (mark_of c.args.self.now other) (get_or (slice_set c.in-Some.marks.items c.from-place.result c.with-mark.result) other Unknown)
+kept c other =
+    let marks = c.in-Some.marks.items in
+    let place = c.from-place.result in
+    let within : place < length marks = search rules in
+    let old : mark_of c.args.self.now other ≡ get_or marks other Unknown =
+    ap (λ s. mark_of s other) (sym c.self.view_is) ∙ ap (λ m. mark_among (option_map (λ v. v.items) m) other) c.in-Some.is in
+    let here : c.index.result.now ≡ get_or marks place Unknown = c.index.ensures ∙ get_or_default marks place c.index.result.now Unknown within in
+    subst (λ mark. IsBelow mark (get_or (slice_set marks place c.with-mark.result) other Unknown)) (sym old)
+    (below-put marks place c.with-mark.result within (subst (λ mark. IsBelow mark c.with-mark.result) here c.with-mark.ensures.first) other)
+
+pub returns-then-differs-clause-kept : goal.returns-then-differs-clause-kept
+returns-then-differs-clause-kept c = kept (goal.at.returns-then-differs-clause-kept c).After-differs
+
+pub returns-else-differs-clause-kept : goal.returns-else-differs-clause-kept
+returns-else-differs-clause-kept c = kept (goal.at.returns-else-differs-clause-kept c).After-differs
