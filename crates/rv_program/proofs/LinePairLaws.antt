@@ -58,6 +58,10 @@ module _ (pair : LinePair) (name : List ℕ) (is : IsOpenPair pair) (value value
   pub differs-by_value : same ≡ false → not same ≡ differs_in_name_on pair name
   differs-by_value h = ap not h ∙ ap (λ b. not b || not same_constants) (sym h) ∙ ap (λ s. not s || not same_constants) values
 
+  -- where its values are the same
+  pub differs-by_constant : same ≡ true → not same_constants ≡ differs_in_name_on pair name
+  differs-by_constant h = ap (λ s. not s || not same_constants) (sym h ∙ values)
+
 -- A line that uses no symbol that differs, its own address on one place alone, and nothing that is not compared
 
 or_none : (b : Bool) → (b || false || false || false || false) ≡ b

@@ -22,3 +22,7 @@ labels-preserved c = record {
 
 pub returns-clause-numbered : goal.returns-clause-numbered
 returns-clause-numbered c = c.labels.invariant.numbered c.labels.names (grows-refl c.labels.names) (subst (AreLabelsNumbered c.labels.names) (sym c.in_default.ensures.none) tt)
+
+pub returns-in_err-intern-in-Symbol-clause-names : goal.returns-in_err-intern-in-Symbol-clause-names
+returns-in_err-intern-in-Symbol-clause-names c =
+    grows-trans c.args.names.now c.labels.names c.intern.new.self c.labels.invariant.names c.intern.ensures.grows

@@ -1,4 +1,5 @@
-use Rattle.std.proofs.Common.{◌≡◌, rules, Ok, ap, ◌∙◌}
+use Rattle.std.proofs.lemmas.Grind.{common_steps}
+use Rattle.std.proofs.Common.{◌≡◌, rules, Ok, ap, ◌∙◌, arith}
 use Rattle.rv_fix.specs.Displacements.{displacement}
 use Rattle.rv_program.specs.Jumps.{distance}
 use Rattle.rv_program.specs.Layout.{address_at}
@@ -17,3 +18,6 @@ returns c = λ name numbered.
     let far : Ok (displacement c.place_on-here.result.address c.in_ok-address.address) ≡ distance (address_at text.base (program_in text) line) (reference_of text.base (program_in text) line name) =
     (λ i. distance (here i) (address i)) in
     search rules ∙ far
+
+pub returns-in_err-address : goal.returns-in_err-address
+returns-in_err-address c = grind (arith, common_steps)

@@ -28,3 +28,12 @@ returns-in_ok-values-in_default-clause-parsed g c = c.operand_values.ensures.par
 
 pub returns-in_ok-values-in_default-clause-encoded : goal.returns-in_ok-values-in_default-clause-encoded
 returns-in_ok-values-in_default-clause-encoded g c = c.operand_values.ensures.encoded
+
+pub returns-in_err-values-in_default-clause-least : goal.returns-in_err-values-in_default-clause-least
+returns-in_err-values-in_default-clause-least g c = c.operand_values.ensures.least
+
+pub returns-in_err-values-in_default-clause-parsed : goal.returns-in_err-values-in_default-clause-parsed
+returns-in_err-values-in_default-clause-parsed g c = c.operand_values.ensures.parsed
+
+pub returns-in_err-values-in_default-clause-encoded : goal.returns-in_err-values-in_default-clause-encoded
+returns-in_err-values-in_default-clause-encoded g c = c.operand_values.ensures.encoded

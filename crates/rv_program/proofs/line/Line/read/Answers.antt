@@ -1,3 +1,6 @@
+use Rattle.std.proofs.Common.{ap, sym, ◌∙◌}
+use Rattle.rv_stmt.specs.Statement.{statement_of}
+use Rattle.rv_program.specs.Text.{is_line}
 use Rattle.rv_program.proofs.line.Line.read.Goals as goal
 
 pub returns-in_err-stmt-clause-parsed : goal.returns-in_err-stmt-clause-parsed
@@ -35,3 +38,12 @@ returns-in_err-content-clause-encoded g c = c.read_line.ensures.encoded
 
 pub returns-clause-encoded : goal.returns-clause-encoded
 returns-clause-encoded g c = c.read_line.ensures.encoded
+
+pub invariant_of-result : goal.invariant_of-result
+invariant_of-result g c =
+    let text = c.in_ok-text.ensures.items in
+    rw c.in_ok-content.ensures.ok (record {
+      line = ap is_line text ∙ c.requires.line;
+      read = c.in_ok-stmt.ensures.statement ∙ ap statement_of (sym text);
+      summed = c.of-brief.ensures;
+    })

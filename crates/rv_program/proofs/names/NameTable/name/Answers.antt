@@ -1,3 +1,4 @@
+use Rattle.std.proofs.lemmas.Grind.{common_steps}
 use Rattle.std.proofs.Common.{◌≡◌, ℕ, ◌<◌, length, get_or, arith, ap, sym, ◌∙◌, Vec, Global}
 use Rattle.std.proofs.lemmas.List.{length-map}
 use Rattle.rv_program.specs.internal.Rows.{number_of}
@@ -14,3 +15,9 @@ returns c =
     ap (number_of c.args.self.now) c.as_slice-2.ensures.value
     ∙ ap (λ names. number_of names name.items) (sym c.self.view_is)
     ∙ number-of_place {A = Vec ℕ Global} (λ n. n.items) keys name c.args.number c.as_slice.ensures.unique within here
+
+pub bounds-as_slice-number : goal.bounds-as_slice-number
+bounds-as_slice-number c = grind (arith, common_steps)
+
+pub offset_bounds-as_slice-number : goal.offset_bounds-as_slice-number
+offset_bounds-as_slice-number c = grind (arith, common_steps)
