@@ -77,10 +77,21 @@ pub enum OperandValue {
 }
 
 /// An operand whose value an expression gives.
-#[derive(Drop)]
 pub struct Operand {
     pub value: OperandValue,
     pub role: Role,
     /// The whole operand, at which the faults of its value are reported.
     pub span: Span,
+}
+
+// What a derive would do, but proved here: a crate that reads a list of operands would prove the derived drop of each type in one.
+impl Drop for Operand {
+    fn drop(self) {
+        let Operand {
+            value,
+            role: _,
+            span: _,
+        } = self;
+        drop(value);
+    }
 }
