@@ -3,7 +3,7 @@
 ghost use Rattle.examples.specs.GivenNames.{given};
 
 use crate::lines::bytes_of_line;
-use crate::row::{number_of, parts_of};
+use crate::row::{debugged, displayed, found, made, number_before, number_of, parts_of};
 use crate::statements::statement_of_line;
 use code_text::text_of;
 use rv_expr::{Direction, LabelReference, Names, ValueFault};
@@ -17,11 +17,10 @@ use std::test::Fail;
 
 /// `assemble ADDRESS LINE`: the bytes and the fault of the line by itself, or why it has none.
 pub fn assemble(alloc: Global, arguments: &str) -> Result<String, Fail> {
-    let (address, line) = parts_of(arguments);
-    let address = number_of(address)?;
+    let (address, line) = number_before(arguments)?;
     match assemble_at(alloc, bytes_of_line(line)?, address) {
         Ok(coded) => text_of(alloc, &coded),
-        Err(error) => Ok(format!(in alloc; "{error:?}")?),
+        Err(error) => debugged(alloc, error),
     }
 }
 
@@ -69,11 +68,16 @@ fn values_of(alloc: Global, stmt: &Stmt, address: u32) -> Result<Values, Fail> {
     Ok(values)
 }
 
+// Whether one line encoded is counted, and nothing else.
+fn is_one_line_encoded(tally: &Tally) -> bool {
+    tally.encoded_calls() == 1 && tally.valued_calls() == 0 && tally.parsed_calls() == 0
+}
+
 // The code with these values. One line encoded is counted, and nothing else.
 fn encoded(alloc: Global, stmt: &Stmt, values: &Values) -> Result<Coded, Fail> {
     let mut tally = Tally::new();
     let coded = encode_line(alloc, stmt, values, &mut tally)?;
-    if tally.encoded_calls() != 1 || tally.valued_calls() != 0 || tally.parsed_calls() != 0 {
+    if !is_one_line_encoded(&tally) {
         return Err(Fail::new("another count than one line encoded"));
     }
     Ok(coded)
@@ -82,7 +86,7 @@ fn encoded(alloc: Global, stmt: &Stmt, values: &Values) -> Result<Coded, Fail> {
 // Values, and the code with them.
 fn text_of_values(alloc: Global, entries: &[Entry], coded: &Coded) -> Result<String, Fail> {
     let code = text_of(alloc, coded)?;
-    Ok(format!(in alloc; "{entries:?} {code}")?)
+    made(format!(in alloc; "{entries:?} {code}"))
 }
 
 // The code of a statement with these values, behind the values.
@@ -97,8 +101,7 @@ fn text_at(alloc: Global, stmt: &Stmt, address: u32) -> Result<String, Fail> {
 
 /// `values ADDRESS LINE`: the values of the operands, and the code with these values.
 pub fn values(alloc: Global, arguments: &str) -> Result<String, Fail> {
-    let (address, line) = parts_of(arguments);
-    let address = number_of(address)?;
+    let (address, line) = number_before(arguments)?;
     text_at(alloc, &statement_of_line(alloc, line.as_bytes())?, address)
 }
 
@@ -114,11 +117,11 @@ fn has_values(alloc: Global, values: &Values, line: &str) -> Result<bool, Fail> 
 
 /// `same_values LINE; LINE`: whether two lines have the same values.
 pub fn same_values(alloc: Global, lines: &str) -> Result<String, Fail> {
-    let Some((left, right)) = lines.split_once("; ") else {
-        return Err(Fail::new("a row without two lines"));
-    };
-    let same = has_values(alloc, &values_of_line(alloc, left)?, right)?;
-    Ok(format!(in alloc; "{same}")?)
+    let (left, right) = found(lines.split_once("; "), "a row without two lines")?;
+    displayed(
+        alloc,
+        has_values(alloc, &values_of_line(alloc, left)?, right)?,
+    )
 }
 
 // A fault from a place on.
@@ -155,20 +158,17 @@ pub fn code(alloc: Global, arguments: &str) -> Result<String, Fail> {
 }
 
 // Whether the first is the same as the second, and the second as the first.
-fn text_of_sameness(alloc: Global, left: &Coded, right: &Coded) -> Result<String, Fail> {
-    let same = left.is_same(right);
+fn text_of_sameness(alloc: Global, left: &Coded, right: &str) -> Result<String, Fail> {
+    let right = code_of(alloc, right)?;
+    let same = left.is_same(&right);
     let same_back = right.is_same(left);
-    Ok(format!(in alloc; "{same} {same_back}")?)
+    made(format!(in alloc; "{same} {same_back}"))
 }
 
 /// `same_codes CODE; CODE`: whether the first is the same as the second, and the second as the first.
 pub fn same_codes(alloc: Global, codes: &str) -> Result<String, Fail> {
-    let Some((left, right)) = codes.split_once("; ") else {
-        return Err(Fail::new("a row without two codes"));
-    };
-    let left = code_of(alloc, left)?;
-    let right = code_of(alloc, right)?;
-    text_of_sameness(alloc, &left, &right)
+    let (left, right) = found(codes.split_once("; "), "a row without two codes")?;
+    text_of_sameness(alloc, &code_of(alloc, left)?, right)
 }
 
 /// `error_number ERROR`: the number of a refusal.
@@ -180,5 +180,5 @@ pub fn error_number(alloc: Global, error: &str) -> Result<String, Fail> {
         "AssembleError::Memory" => AssembleError::Memory.number(),
         _ => return Err(Fail::new("a word that names no error")),
     };
-    Ok(format!(in alloc; "{number}")?)
+    displayed(alloc, number)
 }

@@ -3,12 +3,12 @@
 use crate::encodings::{decode, word_of_digits, word_of_row};
 use crate::lines::bytes_of_line;
 use crate::operations::operations;
-use crate::row::{bytes_of, number_of, pairs_of, parts_of};
+use crate::row::{bytes_of, copied, found, made, number_before, pairs_of, parts_of};
 use rv_code::Word;
 use rv_dis::{DisError, DisRow, disassemble, instruction_text};
 use rv_fix::assemble_at;
 use rv_ops::{Op, TableRow};
-use std::alloc::Global;
+use std::alloc::{AllocError, Global};
 use std::fmt::Write;
 use std::test::Fail;
 
@@ -25,10 +25,10 @@ fn assembled(alloc: Global, text: &str, address: u32) -> Result<String, Fail> {
 }
 
 // Appends the address, the value and the text of a row.
-fn push_row(shown: &mut String, row: &DisRow) -> Result<(), Fail> {
+fn push_row(shown: &mut String, row: &DisRow) -> Result<(), AllocError> {
     let (address, value, text) = (row.address, row.value, row.text.as_str());
     let digits = usize::from(row.len) * 2;
-    Ok(write!(shown, "; {address:08x} {value:0digits$x} {text}")?)
+    write!(shown, "; {address:08x} {value:0digits$x} {text}")
 }
 
 // Appends a row, with what its text assembles to.
@@ -49,17 +49,15 @@ fn rows_text(alloc: Global, rows: &[DisRow]) -> Result<String, Fail> {
 
 /// How many rows the bytes at an address have, and of each its address, its value, its text, and what that assembles to.
 pub fn rows(alloc: Global, arguments: &str) -> Result<String, Fail> {
-    let (address, pairs) = parts_of(arguments);
+    let (address, pairs) = number_before(arguments)?;
     let bytes = bytes_of(alloc, pairs)?;
-    let rows = disassemble(alloc, bytes.as_slice(), number_of(address)?)?;
+    let rows = disassemble(alloc, bytes.as_slice(), address)?;
     rows_text(alloc, rows.as_slice())
 }
 
 // The text of a word's instruction at an address.
 fn text_of(alloc: Global, word: Word, address: u32) -> Result<String, Fail> {
-    let Some(ins) = decode(word) else {
-        return Err(Fail::new("a word that is no instruction"));
-    };
+    let ins = found(decode(word), "a word that is no instruction")?;
     Ok(instruction_text(alloc, &ins, address)?)
 }
 
@@ -78,7 +76,7 @@ fn text_and_code(
 ) -> Result<String, Fail> {
     let row = format!(in alloc; "1; {address:08x} {digits} {text} => ")?;
     let code = code_behind(rows, row.as_str());
-    Ok(format!(in alloc; "{text} => {code}")?)
+    made(format!(in alloc; "{text} => {code}"))
 }
 
 // The rows of a word at an address.
@@ -90,8 +88,7 @@ fn rows_of_word(alloc: Global, word: Word, address: u32) -> Result<String, Fail>
 /// The text of a word's instruction at an address, and what it assembles to. The word's bytes have to be one row of this
 /// address, word and text; other rows are shown in the place of the code.
 pub fn instruction(alloc: Global, arguments: &str) -> Result<String, Fail> {
-    let (address, digits) = parts_of(arguments);
-    let address = number_of(address)?;
+    let (address, digits) = number_before(arguments)?;
     let word = word_of_row(digits)?;
     let text = text_of(alloc, word, address)?;
     let rows = rows_of_word(alloc, word, address)?;
@@ -105,7 +102,7 @@ fn operation_of(row: &str) -> Option<Op> {
 }
 
 // Appends the operation whose text a row asks for, if it asks for one.
-fn push_operation(shown: &mut Vec<Op>, row: &str) -> Result<(), Fail> {
+fn push_operation(shown: &mut Vec<Op>, row: &str) -> Result<(), AllocError> {
     match operation_of(row) {
         Some(op) => Ok(shown.push(op)?),
         None => Ok(()),
@@ -128,11 +125,11 @@ pub fn operation_without_text(alloc: Global, script: &str) -> Result<String, Fai
     for row in script.lines() {
         push_operation(&mut shown, row)?;
     }
-    Ok(String::from_str(alloc, first_other(shown.as_slice(), operations()))?)
+    copied(alloc, first_other(shown.as_slice(), operations()))
 }
 
 /// The error of the disassembler with its number.
 pub fn error_numbers(alloc: Global) -> Result<String, Fail> {
     let error = DisError::Memory;
-    Ok(format!(in alloc; "{error:?} {}", error.number())?)
+    made(format!(in alloc; "{error:?} {}", error.number()))
 }

@@ -1,7 +1,7 @@
 //! Instructions and their encodings.
 
 use crate::operations::{operation_of, operations};
-use crate::row::{pairs_of, parts_of, shown};
+use crate::row::{copied, displayed, found, made, pairs_of, parts_of, shown};
 use rv_code::{Fields, Ins, Word, decode16, decode32, encode, in_class, word_of};
 use rv_ops::{
     Op, Reg, RegisterClass, Shape, TableRow, first_named, fixed, is_full, mask, name_of, shape,
@@ -11,10 +11,7 @@ use std::alloc::{AllocError, Global};
 use std::test::Fail;
 
 fn register_of(number: &str) -> Result<Reg, Fail> {
-    let Some(register) = Reg::new(number.parse::<u8>()?) else {
-        return Err(Fail::new("a number of no register"));
-    };
-    Ok(register)
+    found(Reg::new(number.parse::<u8>()?), "a number of no register")
 }
 
 // The fields of a row: rd, rs1, rs2 and the value.
@@ -74,8 +71,8 @@ fn is_both_ways(ins: &Ins, op: Op, fields: &Fields, word: Word) -> bool {
 /// A word in hexadecimal digits.
 pub fn word_text(alloc: Global, word: Word) -> Result<String, Fail> {
     match word {
-        Word::Half(number) => Ok(format!(in alloc; "{number:04x}")?),
-        Word::Full(number) => Ok(format!(in alloc; "{number:08x}")?),
+        Word::Half(number) => made(format!(in alloc; "{number:04x}")),
+        Word::Full(number) => made(format!(in alloc; "{number:08x}")),
     }
 }
 
@@ -83,11 +80,11 @@ pub fn word_text(alloc: Global, word: Word) -> Result<String, Fail> {
 pub fn encoding(alloc: Global, arguments: &str) -> Result<String, Fail> {
     let (op, fields) = operation_with_fields(arguments)?;
     let Some(ins) = Ins::try_new(op, fields) else {
-        return Ok(String::from_str(alloc, "no instruction")?);
+        return copied(alloc, "no instruction");
     };
     let word = encode(&ins);
     if !is_both_ways(&ins, op, &fields, word) {
-        return Ok(String::from_str(alloc, "another word on another way")?);
+        return copied(alloc, "another word on another way");
     }
     word_text(alloc, word)
 }
@@ -95,8 +92,7 @@ pub fn encoding(alloc: Global, arguments: &str) -> Result<String, Fail> {
 /// Whether an operation takes fields.
 pub fn is_taken(alloc: Global, arguments: &str) -> Result<String, Fail> {
     let (op, fields) = operation_with_fields(arguments)?;
-    let is_taken = Ins::try_new(op, fields).is_some();
-    Ok(format!(in alloc; "{is_taken}")?)
+    displayed(alloc, Ins::try_new(op, fields).is_some())
 }
 
 // Whether an operation takes a value, where a register stands for both.
@@ -128,10 +124,10 @@ pub fn word_of_digits(text: &str) -> Option<Word> {
 
 /// The word that a row gives.
 pub fn word_of_row(digits: &str) -> Result<Word, Fail> {
-    let Some(word) = word_of_digits(digits) else {
-        return Err(Fail::new("a word of neither four nor eight digits"));
-    };
-    Ok(word)
+    found(
+        word_of_digits(digits),
+        "a word of neither four nor eight digits",
+    )
 }
 
 fn instruction_text(alloc: Global, ins: &Ins) -> Result<String, AllocError> {
@@ -146,8 +142,8 @@ fn instruction_text(alloc: Global, ins: &Ins) -> Result<String, AllocError> {
 pub fn decoding(alloc: Global, arguments: &str) -> Result<String, Fail> {
     let (word, _remark) = parts_of(arguments);
     match decode(word_of_row(word)?) {
-        Some(ins) => Ok(instruction_text(alloc, &ins)?),
-        None => Ok(String::from_str(alloc, "none")?),
+        Some(ins) => made(instruction_text(alloc, &ins)),
+        None => copied(alloc, "none"),
     }
 }
 
@@ -167,27 +163,39 @@ const CLASSES: [(RegisterClass, &str); 6] = [
 ];
 
 fn has_number(class: RegisterClass, number: u8) -> bool {
-    Reg::new(number).is_some_and(|register| in_class(class, register))
+    match Reg::new(number) {
+        Some(register) => in_class(class, register),
+        None => false,
+    }
 }
 
 /// The registers of a class, as bits.
 pub fn registers_of_class(alloc: Global, arguments: &str) -> Result<String, Fail> {
-    let Some(class) = first_named(&CLASSES, arguments.as_bytes()) else {
-        return Err(Fail::new("a name of no class"));
-    };
+    let class = found(
+        first_named(&CLASSES, arguments.as_bytes()),
+        "a name of no class",
+    )?;
     let mut bits: u32 = 0;
     for number in 0..32u8 {
         bits |= u32::from(has_number(class, number)).wrapping_shl(u32::from(number));
     }
-    Ok(format!(in alloc; "{bits:08x}")?)
+    made(format!(in alloc; "{bits:08x}"))
+}
+
+// Whether a row encodes the operation of a name.
+fn encodes(row: &str, name: &str) -> bool {
+    let (call, arguments) = parts_of(row);
+    call == "encode" && parts_of(arguments).0 == name
 }
 
 // Whether a row of a script encodes the operation of a name.
 fn is_encoded(script: &str, name: &str) -> bool {
-    script.lines().any(|row| {
-        let (call, arguments) = parts_of(row);
-        call == "encode" && parts_of(arguments).0 == name
-    })
+    for row in script.lines() {
+        if encodes(row, name) {
+            return true;
+        }
+    }
+    false
 }
 
 // The name of the first operation that no row of a script encodes.
@@ -243,7 +251,7 @@ fn add_word(alloc: Global, sum: Sum, word: Word) -> Result<Sum, AllocError> {
 }
 
 fn sum_text(alloc: Global, sum: Sum) -> Result<String, Fail> {
-    Ok(format!(in alloc; "{} {:016x}", sum.count, sum.hash)?)
+    made(format!(in alloc; "{} {:016x}", sum.count, sum.hash))
 }
 
 /// How many of the 65,536 half words decode and encode back, and the digest of their lines.

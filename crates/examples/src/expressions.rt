@@ -1,7 +1,7 @@
 //! Expressions: their roots, labels, parentheses and values.
 
 use crate::lines::tokens_of;
-use crate::row::{number_of, parts_of, shown, unfolded, unquoted};
+use crate::row::{copied, debugged, displayed, made, number_before, shown, unfolded, unquoted};
 use rv_expr::{
     Direction, Expr, LabelReference, Names, Node, ReadFault, ValueFault, depth_after, label_number,
     parenthesis_depth, read, value,
@@ -75,8 +75,8 @@ fn value_text(alloc: Global, expression: &Expr, here: u32) -> Result<String, Fai
         return Err(Fail::new("a value that is not counted once"));
     }
     match found {
-        Ok(value) => Ok(format!(in alloc; "{value}")?),
-        Err(fault) => Ok(format!(in alloc; "{fault:?}")?),
+        Ok(value) => displayed(alloc, value),
+        Err(fault) => debugged(alloc, fault),
     }
 }
 
@@ -84,23 +84,21 @@ fn value_text(alloc: Global, expression: &Expr, here: u32) -> Result<String, Fai
 fn value_in_line(alloc: Global, here: u32, from: usize, line: &str) -> Result<String, Fail> {
     match expression_from(alloc, line, from)? {
         Ok(expression) => value_text(alloc, &expression, here),
-        Err(fault) => Ok(format!(in alloc; "{fault:?}")?),
+        Err(fault) => debugged(alloc, fault),
     }
 }
 
 /// The value of an expression at an address, or why there is none.
 pub fn expression_value(alloc: Global, arguments: &str) -> Result<String, Fail> {
-    let (here, line) = parts_of(arguments);
-    let here = here.parse::<u32>()?;
+    let (here, line) = number_before(arguments)?;
     value_in_line(alloc, here, 0, unfolded(alloc, line)?.as_str())
 }
 
 /// The value at an address of the expression that stands in a line from a token on.
 pub fn operand_value(alloc: Global, arguments: &str) -> Result<String, Fail> {
-    let (here, rest) = parts_of(arguments);
-    let (from, line) = parts_of(rest);
-    let (here, from) = (here.parse::<u32>()?, from.parse::<usize>()?);
-    value_in_line(alloc, here, from, unfolded(alloc, line)?.as_str())
+    let (here, rest) = number_before(arguments)?;
+    let (from, line) = number_before(rest)?;
+    value_in_line(alloc, here, from as usize, unfolded(alloc, line)?.as_str())
 }
 
 /// The values at address 10 of `(a0 - .) * 12b`, where a symbol gives 30 and a local label -4, and where the symbol is a constant
@@ -119,26 +117,26 @@ pub fn values_of_names(alloc: Global, _arguments: &str) -> Result<String, Fail> 
     let first = value(&expression, &given, 10, &mut tally);
     let second = value(&expression, &later, 10, &mut tally);
     let counted = tally.valued_calls();
-    Ok(format!(in alloc; "{first:?} {second:?} {counted}")?)
+    made(format!(in alloc; "{first:?} {second:?} {counted}"))
 }
 
 fn symbol_text(alloc: Global, name: &[u8]) -> Result<String, Fail> {
     let name = str::from_utf8(name)?;
-    Ok(format!(in alloc; "symbol {name}")?)
+    made(format!(in alloc; "symbol {name}"))
 }
 
 fn local_text(alloc: Global, number: u16, direction: Direction) -> Result<String, Fail> {
-    Ok(format!(in alloc; "local {number} {direction:?}")?)
+    made(format!(in alloc; "local {number} {direction:?}"))
 }
 
 fn node_text(alloc: Global, node: &Node) -> Result<String, Fail> {
     match node {
-        Node::Number(n) => Ok(format!(in alloc; "number {n}")?),
+        Node::Number(n) => made(format!(in alloc; "number {n}")),
         Node::Symbol(name) => symbol_text(alloc, name.bytes()),
         Node::Local(number, direction) => local_text(alloc, *number, *direction),
-        Node::Here => Ok(String::from_str(alloc, "here")?),
-        Node::Unary(op, _) => Ok(format!(in alloc; "{op:?}")?),
-        Node::Binary(op, _, _) => Ok(format!(in alloc; "{op:?}")?),
+        Node::Here => copied(alloc, "here"),
+        Node::Unary(op, _) => debugged(alloc, *op),
+        Node::Binary(op, _, _) => debugged(alloc, *op),
     }
 }
 
@@ -152,7 +150,7 @@ fn label_text(alloc: Global, label: &LabelReference) -> Result<String, Fail> {
     match label {
         LabelReference::Symbol(name) => symbol_text(alloc, name.bytes()),
         LabelReference::Local(number, direction) => local_text(alloc, *number, *direction),
-        LabelReference::Here => Ok(String::from_str(alloc, "here")?),
+        LabelReference::Here => copied(alloc, "here"),
     }
 }
 
@@ -160,7 +158,7 @@ fn label_text(alloc: Global, label: &LabelReference) -> Result<String, Fail> {
 pub fn label(alloc: Global, arguments: &str) -> Result<String, Fail> {
     match expression_from(alloc, arguments, 0)??.into_label() {
         Some(label) => label_text(alloc, &label),
-        None => Ok(String::from_str(alloc, "none")?),
+        None => copied(alloc, "none"),
     }
 }
 
@@ -178,9 +176,8 @@ fn depth_from(alloc: Global, line: &[u8], from: usize) -> Result<usize, Fail> {
 
 /// How many parentheses are open at one place of a line from a token on.
 pub fn depth(alloc: Global, arguments: &str) -> Result<String, Fail> {
-    let (from, line) = parts_of(arguments);
-    let depth = depth_from(alloc, line.as_bytes(), number_of(from)? as usize)?;
-    Ok(format!(in alloc; "{depth}")?)
+    let (from, line) = number_before(arguments)?;
+    displayed(alloc, depth_from(alloc, line.as_bytes(), from as usize)?)
 }
 
 // How many parentheses are open after a line's one token, where so many are before it.
@@ -194,16 +191,15 @@ fn depth_behind(alloc: Global, line: &[u8], depth: u32) -> Result<usize, Fail> {
 
 /// How many parentheses are open after a token, where so many are before it.
 pub fn depth_after_token(alloc: Global, arguments: &str) -> Result<String, Fail> {
-    let (depth, line) = parts_of(arguments);
-    let depth = depth_behind(alloc, line.as_bytes(), number_of(depth)?)?;
-    Ok(format!(in alloc; "{depth}")?)
+    let (depth, line) = number_before(arguments)?;
+    displayed(alloc, depth_behind(alloc, line.as_bytes(), depth)?)
 }
 
 // The fault of a line for a fault of a value, and its number.
 fn line_fault(alloc: Global, fault: ValueFault) -> Result<String, Fail> {
     let found = fault.line_fault();
     let number = found.number();
-    Ok(format!(in alloc; "{found:?} {number}")?)
+    made(format!(in alloc; "{found:?} {number}"))
 }
 
 /// The fault of a line for the fault of a value that has this name.
@@ -224,5 +220,5 @@ pub fn reading_refusals(alloc: Global, _arguments: &str) -> Result<String, Fail>
     let deep = ReadFault::Deep.number();
     let operand = ReadFault::Operand.number();
     let memory = ReadFault::Memory.number();
-    Ok(format!(in alloc; "{deep} {operand} {memory}")?)
+    made(format!(in alloc; "{deep} {operand} {memory}"))
 }

@@ -5,13 +5,12 @@ ghost use Rattle.rv_layout.specs.Effects.{offset_reached};
 ghost use Rattle.rv_layout.specs.Places.{sum_below};
 ghost use Rattle.rv_layout.specs.Sections.{sections};
 
-use crate::row::{number_of, parts_of};
+use crate::row::{debugged, found, made, number_before, number_of, parts_of};
 use rv_layout::{Consts, Layout, Measured, SECTIONS, base_ok, bases as bases_of, measure, place};
 use rv_stmt::{data_are_few, read_line};
 use rv_text::Tally;
 use rv_tree::Joined;
 use std::alloc::Global;
-use std::array;
 use std::test::Fail;
 
 // The values of two names, if they have one.
@@ -69,7 +68,7 @@ fn measured(alloc: Global, constants: &Constants, line: &str) -> Result<(Measure
 pub fn shape(alloc: Global, arguments: &str) -> Result<String, Fail> {
     let (constants, line) = parts_of(arguments);
     let (shape, valued) = measured(alloc, &constants_of(constants)?, line)?;
-    Ok(format!(in alloc; "{shape:?}, {valued} computed")?)
+    made(format!(in alloc; "{shape:?}, {valued} computed"))
 }
 
 // The layout of the lines of a text.
@@ -104,7 +103,7 @@ fn text_of_end(alloc: Global, layout: &Layout, base: &str) -> Result<String, Fai
     }
     let section = layout.section();
     let address = place(layout, base, layout);
-    Ok(format!(in alloc; "{section:?} {address:#x}")?)
+    made(format!(in alloc; "{section:?} {address:#x}"))
 }
 
 /// `end BASE CONSTANTS LINES`: the section and the address after the lines of a text that begins at the base.
@@ -127,37 +126,34 @@ fn filled(layout: Layout, lines: u32) -> Layout {
 /// `filled_end BASE COUNT LINES`: the same after the lines and so many of 65,536 bytes.
 pub fn filled_end(alloc: Global, arguments: &str) -> Result<String, Fail> {
     let (base, rest) = parts_of(arguments);
-    let (count, text) = parts_of(rest);
-    let layout = filled(layout_of(alloc, &NONE, text)?, number_of(count)?);
+    let (count, text) = number_before(rest)?;
+    let layout = filled(layout_of(alloc, &NONE, text)?, count);
     text_of_end(alloc, &layout, base)
 }
 
 /// `bases BASE LINES`: where each section of the text begins.
 pub fn bases(alloc: Global, arguments: &str) -> Result<String, Fail> {
-    let (base, text) = parts_of(arguments);
-    let base = number_of(base)?;
+    let (base, text) = number_before(arguments)?;
     let layout = layout_of(alloc, &NONE, text)?;
     if !ends_fit(&layout) || !base_ok(base) {
         return Err(Fail::new("a text that is too long, or a base that is none"));
     }
-    let bases = bases_of(&layout, base);
-    let bases = bases.as_slice();
-    Ok(format!(in alloc; "{bases:?}")?)
+    debugged(alloc, bases_of(&layout, base))
 }
 
 // The section and the offset in each section.
 fn text_of_offsets(alloc: Global, layout: &Layout) -> Result<String, Fail> {
     let section = layout.section();
-    let offsets: [u32; SECTIONS] = array::from_fn(|section| layout.offset(section));
-    let offsets = offsets.as_slice();
-    Ok(format!(in alloc; "{section:?} {offsets:?}")?)
+    let mut offsets = [0; SECTIONS];
+    for section in 0..SECTIONS {
+        offsets[section] = layout.offset(section);
+    }
+    made(format!(in alloc; "{section:?} {offsets:?}"))
 }
 
 /// `joined LINES || LINES`: the section and the offset in each section after both texts, by their joined layouts.
 pub fn joined(alloc: Global, texts: &str) -> Result<String, Fail> {
-    let Some((first, next)) = texts.split_once(" || ") else {
-        return Err(Fail::new("a row without two texts"));
-    };
+    let (first, next) = found(texts.split_once(" || "), "a row without two texts")?;
     let first = layout_of(alloc, &NONE, first)?;
     let next = layout_of(alloc, &NONE, next)?;
     text_of_offsets(alloc, &first.join(&next))

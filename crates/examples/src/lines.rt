@@ -2,7 +2,9 @@
 
 ghost use Rattle.std.specs.Prelude.{◌≤◌, length, IfOk};
 
-use crate::row::{bytes_of, parts_of, shown, text_of, unfolded, unquoted};
+use crate::row::{
+    bytes_of, debugged, displayed, made, number_before, shown, text_of, unfolded, unquoted,
+};
 use rv_text::{
     Fault, MAX_LINE_LENGTH, Span, Token, TokenKind, Tokens, digits, escaped, is_local_number,
     number, tokens,
@@ -32,8 +34,8 @@ pub fn tokens_of(alloc: Global, line: &[u8]) -> Result<Tokens<'_>, Fail> {
 fn kinds_text(alloc: Global, tokens: &[Token], fault: Option<Fault>) -> Result<String, Fail> {
     let kinds = kinds(alloc, tokens)?;
     match fault {
-        Some(fault) => Ok(format!(in alloc; "{kinds:?} {:?}", fault.number)?),
-        None => Ok(format!(in alloc; "{kinds:?}")?),
+        Some(fault) => made(format!(in alloc; "{kinds:?} {:?}", fault.number)),
+        None => made(format!(in alloc; "{kinds:?}")),
     }
 }
 
@@ -43,7 +45,11 @@ fn kinds_of(alloc: Global, line: &[u8]) -> Result<String, Fail> {
 }
 
 fn kinds(alloc: Global, tokens: &[Token]) -> Result<Vec<TokenKind>, AllocError> {
-    tokens.iter().map(|token| token.kind).collect(alloc)
+    let mut kinds = Vec::new(alloc);
+    for token in tokens {
+        kinds.push(token.kind)?;
+    }
+    Ok(kinds)
 }
 
 /// The kinds of a line's tokens, and its fault.
@@ -63,16 +69,21 @@ fn span_ends(span: Span) -> (u32, u32) {
 }
 
 fn places(alloc: Global, tokens: &[Token]) -> Result<Vec<(u32, u32)>, AllocError> {
-    tokens
-        .iter()
-        .map(|token| span_ends(token.span))
-        .collect(alloc)
+    let mut places = Vec::new(alloc);
+    for token in tokens {
+        places.push(span_ends(token.span))?;
+    }
+    Ok(places)
+}
+
+fn fault_place(fault: Option<Fault>) -> Option<(u32, u32)> {
+    Some(span_ends(fault?.span))
 }
 
 fn places_text(alloc: Global, tokens: &[Token], fault: Option<Fault>) -> Result<String, Fail> {
     let places = places(alloc, tokens)?;
-    let fault = fault.map(|fault| span_ends(fault.span));
-    Ok(format!(in alloc; "{places:?} {fault:?}")?)
+    let fault = fault_place(fault);
+    made(format!(in alloc; "{places:?} {fault:?}"))
 }
 
 /// Where a line's tokens begin and end, and where its fault does.
@@ -92,9 +103,9 @@ fn token_at(alloc: Global, line: &[u8], index: usize) -> Result<String, Fail> {
 
 /// The text of the token of this number.
 pub fn token_text(alloc: Global, arguments: &str) -> Result<String, Fail> {
-    let (index, line) = parts_of(arguments);
+    let (index, line) = number_before(arguments)?;
     let line = unfolded(alloc, line)?;
-    token_at(alloc, line.as_str().as_bytes(), index.parse::<usize>()?)
+    token_at(alloc, line.as_str().as_bytes(), index as usize)
 }
 
 /// The value of a number.
@@ -109,13 +120,11 @@ pub fn digits_value(alloc: Global, arguments: &str) -> Result<String, Fail> {
 
 /// Whether a text is the number of a local label.
 pub fn numbers_local_label(alloc: Global, arguments: &str) -> Result<String, Fail> {
-    let is_number = is_local_number(unquoted(arguments).as_bytes());
-    Ok(format!(in alloc; "{is_number}")?)
+    displayed(alloc, is_local_number(unquoted(arguments).as_bytes()))
 }
 
 /// The byte that is spelled at a place of a string or a character, and the place after it.
 pub fn spelled_byte(alloc: Global, arguments: &str) -> Result<String, Fail> {
-    let (at, text) = parts_of(arguments);
-    let spelled = escaped(text.as_bytes(), at.parse::<usize>()?);
-    Ok(format!(in alloc; "{spelled:?}")?)
+    let (at, text) = number_before(arguments)?;
+    debugged(alloc, escaped(text.as_bytes(), at as usize))
 }

@@ -1,6 +1,6 @@
 //! The tables of operations, registers, and control and status registers.
 
-use crate::row::{named, number_of, parts_of, shown, unquoted};
+use crate::row::{copied, displayed, found, made, named, number_of, parts_of, shown, unquoted};
 use rv_ops::{
     Csr, Op, Reg, TABLE, TableRow, classes, csr_by_name, csr_name, first_named, fixed, is_name,
     limits, mask, name_of, op_by_name, reg_by_name, reg_name, row, shape, sign,
@@ -10,10 +10,7 @@ use std::test::Fail;
 
 /// The operation of a name.
 pub fn operation_of(name: &str) -> Result<Op, Fail> {
-    let Some(op) = op_by_name(name.as_bytes()) else {
-        return Err(Fail::new("a name of no operation"));
-    };
-    Ok(op)
+    found(op_by_name(name.as_bytes()), "a name of no operation")
 }
 
 // Whether every way to look an operation up leads to this row.
@@ -30,13 +27,13 @@ fn is_looked_up(entry: &TableRow) -> bool {
 // The row at a place: the operation, its name and its shape.
 fn operation_at(alloc: Global, table: &[TableRow], place: usize) -> Result<String, Fail> {
     let Some(entry) = table.get(place) else {
-        return Ok(String::from_str(alloc, "none")?);
+        return copied(alloc, "none");
     };
     if !is_looked_up(entry) {
-        return Ok(String::from_str(alloc, "looked up otherwise")?);
+        return copied(alloc, "looked up otherwise");
     }
     let (op, name, shape) = (entry.0, entry.1, entry.2);
-    Ok(format!(in alloc; "{op:?} {name} {shape:?}")?)
+    made(format!(in alloc; "{op:?} {name} {shape:?}"))
 }
 
 /// The table of operations.
@@ -62,9 +59,9 @@ pub fn operands(alloc: Global, arguments: &str) -> Result<String, Fail> {
     let (least, greatest, multiple) = (limits.least, limits.greatest, limits.multiple);
     let (first, last) = (limits.gap_first, limits.gap_last);
     let (own, modulus) = (sign.greatest, sign.modulus);
-    Ok(format!(in alloc;
+    made(format!(in alloc;
         "{rd:?} {rs1:?} {rs2:?}, {least} to {greatest} by {multiple} without {first} to {last}, {own} less {modulus}"
-    )?)
+    ))
 }
 
 /// What is wrong with a value for an operation.
@@ -77,35 +74,37 @@ pub fn limit(alloc: Global, arguments: &str) -> Result<String, Fail> {
 /// The name of the register of a number.
 pub fn register(alloc: Global, arguments: &str) -> Result<String, Fail> {
     match Reg::new(arguments.parse::<u8>()?) {
-        Some(register) => Ok(String::from_str(alloc, reg_name(register))?),
-        None => Ok(String::from_str(alloc, "none")?),
+        Some(register) => copied(alloc, reg_name(register)),
+        None => copied(alloc, "none"),
     }
 }
 
 /// The number of the register of a name.
 pub fn register_named(alloc: Global, arguments: &str) -> Result<String, Fail> {
-    let register = reg_by_name(unquoted(arguments).as_bytes());
-    shown(alloc, register.map(|register| register.number()))
+    match reg_by_name(unquoted(arguments).as_bytes()) {
+        Some(register) => displayed(alloc, register.number()),
+        None => copied(alloc, "none"),
+    }
 }
 
 /// The number of the register that reads as 0.
 pub fn zero_register(alloc: Global, _arguments: &str) -> Result<String, Fail> {
-    shown(alloc, Some(Reg::ZERO.number()))
+    displayed(alloc, Reg::ZERO.number())
 }
 
 /// The name of the control and status register of a number.
 pub fn csr(alloc: Global, arguments: &str) -> Result<String, Fail> {
     match Csr::new(u16::try_from(number_of(arguments)?)?) {
         Some(csr) => shown(alloc, csr_name(csr)),
-        None => Ok(String::from_str(alloc, "no register")?),
+        None => copied(alloc, "no register"),
     }
 }
 
 /// The number of the control and status register of a name.
 pub fn csr_named(alloc: Global, arguments: &str) -> Result<String, Fail> {
     match csr_by_name(unquoted(arguments).as_bytes()) {
-        Some(csr) => Ok(format!(in alloc; "0x{:x}", csr.number())?),
-        None => Ok(String::from_str(alloc, "none")?),
+        Some(csr) => made(format!(in alloc; "0x{:x}", csr.number())),
+        None => copied(alloc, "none"),
     }
 }
 
@@ -123,14 +122,13 @@ pub fn named_csrs(alloc: Global, _arguments: &str) -> Result<String, Fail> {
     for number in 0..4096 {
         count = count.wrapping_add(u32::from(has_name(number)));
     }
-    Ok(format!(in alloc; "{count}")?)
+    displayed(alloc, count)
 }
 
 /// Whether a text is a name in any letter case.
 pub fn is_same_name(alloc: Global, arguments: &str) -> Result<String, Fail> {
     let (name, text) = parts_of(arguments);
-    let is_same = is_name(unquoted(name), unquoted(text).as_bytes());
-    Ok(format!(in alloc; "{is_same}")?)
+    displayed(alloc, is_name(unquoted(name), unquoted(text).as_bytes()))
 }
 
 // Names with their numbers, of which two differ in letter case alone.

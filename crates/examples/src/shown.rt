@@ -2,7 +2,7 @@
 
 ghost use Rattle.std.specs.Prelude.{◌<◌, ◌-◌, ◌^◌};
 
-use crate::row::{number_of, pairs_of, parts_of};
+use crate::row::{found, made, number_before, pairs_of, parts_of};
 use crate::table::Table;
 use crate::table_items::{table_of, table_of_equal};
 use rv_layout::SECTIONS;
@@ -72,13 +72,13 @@ pub fn text(alloc: Global, arguments: &str) -> Result<String, Fail> {
 // The pairs of digits of bytes, in brackets.
 fn in_brackets(alloc: Global, bytes: &[u8]) -> Result<String, Fail> {
     let pairs = pairs_of(alloc, bytes)?;
-    Ok(format!(in alloc; "[{}]", pairs.as_str())?)
+    made(format!(in alloc; "[{}]", pairs.as_str()))
 }
 
 /// The bytes of a section of a table, by its number, in brackets.
 pub fn bytes_of_section(alloc: Global, arguments: &str) -> Result<String, Fail> {
-    let (section, items) = parts_of(arguments);
-    let section = number_of(section)? as usize;
+    let (section, items) = number_before(arguments)?;
+    let section = section as usize;
     if section >= SECTIONS {
         return Err(Fail::new("no section"));
     }
@@ -97,17 +97,15 @@ fn written_row(alloc: Global, text: &str) -> Result<String, Fail> {
 
 // What stands before a text in a row, how many bytes it has, and what stands behind it.
 fn parts_around(alloc: Global, row: &str, text: &str) -> Result<String, Fail> {
-    let Some((columns, rest)) = row.split_once(text) else {
-        return Err(Fail::new("a row without its text"));
-    };
-    Ok(format!(in alloc; "{columns}, {} bytes, {rest}", text.len())?)
+    let (columns, rest) = found(row.split_once(text), "a row without its text")?;
+    made(format!(in alloc; "{columns}, {} bytes, {rest}", text.len()))
 }
 
 /// A row of columns and a text that is one repeated: what stands before the text, how many bytes it has, and what stands
 /// behind it.
 pub fn pushed_row(alloc: Global, arguments: &str) -> Result<String, Fail> {
-    let (count, part) = parts_of(arguments);
-    let text = part.repeat(alloc, number_of(count)? as usize)?;
+    let (count, part) = number_before(arguments)?;
+    let text = part.repeat(alloc, count as usize)?;
     let row = written_row(alloc, text.as_str())?;
     parts_around(alloc, row.as_str(), text.as_str())
 }
@@ -142,7 +140,7 @@ fn outcomes(alloc: Global, kind: Kind, table: &Table<'_>, whole: &[u8]) -> Resul
     for m in 1..10 {
         outcomes.push(outcome_at(alloc, kind, table, m, whole)?)?;
     }
-    Ok(outcomes.as_slice().join(alloc, " ")?)
+    made(outcomes.as_slice().join(alloc, " "))
 }
 
 // The same, beside a writer that does not fail.
@@ -155,8 +153,8 @@ fn outcomes_of(alloc: Global, kind: Kind, table: &Table<'_>) -> Result<String, F
 /// a beginning of the text, or took the `whole` because the text needs fewer calls.
 pub fn failing_writer(alloc: Global, arguments: &str) -> Result<String, Fail> {
     let (kind, rest) = parts_of(arguments);
-    let (count, item) = parts_of(rest);
+    let (count, item) = number_before(rest)?;
     let kind = kind_of(kind)?;
-    let table = table_of_equal(alloc, number_of(count)?, item)?;
+    let table = table_of_equal(alloc, count, item)?;
     outcomes_of(alloc, kind, &table)
 }

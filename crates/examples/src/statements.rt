@@ -1,7 +1,7 @@
 //! The statements of lines, and the instructions that they stand for.
 
 use crate::encodings::word_text;
-use crate::row::{bytes_of, parts_of};
+use crate::row::{bytes_of, made, parts_of};
 use crate::statement_text::text_of;
 use rv_code::{Fields, word_of};
 use rv_stmt::{
@@ -52,7 +52,7 @@ fn words_of(alloc: Global, instructions: &Instructions) -> Result<String, Fail> 
         Instructions::Two(first, second) => {
             let first = machine_text(alloc, first)?;
             let second = machine_text(alloc, second)?;
-            Ok(format!(in alloc; "{first} {second}")?)
+            made(format!(in alloc; "{first} {second}"))
         }
     }
 }
@@ -75,7 +75,7 @@ fn words_of_body(alloc: Global, body: &Body, value: i32) -> Result<String, Fail>
             let instructions = expanded(instruction, value);
             let words = words_of(alloc, &instructions)?;
             let size = instructions.size();
-            Ok(format!(in alloc; "{words}, {size} bytes")?)
+            made(format!(in alloc; "{words}, {size} bytes"))
         }
         _ => Err(Fail::new("a line without an instruction")),
     }
@@ -96,7 +96,7 @@ pub fn words(alloc: Global, arguments: &str) -> Result<String, Fail> {
 fn expansion_text(alloc: Global, operands: &[Operand]) -> Result<String, Fail> {
     let expansion = expansion_of(operands);
     let count = operands.len();
-    Ok(format!(in alloc; "{expansion:?} {count}")?)
+    made(format!(in alloc; "{expansion:?} {count}"))
 }
 
 /// `expansion LINE`: what the line expands to, and how many operands wait for a value.
@@ -111,5 +111,5 @@ pub fn value_parts(alloc: Global, value: &str) -> Result<String, Fail> {
     let bits = word_bits(value);
     let high = high_part(value);
     let low = low_part(value);
-    Ok(format!(in alloc; "{bits} {high} {low}")?)
+    made(format!(in alloc; "{bits} {high} {low}"))
 }

@@ -1,6 +1,6 @@
 //! Readers and writers, of which calls fail, counters, and the texts that are put together for output.
 
-use crate::row::{number_of, text_of};
+use crate::row::{displayed, made, number_of, text_of};
 use rv_text::{
     Count, Failed, FailsAt, MemSink, MemSource, OutputBlock, OutputRow, Sequence, Sink, Source,
     StdSink, StdSource, Tally, TextError, write_all,
@@ -18,7 +18,7 @@ fn outcome<T: Debug>(
     bytes: &[u8],
 ) -> Result<String, Fail> {
     let text = str::from_utf8(bytes)?;
-    Ok(format!(in alloc; "{calls:?} {text}")?)
+    made(format!(in alloc; "{calls:?} {text}"))
 }
 
 /// What four writes into three bytes of memory give, and what is in it then: two bytes are taken, one of two, none of none, and
@@ -97,7 +97,7 @@ impl Write for Interrupted {
 pub fn interrupted_outside(alloc: Global, _arguments: &str) -> Result<String, Fail> {
     let read = StdSource::new(Interrupted).read(&mut [0; 2]);
     let written = write_all(&mut StdSink::new(Interrupted), b"abc");
-    Ok(format!(in alloc; "{read:?} {written:?}")?)
+    made(format!(in alloc; "{read:?} {written:?}"))
 }
 
 /// What a write of `abc` into two bytes gives through a writer of std, and what was written.
@@ -113,7 +113,7 @@ fn block_outcome(
     calls: &[Result<(), Failed>],
     written: [usize; 2],
 ) -> Result<String, Fail> {
-    Ok(format!(in alloc; "{calls:?} {written:?}")?)
+    made(format!(in alloc; "{calls:?} {written:?}"))
 }
 
 /// What five texts of 1,000 bytes and a flush give to a block whose sink fails at the call of this number, and how many bytes are written
@@ -177,7 +177,7 @@ pub fn counter(alloc: Global, _arguments: &str) -> Result<String, Fail> {
     let counted = counts(&tally);
     tally.reset();
     let reset = counts(&tally);
-    Ok(format!(in alloc; "{counted:?} {reset:?}")?)
+    made(format!(in alloc; "{counted:?} {reset:?}"))
 }
 
 /// Whether a new list is empty, and the list after 7 and 300 were appended.
@@ -186,11 +186,10 @@ pub fn appended(alloc: Global, _arguments: &str) -> Result<String, Fail> {
     let is_empty = values.as_slice().is_empty();
     values.push(7)?;
     values.push(300)?;
-    Ok(format!(in alloc; "{is_empty} {:?}", values.as_slice())?)
+    made(format!(in alloc; "{is_empty} {:?}", values.as_slice()))
 }
 
 /// The number of the refusal where memory runs out.
 pub fn memory_refusal(alloc: Global, _arguments: &str) -> Result<String, Fail> {
-    let number = TextError::Memory.number();
-    Ok(format!(in alloc; "{number}")?)
+    displayed(alloc, TextError::Memory.number())
 }

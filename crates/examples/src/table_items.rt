@@ -40,7 +40,6 @@ fn code_of(alloc: Global, text: &str, address: u32) -> Result<Coded, Fail> {
 
 // A line at a place.
 fn row_at<'a>(alloc: Global, text: &'a str, place: LinePlace) -> Result<Row<'a>, Fail> {
-    let code = code_of(alloc, text, place.address)?;
     let stmt = statement_of_line(alloc, text.as_bytes())?;
     if stmt.labels.len() > 1000 {
         return Err(Fail::new("many labels"));
@@ -49,7 +48,7 @@ fn row_at<'a>(alloc: Global, text: &'a str, place: LinePlace) -> Result<Row<'a>,
         text,
         stmt,
         place,
-        code,
+        code: code_of(alloc, text, place.address)?,
     })
 }
 

@@ -1,7 +1,7 @@
 //! Lists of blocks that are kept in a tree. A list is shown as its blocks with the sums between them: `0 +10 10 +20 30` has blocks
 //! of 10 and of 20 bytes.
 
-use crate::row::{number_of, parts_of};
+use crate::row::{found, made, number_before, number_of, parts_of};
 use rv_tree::{SumTree, TreeError};
 use std::alloc::Global;
 use std::cell::Cell;
@@ -25,10 +25,8 @@ fn push_block(shown: &mut String, tree: &SumTree<Block>, k: u32) -> Result<(), F
         return Err(Fail::new("a place behind the list"));
     }
     let sum = tree.prefix(k).size;
-    match tree.get(k + 1) {
-        Some(block) => Ok(write!(shown, "{sum} +{} ", block.size)?),
-        None => Err(Fail::new("a place without a block")),
-    }
+    let block = found(tree.get(k + 1), "a place without a block")?;
+    Ok(write!(shown, "{sum} +{} ", block.size)?)
 }
 
 // The blocks, each behind the sum of those before it, and the sum of all.
@@ -78,14 +76,12 @@ fn lists_text(alloc: Global, trees: &[SumTree<Block>]) -> Result<String, Fail> {
     for tree in trees {
         texts.push(list_text(alloc, tree)?)?;
     }
-    Ok(texts.as_slice().join(alloc, "; ")?)
+    made(texts.as_slice().join(alloc, "; "))
 }
 
 // Appends the list that an edit makes of the last one.
 fn push_edited(trees: &mut Vec<SumTree<Block>>, edit: &str) -> Result<(), Fail> {
-    let Some(tree) = trees.as_slice().last() else {
-        return Err(Fail::new("no list"));
-    };
+    let tree = found(trees.as_slice().last(), "no list")?;
     let next = edited(tree, edit)?;
     Ok(trees.push(next)?)
 }
@@ -133,15 +129,14 @@ fn refusals_at(alloc: Global, tree: &SumTree<Block>, place: u32) -> Result<Strin
     let found = tree.get(place).map_or("none", |_| "block");
     let list = list_text(alloc, tree)?;
     let texts = [deletion, replacement, insertion, found, list.as_str()];
-    Ok(texts.as_slice().join(alloc, ", ")?)
+    made(texts.as_slice().join(alloc, ", "))
 }
 
 /// With what the deletion, the replacement and the insertion of a block at a place of a list are refused, whether there is a
 /// block, and the list after them.
 pub fn refusals(alloc: Global, arguments: &str) -> Result<String, Fail> {
-    let (place, sizes) = parts_of(arguments);
-    let tree = list_of(alloc, sizes)?;
-    refusals_at(alloc, &tree, number_of(place)?)
+    let (place, sizes) = number_before(arguments)?;
+    refusals_at(alloc, &list_of(alloc, sizes)?, place)
 }
 
 /// The errors of a tree with their numbers.
@@ -149,7 +144,7 @@ pub fn error_numbers(alloc: Global) -> Result<String, Fail> {
     let place = TreeError::Place.number();
     let full = TreeError::Full.number();
     let memory = TreeError::Memory.number();
-    Ok(format!(in alloc; "Place {place}, Full {full}, Memory {memory}")?)
+    made(format!(in alloc; "Place {place}, Full {full}, Memory {memory}"))
 }
 
 // A list in a tree, and the sizes of its blocks in a `Vec`.
@@ -159,31 +154,34 @@ struct ListAndVec {
     sizes: Vec<u64>,
 }
 
-// Puts blocks in first, one after another.
-fn grown_in_front(alloc: Global, count: u32) -> Result<ListAndVec, Fail> {
-    let mut tree = SumTree::new(alloc);
-    let mut sizes = Vec::new(alloc);
-    for size in 0..u64::from(count) {
-        tree = tree.inserted(1, Block { size })?;
-        sizes.insert(0, size)?;
-    }
-    Ok(ListAndVec { tree, sizes })
-}
-
-// Puts blocks in last, one after another.
-fn grown_behind(grown: ListAndVec, first: u32, end: u32) -> Result<ListAndVec, Fail> {
-    let ListAndVec {
-        mut tree,
-        mut sizes,
-    } = grown;
-    for size in u64::from(first)..u64::from(end) {
-        tree = tree.inserted(tree.len() + 1, Block { size })?;
-        sizes.push(size)?;
-    }
-    Ok(ListAndVec { tree, sizes })
-}
-
 impl ListAndVec {
+    // Puts a block in first.
+    fn add_in_front(&mut self, size: u64) -> Result<(), Fail> {
+        self.tree = self.tree.inserted(1, Block { size })?;
+        Ok(self.sizes.insert(0, size)?)
+    }
+
+    // Puts a block in last.
+    fn add_behind(&mut self, size: u64) -> Result<(), Fail> {
+        self.tree = self.tree.inserted(self.tree.len() + 1, Block { size })?;
+        Ok(self.sizes.push(size)?)
+    }
+
+    // As many blocks in front, and behind them as many as make all.
+    fn grown(alloc: Global, front: u32, all: u32) -> Result<ListAndVec, Fail> {
+        let mut grown = ListAndVec {
+            tree: SumTree::new(alloc),
+            sizes: Vec::new(alloc),
+        };
+        for size in 0..front {
+            grown.add_in_front(u64::from(size))?;
+        }
+        for size in front..all {
+            grown.add_behind(u64::from(size))?;
+        }
+        Ok(grown)
+    }
+
     // Whether the tree has this block behind the first `k`, and the sum of these.
     fn has(&self, k: u32, size: u64, sum: u64) -> bool {
         k <= self.tree.len()
@@ -208,19 +206,16 @@ impl ListAndVec {
         let len = self.tree.len();
         let total = self.tree.total().size;
         let height = self.tree.height().max(15);
-        Ok(format!(in alloc;
+        made(format!(in alloc;
             "{len} blocks of {total} bytes, {equal} of {sum} as in a Vec, height up to {height}"
-        )?)
+        ))
     }
 }
 
 /// A list that grows to so many blocks in front, and behind them to so many in all, compared with a `Vec`.
 pub fn grown(alloc: Global, arguments: &str) -> Result<String, Fail> {
-    let (front, all) = parts_of(arguments);
-    let (front, all) = (number_of(front)?, number_of(all)?);
-    let grown = grown_in_front(alloc, front)?;
-    let grown = grown_behind(grown, front, all)?;
-    grown.compared(alloc)
+    let (front, all) = number_before(arguments)?;
+    ListAndVec::grown(alloc, front, number_of(all)?)?.compared(alloc)
 }
 
 // As many blocks as a tree has, the last put in first: block `k` has `k` bytes.
@@ -239,7 +234,7 @@ fn refused_insertions(alloc: Global, tree: &SumTree<Block>, places: &str) -> Res
     for place in places.split(" ") {
         refusals.push(insertion_refusal(tree, number_of(place)?))?;
     }
-    Ok(refusals.as_slice().join(alloc, " ")?)
+    made(refusals.as_slice().join(alloc, " "))
 }
 
 /// With what insertions into a full tree at some places are refused.
@@ -252,7 +247,7 @@ pub fn full(alloc: Global, places: &str) -> Result<String, Fail> {
 pub fn full_length(alloc: Global) -> Result<String, Fail> {
     let tree = full_tree(alloc)?;
     let (len, without) = (tree.len(), tree.deleted(1)?.len());
-    Ok(format!(in alloc; "{len} {without}")?)
+    made(format!(in alloc; "{len} {without}"))
 }
 
 // What a pass did to a tree that set the block of a place to no bytes.
@@ -262,16 +257,13 @@ fn set_text(
     set: &SumTree<Block>,
     pass: &SetAt,
 ) -> Result<String, Fail> {
-    let Some(block) = set.get(pass.place) else {
-        return Err(Fail::new("a place without a block"));
-    };
-    let left = block.size;
+    let left = found(set.get(pass.place), "a place without a block")?.size;
     let total = tree.total().size;
     let removed = total.wrapping_sub(set.total().size);
     let (handed, asked) = (pass.handed.get() / 1000, pass.asked.get() / 1000);
-    Ok(format!(in alloc;
+    made(format!(in alloc;
         "{total} bytes, {removed} removed, {left} left there, {handed} thousand handed, {asked} thousand asked"
-    )?)
+    ))
 }
 
 /// A pass that sets a block of a full tree to no bytes: how many bytes the tree had, how many fewer it has then, how many the
