@@ -111,17 +111,14 @@ fn values_of_line(alloc: Global, line: &str) -> Result<Values, Fail> {
 }
 
 // Whether a line has these values.
-fn has_values(alloc: Global, values: &Values, line: &str) -> Result<bool, Fail> {
-    Ok(values.is_same(&values_of_line(alloc, line)?))
+fn text_of_same_values(alloc: Global, values: &Values, line: &str) -> Result<String, Fail> {
+    displayed(alloc, values.is_same(&values_of_line(alloc, line)?))
 }
 
 /// `same_values LINE; LINE`: whether two lines have the same values.
 pub fn same_values(alloc: Global, lines: &str) -> Result<String, Fail> {
     let (left, right) = found(lines.split_once("; "), "a row without two lines")?;
-    displayed(
-        alloc,
-        has_values(alloc, &values_of_line(alloc, left)?, right)?,
-    )
+    text_of_same_values(alloc, &values_of_line(alloc, left)?, right)
 }
 
 // A fault from a place on.

@@ -1,11 +1,14 @@
 //! Expressions: their roots, labels, parentheses and values.
 
 use crate::lines::tokens_of;
-use crate::row::{copied, debugged, displayed, made, number_before, shown, unfolded, unquoted};
+use crate::row::{
+    copied, debugged, displayed, found, made, number_before, shown, unfolded, unquoted,
+};
 use rv_expr::{
     Direction, Expr, LabelReference, Names, Node, ReadFault, ValueFault, depth_after, label_number,
     parenthesis_depth, read, value,
 };
+use rv_ops::first_named;
 use rv_text::Tally;
 use std::alloc::Global;
 use std::test::Fail;
@@ -202,17 +205,20 @@ fn line_fault(alloc: Global, fault: ValueFault) -> Result<String, Fail> {
     made(format!(in alloc; "{found:?} {number}"))
 }
 
+// The faults of values by their names.
+const VALUE_FAULTS: [(ValueFault, &str); 6] = [
+    (ValueFault::NotConstant, "NotConstant"),
+    (ValueFault::Undefined, "Undefined"),
+    (ValueFault::LaterEqu, "LaterEqu"),
+    (ValueFault::FaultyEqu, "FaultyEqu"),
+    (ValueFault::Arithmetic, "Arithmetic"),
+    (ValueFault::NoPartner, "NoPartner"),
+];
+
 /// The fault of a line for the fault of a value that has this name.
 pub fn fault_of_line(alloc: Global, arguments: &str) -> Result<String, Fail> {
-    match arguments {
-        "NotConstant" => line_fault(alloc, ValueFault::NotConstant),
-        "Undefined" => line_fault(alloc, ValueFault::Undefined),
-        "LaterEqu" => line_fault(alloc, ValueFault::LaterEqu),
-        "FaultyEqu" => line_fault(alloc, ValueFault::FaultyEqu),
-        "Arithmetic" => line_fault(alloc, ValueFault::Arithmetic),
-        "NoPartner" => line_fault(alloc, ValueFault::NoPartner),
-        _ => Err(Fail::new("no fault of a value")),
-    }
+    let fault = first_named(&VALUE_FAULTS, arguments.as_bytes());
+    line_fault(alloc, found(fault, "no fault of a value")?)
 }
 
 /// The numbers of the refusals to read an expression: too deep, no expression, out of memory.

@@ -9,6 +9,7 @@ use rv_layout::SECTIONS;
 use rv_list::{
     ListError, push_row, section_bytes, write_faults, write_image, write_listing, write_symbols,
 };
+use rv_ops::first_named;
 use rv_text::{FailsAt, MemSink, OutputBlock, Sink};
 use std::alloc::Global;
 use std::test::Fail;
@@ -21,14 +22,16 @@ enum Kind {
     Faults,
 }
 
+// The kinds of texts by their names.
+const KINDS: [(Kind, &str); 4] = [
+    (Kind::Image, "image"),
+    (Kind::Listing, "listing"),
+    (Kind::Symbols, "symbols"),
+    (Kind::Faults, "faults"),
+];
+
 fn kind_of(word: &str) -> Result<Kind, Fail> {
-    match word {
-        "image" => Ok(Kind::Image),
-        "listing" => Ok(Kind::Listing),
-        "symbols" => Ok(Kind::Symbols),
-        "faults" => Ok(Kind::Faults),
-        _ => Err(Fail::new("no kind of text")),
-    }
+    found(first_named(&KINDS, word.as_bytes()), "no kind of text")
 }
 
 // Writes a text of a table.

@@ -7,26 +7,29 @@
 
 use crate::defined::Defined;
 use crate::lines::bytes_of_line;
-use crate::row::{number_of, parts_of};
+use crate::row::{found, number_of, parts_of};
 use crate::statements::statement_of_line;
 use crate::table::{Row, Table};
 use rv_fix::{AssembleError, Coded, assemble_at};
 use rv_layout::{SECTIONS, section_number};
 use rv_list::{DefinitionPlace, LinePlace, SectionPlace};
+use rv_ops::first_named;
 use rv_stmt::Sect;
 use std::alloc::Global;
 use std::test::Fail;
 
+// The sections by their names.
+const SECTION_NAMES: [(Sect, &str); SECTIONS] = [
+    (Sect::Init, ".text.init"),
+    (Sect::Text, ".text"),
+    (Sect::Rodata, ".rodata"),
+    (Sect::Rwdata, ".data"),
+    (Sect::Sdata, ".sdata"),
+    (Sect::Bss, ".bss"),
+];
+
 fn section_of(name: &str) -> Result<Sect, Fail> {
-    match name {
-        ".text.init" => Ok(Sect::Init),
-        ".text" => Ok(Sect::Text),
-        ".rodata" => Ok(Sect::Rodata),
-        ".data" => Ok(Sect::Rwdata),
-        ".sdata" => Ok(Sect::Sdata),
-        ".bss" => Ok(Sect::Bss),
-        _ => Err(Fail::new("no section")),
-    }
+    found(first_named(&SECTION_NAMES, name.as_bytes()), "no section")
 }
 
 // The code of a line. A line that uses names of others has no bytes here.
