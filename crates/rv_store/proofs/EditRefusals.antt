@@ -20,7 +20,7 @@ pub puts_line_instead : (lines : List (List ℕ)) (place : ℕ) (line : List ℕ
 puts_line_instead lines place line none = grind (arith, nat_tests, common_steps)
 
 -- there is room for the line that is put in
-has_room : (lines : List (List ℕ)) (place : ℕ) (line : List ℕ) → refusal_of lines (Insert place line) ≡ None → length lines < 16384
+pub has_room : (lines : List (List ℕ)) (place : ℕ) (line : List ℕ) → refusal_of lines (Insert place line) ≡ None → length lines < 16384
 has_room lines place line none = grind (arith, nat_tests, common_steps)
 
 -- the lines after an edit are lines

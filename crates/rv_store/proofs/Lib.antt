@@ -35,5 +35,6 @@ pub mod Stores
 pub mod Surveys
 pub mod SymbolLaws
 pub mod TextExamples
+pub mod TreeMemory
 pub mod Unmoved
 pub mod UseExamples

@@ -1,4 +1,4 @@
-use Rattle.std.proofs.Common.{◌≡◌, ℕ, ◌+◌, ◌≤◌, List, length, None, arith, ap, sym, subst, ◌∙◌}
+use Rattle.std.proofs.Common.{◌≡◌, ℕ, ◌+◌, ◌-◌, ◌*◌, ◌^◌, ◌<◌, ◌≤◌, List, length, None, arith, ap, sym, subst, ◌∙◌}
 use Rattle.rv_program.specs.declared.item.Item.{Item}
 use Rattle.rv_program.specs.Counted.{counts_of}
 use Rattle.rv_program.specs.Edits.{edit_of, line_before_edit}
@@ -9,6 +9,7 @@ use Rattle.rv_program.specs.internal.ValueRows.{base_of}
 use Rattle.rv_program.specs.lemmas.CountedLines.{nothing_counted, both_counted}
 use Rattle.rv_program.specs.lemmas.ItemLaws.{all_items}
 use Rattle.rv_store.proofs.ItemsLeft.{first-count, with-last, listed-last, counted-last}
+use Rattle.rv_store.proofs.TreeMemory.{insert-by-memory}
 use Rattle.rv_store.proofs.renewal.items_passed.Goals as goal
 
 pub returns-in_err-passed-clause-counted : goal.returns-in_err-passed-clause-counted
@@ -82,3 +83,38 @@ returns-clause-counted g c =
     let is = next-last _ _ _ c.len-line.result c.len.result _ c.in_ok-passed.ensures.items c.len-line.ensures.value c.if-line-len.false c.len.ensures c.requires.left.next in
     counted-last (edited_text c.args.revision.now) (length c.args.items.now.items) (c.len-line.result + 1) (length c.args.rows.now.symbols.text.lines.now) (counts c.args.counter.now) (counts c.renewed_in_one_pass.new.counter) (counts c.line_behind.new.counter)
     (omega (arith, is.0)) is.1 c.renewed_in_one_pass.ensures.counted c.line_behind.ensures.counted
+
+-- There is room in the counts for the last line
+
+values-left : (old new items lines : ℕ) → new + 1000 * 0 ≤ old + 1000 * items → items + 1 ≡ lines → old + 1000 * lines < 2 ^ 64 → new + 1000 < 2 ^ 64
+values-left old new items lines most next room = omega arith
+
+codes-left : (old new items lines : ℕ) → new + 0 ≤ old + items → items + 1 ≡ lines → old + lines < 2 ^ 64 → new < 2 ^ 64 - 1
+codes-left old new items lines most next room = omega arith
+
+pub line_behind-requires-clause-valued : goal.line_behind-requires-clause-valued
+line_behind-requires-clause-valued g c =
+    let count = g.C.Count.valued_count in
+    let is = next-last _ _ _ c.len-line.result c.len.result _ c.in_ok-passed.ensures.items c.len-line.ensures.value c.if-line-len.false c.len.ensures c.requires.left.next in
+    values-left (count c.args.counter.now) (count c.renewed_in_one_pass.new.counter) (length c.args.items.now.items) (length c.args.rows.now.symbols.text.lines.now)
+    c.renewed_in_one_pass.ensures.counted.valued_few (sym is.0 ∙ is.1) c.requires.valued
+
+pub line_behind-requires-clause-encoded : goal.line_behind-requires-clause-encoded
+line_behind-requires-clause-encoded g c =
+    let count = g.C.Count.encoded_count in
+    let is = next-last _ _ _ c.len-line.result c.len.result _ c.in_ok-passed.ensures.items c.len-line.ensures.value c.if-line-len.false c.len.ensures c.requires.left.next in
+    codes-left (count c.args.counter.now) (count c.renewed_in_one_pass.new.counter) (length c.args.items.now.items) (length c.args.rows.now.symbols.text.lines.now)
+    c.renewed_in_one_pass.ensures.counted.encoded_few (sym is.0 ∙ is.1) c.requires.encoded
+
+-- Only memory may be wanting for it
+
+place-left : (line n len lines : ℕ) → line ≡ n → line + 1 ≤ len → len ≡ lines → lines ≤ 16384 → (1 ≤ line + 1) × ((line + 1 ≤ n + 1) × (n < 16384))
+place-left line n len lines same within all few = (omega arith, (omega arith, omega arith))
+
+pub returns-in_err-inserted-clause-memory : goal.returns-in_err-inserted-clause-memory
+returns-in_err-inserted-clause-memory g c =
+    let items = c.in_ok-passed.passed.items in
+    let line = c.len-line.result in
+    let place = place-left line (length items) c.len.result (length c.args.rows.now.symbols.text.lines.now) c.len-line.ensures.value c.if-line-len.false c.len.ensures c.requires.revised.few in
+    let residual = c.from_residual-in_err-inserted in
+    insert-by-memory residual.result c.in_err-inserted.field-0.0 (line + 1) (length items) residual.ensures.1 c.in_err-inserted.ensures.refused place.0 place.1.0 place.1.1

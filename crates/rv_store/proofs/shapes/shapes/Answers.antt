@@ -1,4 +1,4 @@
-use Rattle.std.proofs.Common.{◌≡◌, ◌+◌, ◌≤◌, ◌<◌, length, get_or, set, replicate, None, rules, arith, ap, sym, refl, subst, ◌∙◌}
+use Rattle.std.proofs.Common.{◌≡◌, ℕ, ◌+◌, ◌≤◌, ◌<◌, length, get_or, set, replicate, None, rules, arith, ap, sym, refl, subst, ◌∙◌}
 use Rattle.std.proofs.lemmas.List.{length-map, length-replicate}
 use Rattle.rv_layout.specs.Places.{AreLimited}
 use Rattle.rv_program.specs.Layout.{shape_at}
@@ -159,3 +159,11 @@ pub returns-in_err-shapes-clause-work : goal.returns-in_err-shapes-clause-work
 returns-in_err-shapes-clause-work g c =
     let before = c.args.before.now in
     omega (arith, nothing-shaped (base_before before) (lines_before before) (edit_on before) c.requires.before.allowed (length c.args.lines.now) (ap length c.requires.after))
+
+next-within : (i lines groups : ℕ) → i < lines → groups ≡ lines → i + 1 ≤ groups
+next-within i lines groups within same = omega arith
+
+pub lines_up_to-i-requires-in-loop-i : goal.lines_up_to-i-requires-in-loop-i
+lines_up_to-i-requires-in-loop-i g c = record {
+  within = next-within c.loop-i.i (length c.args.lines.now) (length c.args.groups.now) c.loop-i-test.true (ap length c.requires.groups ∙ length-map c.args.lines.now groups_on);
+}

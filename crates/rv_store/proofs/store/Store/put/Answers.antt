@@ -1,11 +1,12 @@
-use Rattle.std.proofs.Common.{◌≡◌, ◌≤◌, List, ℕ, None, length, map, arith, ap, sym, subst, ◌∙◌}
+use Rattle.std.proofs.Common.{◌≡◌, ◌+◌, ◌≤◌, List, ℕ, None, length, map, arith, ap, sym, subst, ◌∙◌}
 use Rattle.std.specs.List.{AllPass}
 use Rattle.rv_program.specs.declared.item.Item.{Item}
-use Rattle.rv_program.specs.Changes.{changed_lines}
+use Rattle.rv_program.specs.Changes.{changed_lines, most_values, most_codes}
 use Rattle.rv_program.specs.Edits.{edit_of, place_of_edit}
 use Rattle.rv_program.specs.Program.{program_of}
 use Rattle.rv_program.specs.Text.{Edit, Text, is_line, refusal_of, lines_after}
 use Rattle.rv_program.specs.internal.Items.{AreItems}
+use Rattle.rv_program.specs.internal.NewShapes.{shape_operands}
 use Rattle.rv_program.specs.lemmas.Programs.{length-program}
 use Rattle.rv_program.specs.lemmas.ShapeWork.{nothing-counted}
 use Rattle.rv_store.specs.declared.survey.Survey.{Survey}
@@ -133,3 +134,46 @@ pub returns-in-Err-clause-encoded : goal.returns-in-Err-clause-encoded
 returns-in-Err-clause-encoded g c =
     let most = few c.self.inside.base c.self.inside.names c.self.inside.survey c.self.inside.items.items c.self.invariant c.args.self.now c.self.view_is (edit_of c.args.edit.now) c.requires.allowed in
     (c.put_still.ensures.counted.encoded_least, omega (arith, c.put_still.ensures.counted.encoded_few, most))
+
+pub returns-in-Ok-clause-valued : goal.returns-in-Ok-clause-valued
+returns-in-Ok-clause-valued g c =
+    let most = few c.self.inside.base c.self.inside.names c.self.inside.survey c.self.inside.items.items c.self.invariant c.args.self.now c.self.view_is (edit_of c.args.edit.now) c.requires.allowed in
+    (c.put_still.ensures.counted.valued_least, omega (arith, c.put_still.ensures.counted.valued_few, most))
+
+pub returns-in-Ok-clause-encoded : goal.returns-in-Ok-clause-encoded
+returns-in-Ok-clause-encoded g c =
+    let most = few c.self.inside.base c.self.inside.names c.self.inside.survey c.self.inside.items.items c.self.invariant c.args.self.now c.self.view_is (edit_of c.args.edit.now) c.requires.allowed in
+    (c.put_still.ensures.counted.encoded_least, omega (arith, c.put_still.ensures.counted.encoded_few, most))
+
+pub returns-in-Ok-clause-values : goal.returns-in-Ok-clause-values
+returns-in-Ok-clause-values g c =
+    let count = g.C.Count.valued_count in
+    let edit = edit_of c.args.edit.now in
+    by-text c.self.inside.base c.self.inside.names c.self.inside.survey c.self.inside.items.items c.self.invariant c.args.self.now c.self.view_is
+    (λ b ls. count c.put_still.new.counter + shape_operands edit ≤ count c.args.counter.now + most_values b ls edit) c.put_still.ensures.counted.valued_most
+
+pub returns-in-Err-clause-values : goal.returns-in-Err-clause-values
+returns-in-Err-clause-values g c =
+    let count = g.C.Count.valued_count in
+    let edit = edit_of c.args.edit.now in
+    by-text c.self.inside.base c.self.inside.names c.self.inside.survey c.self.inside.items.items c.self.invariant c.args.self.now c.self.view_is
+    (λ b ls. count c.put_still.new.counter + shape_operands edit ≤ count c.args.counter.now + most_values b ls edit) c.put_still.ensures.counted.valued_most
+
+pub returns-in-Ok-clause-codes : goal.returns-in-Ok-clause-codes
+returns-in-Ok-clause-codes g c =
+    let count = g.C.Count.encoded_count in
+    let edit = edit_of c.args.edit.now in
+    by-text c.self.inside.base c.self.inside.names c.self.inside.survey c.self.inside.items.items c.self.invariant c.args.self.now c.self.view_is
+    (λ b ls. count c.put_still.new.counter ≤ count c.args.counter.now + most_codes b ls edit) c.put_still.ensures.counted.encoded_most
+
+pub returns-in-Err-clause-codes : goal.returns-in-Err-clause-codes
+returns-in-Err-clause-codes g c =
+    let count = g.C.Count.encoded_count in
+    let edit = edit_of c.args.edit.now in
+    by-text c.self.inside.base c.self.inside.names c.self.inside.survey c.self.inside.items.items c.self.invariant c.args.self.now c.self.view_is
+    (λ b ls. count c.put_still.new.counter ≤ count c.args.counter.now + most_codes b ls edit) c.put_still.ensures.counted.encoded_most
+
+pub take_back-requires : goal.take_back-requires
+take_back-requires g c =
+    let next = within-next c.requires.still.still in
+    omega (arith, next, length-program c.args.self.now.lines, ap (λ t. length t.lines) c.self.view_is, c.place.ensures.value, c.self.invariant.few)

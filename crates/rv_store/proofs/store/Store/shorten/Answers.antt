@@ -1,4 +1,4 @@
-use Rattle.std.proofs.Common.{◌≡◌, ◌+◌, ◌-◌, suc, ℕ, List, [], ◌∷◌, ◌++◌, length, get_or, map, remove, arith, ap, sym, subst, ◌∙◌}
+use Rattle.std.proofs.Common.{◌≡◌, ◌+◌, ◌-◌, ◌≤◌, ◌<◌, suc, ℕ, List, [], ◌∷◌, ◌++◌, length, get_or, map, remove, arith, ap, sym, subst, ◌∙◌}
 use Rattle.std.specs.List.{AllPass}
 use Rattle.std.proofs.lemmas.List.{length-append, length-map, get_or_append_left}
 use Rattle.std.proofs.Math.Seq.{get_or-append_seam}
@@ -14,6 +14,7 @@ use Rattle.rv_store.specs.internal.Stored.{IsStored}
 use Rattle.rv_store.specs.internal.Surveys.{IsSurvey}
 use Rattle.rv_store.proofs.LastLines.{items-without, lines-without, nothing_changed}
 use Rattle.rv_store.proofs.LongerTexts.{count-longer}
+use Rattle.rv_store.proofs.TreeMemory.{place-by-memory}
 use Rattle.rv_store.proofs.store.Store.shorten.Goals as goal
 
 lined-without : (xs ys : List (List ℕ)) → AllPass is_line (xs ++ ys) → AllPass is_line xs
@@ -46,6 +47,18 @@ module _ (base : ℕ) (names : List (List ℕ)) (survey : Survey) (items : List 
 
   number : length old.lines ≡ suc (length is.lines)
   number = ap length is.whole ∙ count-longer is.lines is.line
+
+  held : length survey.lines.items ≡ suc (length is.lines)
+  held = ap length (stored.listed ∙ whole) ∙ count-longer is.lines is.line
+
+  some : 1 ≤ length survey.lines.items
+  some = omega (arith, held)
+
+  number-within : (k : ℕ) → k ≡ length items → (1 ≤ k) × (k ≤ length items)
+  number-within k at_end = (omega (arith, at_end, count), omega (arith, at_end))
+
+  last-held : (k : ℕ) → k ≡ length items → k - 1 < length survey.lines.items
+  last-held k at_end = omega (arith, at_end, count, held)
 
   module _ (items' : List Item) (k : ℕ) (removed : items' ≡ remove items (k - 1)) (at_end : k ≡ length items) where
     items-left : AreItems base is.lines items'
@@ -98,3 +111,22 @@ returns-clause-changed c =
     let is = c.requires in
     let count : length old.lines ≡ suc (length is.lines) = ap length is.whole ∙ count-longer is.lines is.line in
     c.of.ensures ∙ c.new.ensures.items ∙ sym (nothing_changed is.still) ∙ (λ j. changed_lines old.base (sym is.whole j) (Delete (sym count j)))
+
+pub bounds-as_slice-k : goal.bounds-as_slice-k
+bounds-as_slice-k c =
+    subst (λ ls. c.len-k.result - 1 < length ls) (sym c.as_slice.ensures)
+    (last-held c.self.inside.base c.self.inside.names c.self.inside.survey c.self.inside.items.items c.self.invariant c.args.self.now c.self.view_is c.args.last.now c.requires c.len-k.result c.len-k.ensures.value)
+
+pub remove_last-requires-clause-some : goal.remove_last-requires-clause-some
+remove_last-requires-clause-some c =
+    some c.self.inside.base c.self.inside.names c.self.inside.survey c.self.inside.items.items c.self.invariant c.args.self.now c.self.view_is c.args.last.now c.requires
+
+pub remove_last-requires-clause-few : goal.remove_last-requires-clause-few
+remove_last-requires-clause-few c = subst (λ ls. length ls ≤ 16384) (sym c.self.invariant.listed) c.self.invariant.few
+
+pub returns-in_err-items-clause-memory : goal.returns-in_err-items-clause-memory
+returns-in_err-items-clause-memory c =
+    let k = c.len-k.result in
+    let items = c.self.inside.items.items in
+    let within = number-within c.self.inside.base c.self.inside.names c.self.inside.survey items c.self.invariant c.args.self.now c.self.view_is c.args.last.now c.requires k c.len-k.ensures.value in
+    place-by-memory c.from_residual.result c.in_err-items.field-0.0 k (length items) c.from_residual.ensures.1 c.in_err-items.ensures.refused within.0 within.1

@@ -1,15 +1,18 @@
-use Rattle.std.proofs.Common.{◌≡◌, ℕ, ◌≤◌, ◌+◌, ◌^◌, List, length, ap, sym, subst, ◌∙◌, arith}
-use Rattle.rv_layout.specs.Places.{sum_below}
+use Rattle.std.proofs.Common.{◌≡◌, ℕ, ◌≤◌, ◌+◌, ◌*◌, ◌^◌, List, length, map, ap, sym, subst, ◌∙◌, arith}
+use Rattle.rv_layout.specs.Places.{is_base, sum_below}
 use Rattle.rv_layout.specs.Sections.{sections}
 use Rattle.rv_program.specs.declared.before.Before.{Before}
 use Rattle.rv_program.specs.Text.{Edit, lines_after}
 use Rattle.rv_program.specs.internal.Before.{base_before, lines_before, edit_on}
 use Rattle.rv_program.specs.Edits.{edit_of}
 use Rattle.rv_store.specs.internal.Ends.{end_in, place_by_shapes}
+use Rattle.rv_program.specs.internal.Briefs.{groups_on}
 use Rattle.rv_program.specs.internal.NewShapes.{IsNewShape, shape_operands}
+use Rattle.rv_program.specs.internal.Rows.{AreDefinitions}
 use Rattle.rv_program.specs.Program.{program_of, for_lines}
 use Rattle.rv_program.specs.internal.Work.{equ_operands, constant_operands, high_operands, survey_operands, operands_through, work}
 use Rattle.rv_store.proofs.EndBases.{ends-together}
+use Rattle.rv_store.specs.internal.Surveys.{IsSurvey}
 use Rattle.rv_store.specs.internal.Unmoved.{AreUnmoved}
 use Rattle.rv_store.proofs.StillShapes.{shapes-place}
 use Rattle.rv_store.proofs.Stores.{survey_grown}
@@ -145,3 +148,158 @@ returns-in_err-survey-clause-parsed g c = c.by_rows.ensures.parsed ∙ c.shapes.
 
 pub returns-in_err-survey-clause-encoded : goal.returns-in_err-survey-clause-encoded
 returns-in_err-survey-clause-encoded g c = c.by_rows.ensures.encoded ∙ c.shapes.ensures.encoded
+
+-- The rows of the text before
+
+pub definitions_after-requires-clause-row : goal.definitions_after-requires-clause-row
+definitions_after-requires-clause-row g c =
+    subst (AreDefinitions (program_of c.args.old.now) c.args.names.now) (sym c.deref.ensures.value) c.requires.old.definitions
+
+pub definitions_after-requires-clause-edited : goal.definitions_after-requires-clause-edited
+definitions_after-requires-clause-edited g c = c.as_slice-lines.ensures ∙ c.requires.edited
+
+pub definitions_after-requires-clause-few : goal.definitions_after-requires-clause-few
+definitions_after-requires-clause-few g c = subst (λ ls. length ls ≤ 16384) (sym c.as_slice-lines.ensures) c.requires.few
+
+pub shapes-requires-clause-before : goal.shapes-requires-clause-before
+shapes-requires-clause-before g c = c.before-before.ensures.before
+
+pub shapes-requires-clause-after : goal.shapes-requires-clause-after
+shapes-requires-clause-after g c =
+    let before = c.before-before.ensures in
+    c.as_slice-lines.ensures ∙ c.requires.edited ∙ sym (λ i. lines_after (before.lines i) (before.edit i))
+
+pub shapes-requires-clause-groups : goal.shapes-requires-clause-groups
+shapes-requires-clause-groups g c = c.groups-groups.ensures ∙ ap (map groups_on) (sym c.as_slice-lines.ensures)
+
+pub shapes-requires-clause-few : goal.shapes-requires-clause-few
+shapes-requires-clause-few g c = subst (λ ls. length ls ≤ 16384) (sym c.as_slice-lines.ensures) c.requires.few
+
+pub shapes-requires-clause-definitions : goal.shapes-requires-clause-definitions
+shapes-requires-clause-definitions g c =
+    let program = program_of c.as_slice-lines.result.now in
+    subst (λ names. AreDefinitions program names c.deref-2.result.now) (sym c.before-before.ensures.names)
+    (subst (AreDefinitions program c.definitions_after.new.names) (sym c.deref-2.ensures.value) c.in_ok-definitions.ensures.definitions)
+
+pub locals_after-requires-clause-before : goal.locals_after-requires-clause-before
+locals_after-requires-clause-before g c = c.before-before.ensures.before
+
+pub locals_after-requires-clause-edited : goal.locals_after-requires-clause-edited
+locals_after-requires-clause-edited g c =
+    let before = c.before-before.ensures in
+    c.as_slice-lines.ensures ∙ c.requires.edited ∙ sym (λ i. lines_after (before.lines i) (before.edit i))
+
+pub locals_after-requires-clause-few : goal.locals_after-requires-clause-few
+locals_after-requires-clause-few g c = subst (λ ls. length ls ≤ 16384) (sym c.as_slice-lines.ensures) c.requires.few
+
+pub by_rows-requires-clause-base : goal.by_rows-requires-clause-base
+by_rows-requires-clause-base g c = ap is_base c.before-before.ensures.base ∙ c.requires.base
+
+pub by_rows-requires-clause-before : goal.by_rows-requires-clause-before
+by_rows-requires-clause-before g c = c.before-before.ensures.before
+
+pub by_rows-requires-clause-edited : goal.by_rows-requires-clause-edited
+by_rows-requires-clause-edited g c =
+    let before = c.before-before.ensures in
+    c.as_slice-lines.ensures ∙ c.requires.edited ∙ sym (λ i. lines_after (before.lines i) (before.edit i))
+
+pub by_rows-requires-clause-groups : goal.by_rows-requires-clause-groups
+by_rows-requires-clause-groups g c = c.groups-groups.ensures ∙ ap (map groups_on) (sym c.as_slice-lines.ensures)
+
+pub by_rows-requires-clause-few : goal.by_rows-requires-clause-few
+by_rows-requires-clause-few g c = subst (λ ls. length ls ≤ 16384) (sym c.as_slice-lines.ensures) c.requires.few
+
+pub by_rows-requires-clause-definitions : goal.by_rows-requires-clause-definitions
+by_rows-requires-clause-definitions g c =
+    subst (λ names. AreDefinitions (program_of c.as_slice-lines.result.now) names c.in_ok-definitions.definitions.items) (sym c.before-before.ensures.names) c.in_ok-definitions.ensures.definitions
+
+pub by_rows-requires-clause-constants : goal.by_rows-requires-clause-constants
+by_rows-requires-clause-constants g c = c.in_ok-sized.ensures.constants
+
+pub by_rows-requires-clause-shapes : goal.by_rows-requires-clause-shapes
+by_rows-requires-clause-shapes g c = c.in_ok-sized.ensures.shapes
+
+pub by_rows-requires-clause-limited : goal.by_rows-requires-clause-limited
+by_rows-requires-clause-limited g c = c.in_ok-sized.ensures.limited
+
+pub by_rows-requires-clause-locals : goal.by_rows-requires-clause-locals
+by_rows-requires-clause-locals g c = c.in_ok-locals.ensures
+
+-- How many values are computed
+
+shaped-room : (first shaped n m : ℕ) → first ≤ 2 ^ 63 + 1 → shaped ≤ first + 2 * n → n ≡ m → m ≤ 16384 → shaped ≤ 2 ^ 63 + 2 ^ 32
+shaped-room first shaped n m room most same few = omega arith
+
+shaped-most : (first shaped n m : ℕ) → shaped ≤ first + 2 * n → n ≡ m → shaped ≤ first + 4 * m
+shaped-most first shaped n m most same = omega arith
+
+both-most : (first shaped last n m : ℕ) → shaped ≤ first + 2 * n → last ≤ shaped + 2 * n → n ≡ m → last ≤ first + 4 * m
+both-most first shaped last n m most rest same = omega arith
+
+both-least : (first shaped last : ℕ) → first ≤ shaped → shaped ≤ last → first ≤ last
+both-least first shaped last least rest = omega arith
+
+pub by_rows-requires-clause-valued : goal.by_rows-requires-clause-valued
+by_rows-requires-clause-valued g c =
+    let count = g.C.Count.valued_count in
+    shaped-room (count c.args.counter.now) (count c.shapes.new.counter) (length c.as_slice-lines.result.now) (length c.args.self.now.lines.items) c.requires.valued c.shapes.ensures.most (ap length c.as_slice-lines.ensures) c.requires.few
+
+pub returns-in_err-sized-clause-least : goal.returns-in_err-sized-clause-least
+returns-in_err-sized-clause-least g c = c.shapes.ensures.least
+
+pub returns-in_err-placed-clause-least : goal.returns-in_err-placed-clause-least
+returns-in_err-placed-clause-least g c = c.shapes.ensures.least
+
+pub returns-in_err-locals-clause-least : goal.returns-in_err-locals-clause-least
+returns-in_err-locals-clause-least g c = c.shapes.ensures.least
+
+pub returns-in_err-survey-clause-least : goal.returns-in_err-survey-clause-least
+returns-in_err-survey-clause-least g c =
+    let count = g.C.Count.valued_count in
+    both-least (count c.args.counter.now) (count c.shapes.new.counter) (count c.by_rows.new.counter) c.shapes.ensures.least c.by_rows.ensures.least
+
+pub returns-clause-least : goal.returns-clause-least
+returns-clause-least g c =
+    let count = g.C.Count.valued_count in
+    both-least (count c.args.counter.now) (count c.shapes.new.counter) (count c.by_rows.new.counter) c.shapes.ensures.least c.by_rows.ensures.least
+
+pub returns-in_err-sized-clause-most : goal.returns-in_err-sized-clause-most
+returns-in_err-sized-clause-most g c =
+    let count = g.C.Count.valued_count in
+    shaped-most (count c.args.counter.now) (count c.shapes.new.counter) (length c.as_slice-lines.result.now) (length c.args.self.now.lines.items) c.shapes.ensures.most (ap length c.as_slice-lines.ensures)
+
+pub returns-in_err-placed-clause-most : goal.returns-in_err-placed-clause-most
+returns-in_err-placed-clause-most g c =
+    let count = g.C.Count.valued_count in
+    shaped-most (count c.args.counter.now) (count c.shapes.new.counter) (length c.as_slice-lines.result.now) (length c.args.self.now.lines.items) c.shapes.ensures.most (ap length c.as_slice-lines.ensures)
+
+pub returns-in_err-locals-clause-most : goal.returns-in_err-locals-clause-most
+returns-in_err-locals-clause-most g c =
+    let count = g.C.Count.valued_count in
+    shaped-most (count c.args.counter.now) (count c.shapes.new.counter) (length c.as_slice-lines.result.now) (length c.args.self.now.lines.items) c.shapes.ensures.most (ap length c.as_slice-lines.ensures)
+
+pub returns-in_err-survey-clause-most : goal.returns-in_err-survey-clause-most
+returns-in_err-survey-clause-most g c =
+    let count = g.C.Count.valued_count in
+    both-most (count c.args.counter.now) (count c.shapes.new.counter) (count c.by_rows.new.counter) (length c.as_slice-lines.result.now) (length c.args.self.now.lines.items) c.shapes.ensures.most c.by_rows.ensures.most (ap length c.as_slice-lines.ensures)
+
+pub returns-clause-most : goal.returns-clause-most
+returns-clause-most g c =
+    let count = g.C.Count.valued_count in
+    both-most (count c.args.counter.now) (count c.shapes.new.counter) (count c.by_rows.new.counter) (length c.as_slice-lines.result.now) (length c.args.self.now.lines.items) c.shapes.ensures.most c.by_rows.ensures.most (ap length c.as_slice-lines.ensures)
+
+pub returns-clause-survey : goal.returns-clause-survey
+returns-clause-survey g c =
+    let before = c.before-before.ensures in
+    subst (λ ls. IsSurvey c.args.base (program_of ls) c.definitions_after.new.names c.in_ok-survey.survey) c.as_slice-lines.ensures
+    (subst (λ names. IsSurvey c.args.base (program_of c.as_slice-lines.result.now) names c.in_ok-survey.survey) before.names
+    (subst (λ base. IsSurvey base (program_of c.as_slice-lines.result.now) c.before-before.result.symbols.text.names.now c.in_ok-survey.survey) before.base c.in_ok-survey.ensures.survey))
+
+pub returns-in_err-locals-clause-names : goal.returns-in_err-locals-clause-names
+returns-in_err-locals-clause-names g c = c.definitions_after.ensures.names
+
+pub returns-in_err-survey-clause-names : goal.returns-in_err-survey-clause-names
+returns-in_err-survey-clause-names g c = c.definitions_after.ensures.names
+
+pub returns-clause-names : goal.returns-clause-names
+returns-clause-names g c = c.definitions_after.ensures.names

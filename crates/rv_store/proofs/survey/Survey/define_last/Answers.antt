@@ -1,15 +1,18 @@
-use Rattle.std.proofs.Common.{◌≡◌, ℕ, suc, ◌-◌, false, List, [], ◌∷◌, ◌++◌, length, arith, ap, sym, subst, ◌∙◌, refl}
+use Rattle.std.proofs.Common.{◌≡◌, ℕ, suc, ◌+◌, ◌*◌, ◌-◌, ◌≤◌, true≢false, false, List, [], ◌∷◌, ◌++◌, length, arith, ap, sym, subst, ◌∙◌, refl}
 use Rattle.rv_list.specs.declared.view.DefinitionPlace.TheVariants.{Nowhere}
 use Rattle.rv_stmt.specs.Statement.{statement_of}
 use Rattle.rv_program.specs.Definitions.{place_in_statement}
-use Rattle.rv_program.specs.Program.{program_of}
+use Rattle.rv_program.specs.Program.{program_of, body_at}
+use Rattle.rv_program.specs.internal.Work.{equ_operands}
+use Rattle.rv_program.specs.lemmas.Programs.{length-program}
 use Rattle.rv_program.specs.Uses.{is_equ}
 use Rattle.rv_program.specs.internal.Defining.{also_on}
 use Rattle.rv_program.specs.internal.Rows.{in_row}
 use Rattle.rv_store.specs.declared.survey.Survey.{Survey}
 use Rattle.rv_store.specs.internal.Appended.{AreSymbols, IsUnsettled}
 use Rattle.rv_store.proofs.LastDefinitions.{symbols-grown, symbols-written, symbols-no_equ, of-all}
-use Rattle.rv_store.proofs.LongerTexts.{count-longer}
+use Rattle.rv_store.proofs.LongerPrograms.{body-last}
+use Rattle.rv_store.proofs.LongerTexts.{count-longer, program-longer}
 use Rattle.rv_store.proofs.StillRows.{in_any_error}
 use Rattle.rv_store.proofs.survey.Survey.define_last.Goals as goal
 
@@ -77,3 +80,32 @@ returns-else-brief-clause-symbols g c =
     of-all c.args.base lines c.number_line.new.names line held.lines.items _ more
     (symbols-no_equ c.args.base lines line was.earlier c.number_line.new.names _ equ
     (written c.args.base lines c.args.names.now line held.lines.items c.len-number.result c.args.self.now _ was more (omega (arith, c.len-number.ensures)) c.number_line.new.names held are c.define_line.ensures.row c.define_line.ensures.as_many refl refl))
+
+-- There is the line
+
+one-line : (lines : List (List ℕ)) (line : List ℕ) → 1 ≤ length (lines ++ line ∷ [])
+one-line lines line = omega (arith, count-longer lines line)
+
+pub settle_last-requires-clause-some : goal.settle_last-requires-clause-some
+settle_last-requires-clause-some g c =
+    let waits = c.requires.unsettled.waits c.if-not-any.false in
+    subst (λ ls. 1 ≤ length ls) (sym (c.lengthen_rows.ensures.lines.lines ∙ waits.1.more)) (one-line waits.0 c.args.line.now)
+
+pub returns-then-brief-clause-none : goal.returns-then-brief-clause-none
+returns-then-brief-clause-none g c = λ none. absurd (true≢false (sym c.if-not-any.false ∙ none))
+
+pub returns-else-brief-clause-none : goal.returns-else-brief-clause-none
+returns-else-brief-clause-none g c = λ none. absurd (true≢false (sym c.if-not-any.false ∙ none))
+
+-- its body is the last one
+body-at-end : (lines : List (List ℕ)) (line : List ℕ) → body_at (program_of (lines ++ line ∷ [])) (length (lines ++ line ∷ [])) ≡ (statement_of line).body
+body-at-end lines line =
+    let end : length (lines ++ line ∷ []) ≡ suc (length (program_of lines)) = count-longer lines line ∙ ap suc (sym (length-program lines)) in
+    (λ i. body_at (program-longer lines line i) (end i)) ∙ body-last (program_of lines) (statement_of line)
+
+pub returns-then-brief-clause-operands : goal.returns-then-brief-clause-operands
+returns-then-brief-clause-operands g c =
+    let count = g.C.Count.valued_count in
+    let waits = c.requires.unsettled.waits c.if-not-any.false in
+    subst (λ body. count c.settle_last.new.counter ≤ count c.args.counter.now + 2 * equ_operands body) (body-at-end waits.0 c.args.line.now)
+    (subst (λ ls. count c.settle_last.new.counter ≤ count c.args.counter.now + 2 * equ_operands (body_at (program_of ls) (length ls))) (c.lengthen_rows.ensures.lines.lines ∙ waits.1.more) c.settle_last.ensures.operands)
