@@ -1,4 +1,5 @@
 use Rattle.std.proofs.Common.{◌-◌, remove, insert, set, arith, ap, subst, ◌∙◌}
+use Rattle.std.proofs.lemmas.Grind.{common_steps}
 use Rattle.rv_program.specs.internal.EditedRows.{HasPlace}
 use Rattle.rv_program.specs.Edits.{edit_of_read}
 use Rattle.rv_store.proofs.Columns.{removed-inserted, inserted-removed, set-back}
@@ -22,3 +23,9 @@ pub returns-in-Replace-clause-back : goal.returns-in-Replace-clause-back
 returns-in-Replace-clause-back c =
     ap (λ ls. set ls (c.in-Replace.k - 1) c.replace-former.result) c.replace-former.ensures.lines
     ∙ set-back c.args.self.now.items (c.in-Replace.k - 1) c.in-Replace.line c.replace-former.result c.replace-former.ensures.former
+
+pub returns-in_ok-insert-in-Insert-clause-back_place : goal.returns-in_ok-insert-in-Insert-clause-back_place
+returns-in_ok-insert-in-Insert-clause-back_place c = grind (arith, common_steps)
+
+pub returns-in-Delete-clause-back_place : goal.returns-in-Delete-clause-back_place
+returns-in-Delete-clause-back_place c = grind (arith, common_steps)

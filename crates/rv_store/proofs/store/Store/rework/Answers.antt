@@ -1,4 +1,5 @@
 use Rattle.std.proofs.Common.{◌≡◌, ◌+◌, ◌≤◌, arith, subst}
+use Rattle.std.proofs.lemmas.Grind.{common_steps}
 use Rattle.std.specs.Result.{IfOk, OnOk, OnErr}
 use Rattle.rv_program.specs.Changes.{changed_lines, most_values, most_codes}
 use Rattle.rv_program.specs.Edits.{edit_of}
@@ -44,3 +45,9 @@ returns-clause-codes g c =
     let count = g.C.Count.encoded_count in
     let edit = edit_of c.args.edit.now in
     subst (λ old. count c.assemble.new.counter ≤ count c.args.counter.now + most_codes old.base old.lines edit) c.forget_names.ensures c.assemble.ensures.counted.encoded_most
+
+pub returns-clause-valued : goal.returns-clause-valued
+returns-clause-valued g c = grind (arith, common_steps)
+
+pub returns-clause-encoded : goal.returns-clause-encoded
+returns-clause-encoded g c = grind (arith, common_steps)
