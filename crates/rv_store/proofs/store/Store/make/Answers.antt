@@ -80,7 +80,7 @@ returns-in_ok-share-in-Some g c =
       valued = both-within (value-count c.args.counter.now) (value-count c.new_shape-shape.new.counter) (value-count c.put.new.counter) shape.least shape.one rest.valued;
       encoded = subst (λ n. (n ≤ code-count c.put.new.counter) × (code-count c.put.new.counter < n + 2 ^ 32)) shape.encoded rest.encoded;
       values = values-most (value-count c.args.counter.now) (value-count c.new_shape-shape.new.counter) (value-count c.put.new.counter) (shape_operands (edit_of_read c.args.read)) (shape_operands edit) (most_values old.base old.lines edit)
-        shape.most (ap shape_operands c.requires.read) rest.values;
+          shape.most (ap shape_operands c.requires.read) rest.values;
       codes = subst (λ n. code-count c.put.new.counter ≤ n + most_codes old.base old.lines edit) shape.encoded rest.codes;
     }
 
@@ -101,7 +101,7 @@ returns-in_ok-share-in-Some-alike g c =
       valued = both-within (value-count c.args.counter.now) (value-count c.new_shape-shape.new.counter) (value-count c.put-in-Some-alike.new.counter) shape.least shape.one rest.valued;
       encoded = subst (λ n. (n ≤ code-count c.put-in-Some-alike.new.counter) × (code-count c.put-in-Some-alike.new.counter < n + 2 ^ 32)) shape.encoded rest.encoded;
       values = values-most (value-count c.args.counter.now) (value-count c.new_shape-shape.new.counter) (value-count c.put-in-Some-alike.new.counter) (shape_operands (edit_of_read c.args.read)) (shape_operands edit) (most_values old.base old.lines edit)
-        shape.most (ap shape_operands c.requires.read) rest.values;
+          shape.most (ap shape_operands c.requires.read) rest.values;
       codes = subst (λ n. code-count c.put-in-Some-alike.new.counter ≤ n + most_codes old.base old.lines edit) shape.encoded rest.codes;
     }
 
@@ -122,7 +122,7 @@ returns-in-None g c =
       valued = both-within (value-count c.args.counter.now) (value-count c.new_shape-shape.new.counter) (value-count c.rework.new.counter) shape.least shape.one rest.valued;
       encoded = subst (λ n. (n ≤ code-count c.rework.new.counter) × (code-count c.rework.new.counter < n + 2 ^ 32)) shape.encoded rest.encoded;
       values = values-most (value-count c.args.counter.now) (value-count c.new_shape-shape.new.counter) (value-count c.rework.new.counter) (shape_operands (edit_of_read c.args.read)) (shape_operands edit) (most_values old.base old.lines edit)
-        shape.most (ap shape_operands c.requires.read) rest.values;
+          shape.most (ap shape_operands c.requires.read) rest.values;
       codes = subst (λ n. code-count c.rework.new.counter ≤ n + most_codes old.base old.lines edit) shape.encoded rest.codes;
     }
 
@@ -143,7 +143,7 @@ returns-in-None-alike g c =
       valued = both-within (value-count c.args.counter.now) (value-count c.new_shape-shape.new.counter) (value-count c.rework-in-None-alike.new.counter) shape.least shape.one rest.valued;
       encoded = subst (λ n. (n ≤ code-count c.rework-in-None-alike.new.counter) × (code-count c.rework-in-None-alike.new.counter < n + 2 ^ 32)) shape.encoded rest.encoded;
       values = values-most (value-count c.args.counter.now) (value-count c.new_shape-shape.new.counter) (value-count c.rework-in-None-alike.new.counter) (shape_operands (edit_of_read c.args.read)) (shape_operands edit) (most_values old.base old.lines edit)
-        shape.most (ap shape_operands c.requires.read) rest.values;
+          shape.most (ap shape_operands c.requires.read) rest.values;
       codes = subst (λ n. code-count c.rework-in-None-alike.new.counter ≤ n + most_codes old.base old.lines edit) shape.encoded rest.codes;
     }
 
@@ -164,7 +164,7 @@ returns-in-None-last_line g c =
       valued = both-within (value-count c.args.counter.now) (value-count c.new_shape-shape.new.counter) (value-count c.rework-in-None-last_line.new.counter) shape.least shape.one rest.valued;
       encoded = subst (λ n. (n ≤ code-count c.rework-in-None-last_line.new.counter) × (code-count c.rework-in-None-last_line.new.counter < n + 2 ^ 32)) shape.encoded rest.encoded;
       values = values-most (value-count c.args.counter.now) (value-count c.new_shape-shape.new.counter) (value-count c.rework-in-None-last_line.new.counter) (shape_operands (edit_of_read c.args.read)) (shape_operands edit) (most_values old.base old.lines edit)
-        shape.most (ap shape_operands c.requires.read) rest.values;
+          shape.most (ap shape_operands c.requires.read) rest.values;
       codes = subst (λ n. code-count c.rework-in-None-last_line.new.counter ≤ n + most_codes old.base old.lines edit) shape.encoded rest.codes;
     }
 
@@ -181,16 +181,16 @@ returns-in-Some-last_line g c =
     let removes : Delete (length old.lines) ≡ edit = ap Delete (sym c.in-Some-last_line.ensures.place) ∙ ap edit_of_read (sym c.in-Delete.is) ∙ c.requires.read in
     record {
       ok = subst (λ e. OnOk c.shorten.result (c.shorten.new.self ≡ text_after old e)) removes
-        (subst (λ t. OnOk c.shorten.result (c.shorten.new.self ≡ text_after t (Delete (length t.lines)))) c.forget_names.ensures rest.ok);
+          (subst (λ t. OnOk c.shorten.result (c.shorten.new.self ≡ text_after t (Delete (length t.lines)))) c.forget_names.ensures rest.ok);
       err = subst (λ t. OnErr c.shorten.result (c.shorten.new.self ≡ t)) c.forget_names.ensures rest.err;
       changed = subst (λ e. IfOk c.shorten.result (λ r. r.lines ≡ changed_lines old.base old.lines e)) removes
-        (subst (λ t. IfOk c.shorten.result (λ r. r.lines ≡ changed_lines t.base t.lines (Delete (length t.lines)))) c.forget_names.ensures rest.changed);
+          (subst (λ t. IfOk c.shorten.result (λ r. r.lines ≡ changed_lines t.base t.lines (Delete (length t.lines)))) c.forget_names.ensures rest.changed);
       memory = rest.memory;
       parsed = shape.parsed;
       valued = shape-within (value-count c.args.counter.now) (value-count c.new_shape-shape.new.counter) shape.least shape.one;
       encoded = same-within (code-count c.args.counter.now) (code-count c.new_shape-shape.new.counter) shape.encoded;
       values = shape-alone (value-count c.args.counter.now) (value-count c.new_shape-shape.new.counter) (shape_operands (edit_of_read c.args.read)) (shape_operands edit) (most_values old.base old.lines edit)
-        shape.most (ap shape_operands c.requires.read) (nothing-counted old.base old.lines edit c.requires.allowed);
+          shape.most (ap shape_operands c.requires.read) (nothing-counted old.base old.lines edit c.requires.allowed);
       codes = same-most (code-count c.args.counter.now) (code-count c.new_shape-shape.new.counter) (most_codes old.base old.lines edit) shape.encoded;
     }
 

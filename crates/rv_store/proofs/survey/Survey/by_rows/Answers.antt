@@ -52,7 +52,7 @@ returns-clause-survey g c =
       places = placed base (program_of lines) c.args.sized.shapes.items c.args.placed.places.items c.requires.shapes c.requires.places;
       locals = subst (λ n. AreLocals (program_of lines) n c.args.locals) count c.requires.locals;
       equ_values = subst (λ n. AreEquValues base (program_of lines) n names c.in_ok-equ_values.equ_values.items) count
-        (subst (λ ls. AreEquValues base (program_of ls) (length ls) names c.in_ok-equ_values.equ_values.items) column c.in_ok-equ_values.ensures.values);
+          (subst (λ ls. AreEquValues base (program_of ls) (length ls) names c.in_ok-equ_values.equ_values.items) column c.in_ok-equ_values.ensures.values);
       highs = subst (λ ls. AreHighs base (program_of ls) c.in_ok-highs.highs.items) column c.in_ok-highs.ensures.highs;
     }
 
