@@ -37,9 +37,6 @@ height-shared lower higher inner outer all whole near more is (inr right) = (ome
 pub height-out : (left first second right middle low_left low_right all : ℕ) → max first second + 1 ≡ middle → left ≡ right → middle ≡ left + 1 → low_left ≡ max left first + 1 → low_right ≡ max second right + 1 → all ≡ max low_left low_right + 1 → all ≡ left + 2
 height-out left first second right middle low_left low_right all whole level higher l r is = omega arith
 
-pub max-swapped : (a b : ℕ) → max a b ≡ max b a
-max-swapped a b = omega arith
-
 -- A side that may have become one higher
 
 pub height-grown : (side other tree new all : ℕ) → max side other + 1 ≡ tree → IsBalanced side other → (side ≤ new) × (new ≤ side + 1) → IsSettled new other all → (tree ≤ all) × (all ≤ tree + 1)

@@ -1,8 +1,9 @@
 use Rattle.std.proofs.Common.{◌+◌, arith, ap, ◌∙◌}
+use Rattle.std.proofs.Math.Nat.{max_comm}
 use Rattle.std.proofs.lemmas.Grind.{common_steps}
 use Rattle.std.proofs.lemmas.List.Edits.{insert-append_right}
 use Rattle.std.proofs.lemmas.Result.{IfOk-weaker}
-use Rattle.rv_tree.proofs.Turns.{height-grown, settled-swapped, max-swapped}
+use Rattle.rv_tree.proofs.Turns.{height-grown, settled-swapped}
 use Rattle.rv_tree.proofs.node.Subtree.+inserted.Goals as goal
 
 pub returns-clause-items : goal.returns-clause-items
@@ -22,5 +23,5 @@ returns-clause-height g t c =
     let left = c.sides.result.0.now.value.height in
     let right = c.sides.result.1.now.value.height in
     let side = c.in_ok-side-2.side.value.height in
-    let whole = ap (λ n. n + 1) (max-swapped right left) ∙ rw c.deref-here.ensures at s.height in
+    let whole = ap (λ n. n + 1) (max_comm right left) ∙ rw c.deref-here.ensures at s.height in
     IfOk-weaker c.balanced-2.result _ _ (λ r is. height-grown right left c.args.tree.now.value.height side r.value.height whole (s.balanced.1, s.balanced.0) c.in_ok-side-2.ensures.height (settled-swapped left side r.value.height is)) (rw c.in_ok-clone-2.ensures.cases at c.balanced-2.ensures.height)

@@ -1,6 +1,7 @@
 use Rattle.std.proofs.Common.{inr, arith, ap, ◌∙◌, ◌+◌}
+use Rattle.std.proofs.Math.Nat.{max_comm}
 use Rattle.std.proofs.lemmas.Result.{IfOk-weaker}
-use Rattle.rv_tree.proofs.Turns.{items-behind, shared-behind, height-turned, height-shared, max-swapped}
+use Rattle.rv_tree.proofs.Turns.{items-behind, shared-behind, height-turned, height-shared}
 use Rattle.rv_tree.proofs.node.Subtree.rotated_right.Goals as goal
 
 pub returns-then-height : goal.returns-then-height
@@ -15,7 +16,7 @@ returns-then-height g c =
     let inner_is = c.height-2.ensures.value ∙ ap (λ x. x.height) c.deref-2.ensures in
     record {
       items = IfOk-weaker c.joined-then-height.result _ _ (λ t is. items-behind left.items outer.items inner.items right.items low.items t.value.items s.items (rw c.in_ok-clone.ensures.cases at c.in_ok-low.ensures.items) is) (rw c.in_ok-clone-2.ensures.cases at c.joined-then-height.ensures.items);
-      height = IfOk-weaker c.joined-then-height.result _ _ (λ t is. height-turned right.height left.height inner.height outer.height low.height t.value.height (ap (λ n. n + 1) (max-swapped inner.height outer.height) ∙ s.height) (s.balanced.1, s.balanced.0) c.requires.higher (omega (arith, outer_is, inner_is, c.if-height.true)) ((rw c.in_ok-clone.ensures.cases at c.in_ok-low.ensures.height) ∙ ap (λ n. n + 1) (max-swapped inner.height right.height)) (is ∙ ap (λ n. n + 1) (max-swapped outer.height low.height))) (rw c.in_ok-clone-2.ensures.cases at c.joined-then-height.ensures.height);
+      height = IfOk-weaker c.joined-then-height.result _ _ (λ t is. height-turned right.height left.height inner.height outer.height low.height t.value.height (ap (λ n. n + 1) (max_comm inner.height outer.height) ∙ s.height) (s.balanced.1, s.balanced.0) c.requires.higher (omega (arith, outer_is, inner_is, c.if-height.true)) ((rw c.in_ok-clone.ensures.cases at c.in_ok-low.ensures.height) ∙ ap (λ n. n + 1) (max_comm inner.height right.height)) (is ∙ ap (λ n. n + 1) (max_comm outer.height low.height))) (rw c.in_ok-clone-2.ensures.cases at c.joined-then-height.ensures.height);
     }
 
 pub returns : goal.returns
@@ -29,5 +30,5 @@ returns g c =
     let inner_is = c.height-2.ensures.value ∙ ap (λ x. x.height) c.deref-2.ensures in
     record {
       items = IfOk-weaker c.shared_out.result _ _ (λ t is. shared-behind left.items outer.items inner.items right.items t.value.items s.items is) (rw (c.in_ok-clone-3.ensures.cases, c.deref-3.ensures) at c.shared_out.ensures.items);
-      height = IfOk-weaker c.shared_out.result _ _ (λ t is. height-shared right.height left.height inner.height outer.height t.value.height (ap (λ n. n + 1) (max-swapped inner.height outer.height) ∙ s.height) (s.balanced.1, s.balanced.0) c.requires.higher (omega (arith, outer_is, inner_is, c.if-height.false)) (inr is)) (rw c.in_ok-clone-3.ensures.cases at c.shared_out.ensures.height);
+      height = IfOk-weaker c.shared_out.result _ _ (λ t is. height-shared right.height left.height inner.height outer.height t.value.height (ap (λ n. n + 1) (max_comm inner.height outer.height) ∙ s.height) (s.balanced.1, s.balanced.0) c.requires.higher (omega (arith, outer_is, inner_is, c.if-height.false)) (inr is)) (rw c.in_ok-clone-3.ensures.cases at c.shared_out.ensures.height);
     }
