@@ -27,7 +27,7 @@ use Rattle.rv_stmt.specs.declared.slots.Slot.TheVariants as slot
 use Rattle.rv_stmt.specs.Forms.{slots_of}
 use Rattle.rv_stmt.specs.Registers.{set_name, set_names}
 use Rattle.rv_dis.specs.Text.{after_comma, after_name, target_of, csr_text, set_text, hexadecimal, immediate_text, base_text, memory_text, operand_text, instruction_text}
-use Rattle.rv_dis.proofs.Digits.{digits_last, digits_step}
+use Rattle.rv_text.specs.DigitLaws.{digits_last, digits_step}
 
 -- names of at most so many bytes
 
@@ -78,10 +78,10 @@ length-hex zero n = refl
 length-hex (suc count) n = omega (arith, length-append (hex count (n / 16)) (hex_digit (n % 16) ∷ []), length-hex count (n / 16))
 
 digits_short : (k n : ℕ) → n < 16 ^ suc k → n < 2 ^ 32 → length (digits 16 false n) ≤ suc k
-digits_short zero n fits small = omega (arith, ap length (digits_last n (omega arith)))
+digits_short zero n fits small = omega (arith, ap length (digits_last false n (omega arith)))
 digits_short (suc k) n fits small = ⊎_elim
-    (λ l. omega (arith, ap length (digits_last n l)))
-    (λ l. omega (arith, ap length (digits_step n l small), length-append (digits 16 false (n / 16)) (hex_digit (n % 16) ∷ []), digits_short k (n / 16) (omega arith) (omega arith)))
+    (λ l. omega (arith, ap length (digits_last false n l)))
+    (λ l. omega (arith, ap length (digits_step false n l (omega (arith, small))), length-append (digits 16 false (n / 16)) (hex_digit (n % 16) ∷ []), digits_short k (n / 16) (omega arith) (omega arith)))
     (cases_lt n 16)
 
 -- a value of thirty bits at most

@@ -1,5 +1,5 @@
 -- Worked parts of lines and rows, computed on the definitions.
-use Rattle.std.specs.Prelude.{◌≡◌, ◌++◌, [], ◌∷◌, codes, refl}
+use Rattle.std.specs.Prelude.{◌≡◌, [], ◌∷◌, codes, refl}
 use Rattle.std.specs.Fmt.{digits}
 use Rattle.strsim.specs.Edits.{rows, next_row, cost_at}
 use Rattle.rv_show.specs.Characters.{column_of, excerpt}

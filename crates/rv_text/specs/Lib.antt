@@ -8,6 +8,7 @@ pub mod Lexing
 pub mod Lexical
 pub mod Rows
 pub mod RowLaws
+pub mod DigitLaws
 pub mod Streams
 pub mod StreamLaws
 pub mod TokenLaws
