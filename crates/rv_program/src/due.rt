@@ -28,7 +28,7 @@ use crate::line_values::symbol_value;
 use crate::lines_of_kind::lines_up_to_groups;
 use crate::name_set::NameSet;
 use crate::symbol_rows::SymbolRows;
-use crate::text_lines::{brief_on, equ_on, target_on};
+use crate::text_lines::{equ_on, target_on};
 use rv_expr::{Expr, Node};
 use rv_stmt::Definition;
 use rv_text::Count;
@@ -144,24 +144,25 @@ fn is_due<C: Count>(
     }
 }
 
-// Whether a line is a jump to a symbol, and both moved as far as the lines behind the edit: the symbol is as far from it as it was. It
-// stays a call, so that the loop over the lines does not read what only jumps need.
-#[inline(never)]
+// Whether a line with this brief is a jump to a symbol, and both moved as far as the lines behind the edit: the symbol is as far from it as
+// it was.
+#[inline]
 fn is_carried(
     before: &Before<'_, '_>,
     after: &SymbolRows<'_>,
     differing: &NameSet,
+    brief: Brief,
     line: u32,
 ) -> bool
     requires before { IsBefore before.now }
     requires rows { AreSymbolRows after.now }
     requires after { IsAfter before.now after.now.text }
     requires differing { HasDiffering (base_before before.now) (lines_before before.now) (edit_on before.now) differing.now }
+    requires brief { brief ≡ brief_of (statement_at (program_in after.now.text) line) }
     requires first { 1 ≤ line }
     requires last { line ≤ length after.now.text.lines.now }
     ensures { IsTrue result → is_due (base_before before.now) (lines_before before.now) (edit_on before.now) line ≡ false }
 {
-    let brief = brief_on(&after.text, line);
     match before.edit.line_before(line) {
         Some(stood) if brief.jump && !brief.uncompared => {
             brief.names.has_moved(differing)
@@ -195,7 +196,8 @@ fn is_due_by_brief<C: Count>(
     if !may_be_invalidated(before, after, differing, brief, line) {
         return false;
     }
-    !is_carried(before, after, differing, line) && is_due(before, after, differing, line, counter)
+    !is_carried(before, after, differing, brief, line)
+        && is_due(before, after, differing, line, counter)
 }
 
 // The groups of the lines that may be due, but for a new one: those that use a symbol of a set, or what is not compared, or their own

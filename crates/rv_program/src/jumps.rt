@@ -21,8 +21,9 @@ use rv_fix::{Entry, displacement, is_same_entry};
 use rv_stmt::{Body, Operand, OperandValue, Role};
 use rv_text::Count;
 
-/// By how much the address of `line` is greater than that of the line `stood` was.
-#[inline]
+/// By how much the address of `line` is greater than that of the line `stood` was. It stays a call, so that a loop over the lines does not
+/// read what it asks for few of them.
+#[inline(never)]
 pub fn rise(before: &TextRows<'_>, after: &TextRows<'_>, stood: u32, line: u32) -> i64
     requires before { AreTextRows before.now }
     requires after { AreTextRows after.now }

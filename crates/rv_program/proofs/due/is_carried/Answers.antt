@@ -21,6 +21,6 @@ returns-then-has_moved c = λ risen.
     let stands : line_before_edit (edit_on before) c.args.line ≡ Some c.in-Some.stood = sym c.line_before.ensures ∙ c.in-Some.is in
     let moved : c.rise.result ≡ c.shift.result = omega (arith, ints, eqb-true _ _ risen) in
     carried-not_due before after c.args.line c.in-Some.stood c.requires.before c.requires.after c.requires.first c.requires.last stands
-    c.args.differing.now c.requires.differing c.brief_on-brief.result c.brief_on-brief.ensures c.if-brief.true (not-true c.brief_on-brief.result.uncompared c.if-not-brief.true)
+    c.args.differing.now c.requires.differing c.args.brief c.requires.brief c.if-brief.true (not-true c.args.brief.uncompared c.if-not-brief.true)
     (c.rise.ensures ∙ ap (λ s. pos (address_in_text before.symbols.text c.in-Some.stood) +ℤ s) (moved ∙ c.shift.ensures))
     (c.has_moved.ensures c.if-has_moved.true)
