@@ -1,3 +1,4 @@
+use Rattle.std.proofs.lemmas.Grind.{common_steps}
 use Rattle.std.proofs.Common.{option_map, pos, ap, sym, ◌∙◌, arith}
 use Rattle.rv_text.proofs.DigitSteps.{digits_number-large}
 use Rattle.rv_text.proofs.numerals.digits.Goals as goal
@@ -15,3 +16,6 @@ returns-in_err-value c =
     let digit = rw c.from.ensures at c.in_ok-digit.ensures.value.1 in
     let none = digits_number-large c.args.base c.loop-d.value c.loop-d.d-index c.args.digits.now (omega arith) (omega arith) c.loop-d.invariant (omega arith) in
     c.from_residual-in_err-value.ensures ∙ ap (option_map pos) (sym none)
+
+pub loop-d-preserved : goal.loop-d-preserved
+loop-d-preserved c = grind (arith, common_steps)

@@ -1,3 +1,4 @@
+use Rattle.std.proofs.lemmas.Grind.{common_steps}
 use Rattle.std.proofs.Common.{◌+◌, ◌++◌, ◌∷◌, [], length, drop, arith, ap, sym, ◌∙◌}
 use Rattle.std.proofs.lemmas.List.{drop_all, length-map}
 use Rattle.rv_tree.specs.Items.{subtrees, items_left}
@@ -46,3 +47,6 @@ returns-clause-goes g c =
       keeps = tt;
       rests = λ finite. tt;
     }
+
+pub returns-then-self-clause-goes : goal.returns-then-self-clause-goes
+returns-then-self-clause-goes g c = grind (arith, common_steps)

@@ -1,4 +1,5 @@
-use Rattle.std.proofs.Common.{◌-◌, sym}
+use Rattle.std.proofs.lemmas.Grind.{common_steps}
+use Rattle.std.proofs.Common.{◌-◌, sym, arith}
 use Rattle.std.proofs.lemmas.List.Edits.{remove-append_left, remove-append_right}
 use Rattle.rv_tree.proofs.LeftOver.{items_left, items_right, height_left, height_right}
 use Rattle.rv_tree.proofs.node.Subtree.+deleted.Goals as goal
@@ -27,3 +28,15 @@ pub returns-clause-height : goal.returns-clause-height
 returns-clause-height g t c =
     let s = c.sides.ensures in
     height_right (λ d. d.value.height) c.in_ok-side-2.side _ _ _ _ s.height s.balanced s.high.0 (rw c.deref-2.ensures at c.in_ok-side-2.ensures.height) c.in_ok-right_over.ensures.height
+
+pub right_over-requires-clause-few : goal.right_over-requires-clause-few
+right_over-requires-clause-few c = grind (arith, common_steps)
+
+pub deleted-requires-2 : goal.deleted-requires-2
+deleted-requires-2 c = grind (arith, common_steps)
+
+pub deleted-requires : goal.deleted-requires
+deleted-requires c = grind (arith, common_steps)
+
+pub left_over-requires-clause-few : goal.left_over-requires-clause-few
+left_over-requires-clause-few c = grind (arith, common_steps)

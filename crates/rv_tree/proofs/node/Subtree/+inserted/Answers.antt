@@ -25,3 +25,18 @@ returns-clause-height g t c =
     let side = c.in_ok-side-2.side.value.height in
     let whole = ap (λ n. n + 1) (max_comm right left) ∙ rw c.deref-here.ensures at s.height in
     IfOk-weaker c.balanced-2.result _ _ (λ r is. height-grown right left c.args.tree.now.value.height side r.value.height whole (s.balanced.1, s.balanced.0) c.in_ok-side-2.ensures.height (settled-swapped left side r.value.height is)) (rw c.in_ok-clone-2.ensures.cases at c.balanced-2.ensures.height)
+
+pub balanced-requires-2-clause-few : goal.balanced-requires-2-clause-few
+balanced-requires-2-clause-few c = grind (arith, common_steps)
+
+pub balanced-requires-clause-few : goal.balanced-requires-clause-few
+balanced-requires-clause-few c = grind (arith, common_steps)
+
+pub returns-then-before-left_len-clause-items : goal.returns-then-before-left_len-clause-items
+returns-then-before-left_len-clause-items c = grind (arith, common_steps)
+
+pub inserted-requires-2 : goal.inserted-requires-2
+inserted-requires-2 c = grind (arith, common_steps)
+
+pub inserted-requires : goal.inserted-requires
+inserted-requires c = grind (arith, common_steps)

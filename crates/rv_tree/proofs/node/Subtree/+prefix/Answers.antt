@@ -1,3 +1,4 @@
+use Rattle.std.proofs.lemmas.Grind.{common_steps}
 use Rattle.std.proofs.Common.{◌≡◌, ◌++◌, arith, ap}
 use Rattle.rv_tree.proofs.Prefixes.{total-take_right}
 use Rattle.rv_tree.proofs.node.Subtree.+prefix.Goals as goal
@@ -10,3 +11,9 @@ returns-else-count-left_len g t c =
     let items : c.in-Fork.left.value.items ++ c.in-Fork.right.value.items ≡ c.args.self.now.items = ap (λ d. d.items) is in
     let j = total-take_right laws g.T.Summed.sum_of c.in-Fork.left.value.items c.in-Fork.right.value.items c.len-left_len.result c.args.count (cc) (omega arith) ok.sums in
     cc (rw items at j)
+
+pub prefix-rest-requires : goal.prefix-rest-requires
+prefix-rest-requires c = grind (arith, common_steps)
+
+pub returns-then-count-left_len : goal.returns-then-count-left_len
+returns-then-count-left_len c = grind (arith, common_steps)

@@ -21,3 +21,15 @@ returns-clause-height g t c =
     let left = c.sides.result.0.now.value.height in
     let side = rw c.deref-2.ensures at c.in_ok-side-2.ensures.height in
     IfOk-weaker c.joined-2.result _ _ (λ r is. is ∙ ap (λ h. max left h + 1) side ∙ c.sides.ensures.height) (rw c.in_ok-clone-2.ensures.cases at c.joined-2.ensures.height)
+
+pub joined-requires-2-clause-few : goal.joined-requires-2-clause-few
+joined-requires-2-clause-few c = grind (arith, common_steps)
+
+pub joined-requires-clause-few : goal.joined-requires-clause-few
+joined-requires-clause-few c = grind (arith, common_steps)
+
+pub replaced-requires-2 : goal.replaced-requires-2
+replaced-requires-2 c = grind (arith, common_steps)
+
+pub replaced-requires : goal.replaced-requires
+replaced-requires c = grind (arith, common_steps)

@@ -1,3 +1,4 @@
+use Rattle.std.proofs.lemmas.Grind.{common_steps}
 use Rattle.std.proofs.Common.{◌≤◌, ◌++◌, length, ap, sym, ◌∙◌, append_assoc, rules, arith, length-append}
 use Rattle.std.proofs.lemmas.Result.{IfOk-weaker}
 use Rattle.rv_tree.specs.Passes.{here}
@@ -85,3 +86,6 @@ rejoined-requires-clause-height g t c =
     let first = c.in_ok-first.ensures.shape.0 in
     let second = c.in_ok-second.ensures.shape.0 in
     omega (arith, whole, first, second)
+
+pub rewritten-requires : goal.rewritten-requires
+rewritten-requires c = grind (arith, common_steps)

@@ -1,3 +1,4 @@
+use Rattle.std.proofs.lemmas.Grind.{common_steps}
 use Rattle.std.proofs.Common.{◌≡◌, ℕ, ◌≤◌, List, ◌++◌, ◌∙◌, length, refl, arith}
 use Rattle.std.specs.List.{insert}
 use Rattle.std.proofs.lemmas.List.{length-map}
@@ -41,3 +42,9 @@ returns-clause-items g c =
     let items : c.in_ok-of-2.field-0 ++ c.in_ok-second.second ≡ insert c.args.row.now c.args.before c.args.item.value =
     rw (c.in_ok-of-2.ensures, c.in_ok-second.ensures, c.halves.ensures.items, edit) refl in
     rw items at c.two_leaves-2.ensures.items
+
+pub two_leaves-requires-2-clause-some : goal.two_leaves-requires-2-clause-some
+two_leaves-requires-2-clause-some g c = grind (arith, common_steps)
+
+pub two_leaves-requires-2-clause-few : goal.two_leaves-requires-2-clause-few
+two_leaves-requires-2-clause-few g c = grind (arith, common_steps)

@@ -1,3 +1,4 @@
+use Rattle.std.proofs.lemmas.Grind.{common_steps}
 use Rattle.std.proofs.Common.{inl, arith, ap, ◌∙◌}
 use Rattle.std.proofs.lemmas.Result.{IfOk-weaker}
 use Rattle.rv_tree.proofs.Turns.{items-before, shared-before, height-turned, height-shared}
@@ -31,3 +32,12 @@ returns g c =
       items = IfOk-weaker c.shared_out.result _ _ (λ t is. shared-before left.items inner.items outer.items right.items t.value.items s.items is) (rw (c.in_ok-clone-3.ensures.cases, c.deref-3.ensures) at c.shared_out.ensures.items);
       height = IfOk-weaker c.shared_out.result _ _ (λ t is. height-shared left.height right.height inner.height outer.height t.value.height s.height s.balanced c.requires.higher (omega (arith, outer_is, inner_is, c.if-height.false)) (inl is)) c.shared_out.ensures.height;
     }
+
+pub joined-requires-then-height-clause-few : goal.joined-requires-then-height-clause-few
+joined-requires-then-height-clause-few g c = grind (arith, common_steps)
+
+pub joined-requires-clause-few : goal.joined-requires-clause-few
+joined-requires-clause-few g c = grind (arith, common_steps)
+
+pub shared_out-requires-clause-few : goal.shared_out-requires-clause-few
+shared_out-requires-clause-few g c = grind (arith, common_steps)

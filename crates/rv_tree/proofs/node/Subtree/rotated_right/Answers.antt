@@ -1,3 +1,4 @@
+use Rattle.std.proofs.lemmas.Grind.{common_steps}
 use Rattle.std.proofs.Common.{inr, arith, ap, ◌∙◌, ◌+◌}
 use Rattle.std.proofs.Math.Nat.{max_comm}
 use Rattle.std.proofs.lemmas.Result.{IfOk-weaker}
@@ -32,3 +33,12 @@ returns g c =
       items = IfOk-weaker c.shared_out.result _ _ (λ t is. shared-behind left.items outer.items inner.items right.items t.value.items s.items is) (rw (c.in_ok-clone-3.ensures.cases, c.deref-3.ensures) at c.shared_out.ensures.items);
       height = IfOk-weaker c.shared_out.result _ _ (λ t is. height-shared right.height left.height inner.height outer.height t.value.height (ap (λ n. n + 1) (max_comm inner.height outer.height) ∙ s.height) (s.balanced.1, s.balanced.0) c.requires.higher (omega (arith, outer_is, inner_is, c.if-height.false)) (inr is)) (rw c.in_ok-clone-3.ensures.cases at c.shared_out.ensures.height);
     }
+
+pub joined-requires-then-height-clause-few : goal.joined-requires-then-height-clause-few
+joined-requires-then-height-clause-few g c = grind (arith, common_steps)
+
+pub joined-requires-clause-few : goal.joined-requires-clause-few
+joined-requires-clause-few g c = grind (arith, common_steps)
+
+pub shared_out-requires-clause-few : goal.shared_out-requires-clause-few
+shared_out-requires-clause-few g c = grind (arith, common_steps)

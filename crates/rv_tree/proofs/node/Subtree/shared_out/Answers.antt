@@ -1,3 +1,5 @@
+use Rattle.std.proofs.Common.{arith}
+use Rattle.std.proofs.lemmas.Grind.{common_steps}
 use Rattle.std.proofs.lemmas.Result.{IfOk-weaker}
 use Rattle.rv_tree.proofs.Turns.{items-shared, height-out}
 use Rattle.rv_tree.proofs.node.Subtree.shared_out.Goals as goal
@@ -20,3 +22,12 @@ returns g c =
       items = IfOk-weaker c.joined-3.result _ _ (λ t is. items-shared left.items first.items second.items right.items middle.items low_left.items low_right.items t.value.items s.items left_items right_items is) c.joined-3.ensures.items;
       height = IfOk-weaker c.joined-3.result _ _ (λ t is. height-out left.height first.height second.height right.height middle.height low_left.height low_right.height t.value.height s.height c.requires.level c.requires.higher left_height right_height is) c.joined-3.ensures.height;
     }
+
+pub joined-requires-3-clause-few : goal.joined-requires-3-clause-few
+joined-requires-3-clause-few g c = grind (arith, common_steps)
+
+pub joined-requires-2-clause-few : goal.joined-requires-2-clause-few
+joined-requires-2-clause-few g c = grind (arith, common_steps)
+
+pub joined-requires-clause-few : goal.joined-requires-clause-few
+joined-requires-clause-few g c = grind (arith, common_steps)
