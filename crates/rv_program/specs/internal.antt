@@ -5,6 +5,7 @@ pub mod Compared
 pub mod Defining
 pub mod Differing
 pub mod EditedRows
+pub mod FirstUses
 pub mod Fits
 pub mod Former
 pub mod Groups

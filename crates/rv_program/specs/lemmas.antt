@@ -8,6 +8,7 @@ pub mod DefinitionRows
 pub mod EarlierConstants
 pub mod EarlierLines
 pub mod EquLaws
+pub mod FirstUseLaws
 pub mod GroupLaws
 pub mod ItemLaws
 pub mod KeptLines

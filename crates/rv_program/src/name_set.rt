@@ -9,8 +9,8 @@ use crate::groups::Groups;
 use std::alloc::{AllocError, Global};
 use std::marker::Model;
 
-// How many buckets there are.
-const BUCKETS: usize = 16_384;
+/// How many buckets there are.
+pub const BUCKETS: usize = 16_384;
 
 /// The bucket of a name. By the factor 439 names that are numbered alike share buckets less often than they would by chance.
 pub fn bucket_of(mut name: &[u8]) -> u16

@@ -3,7 +3,7 @@ use Rattle.std.proofs.Common.{◌≡◌, ℕ, suc, ◌+◌, ◌-◌, ◌%◌, �
 use Rattle.std.specs.List.{list_any}
 use Rattle.std.proofs.Math.Path.{fun_ext}
 use Rattle.std.proofs.lemmas.Bool.{cases_lt, lt-ltb, le-ltb, lt-leb, eqb-true, eq-eqb, and_parts, and_left, or_parts, or_from, or_cases}
-use Rattle.std.proofs.lemmas.List.{get_or-map}
+use Rattle.std.proofs.lemmas.List.{get_or-map, get_or_default}
 use Rattle.std.proofs.lemmas.Slice.Eq.{bytes_eq-Decides}
 use Rattle.rv_stmt.specs.declared.statement.Stmt.{Stmt}
 use Rattle.rv_stmt.specs.declared.statement.Body.{Body}
@@ -16,6 +16,7 @@ use Rattle.rv_store.specs.declared.apart.LineBehind.{LineBehind}
 use Rattle.rv_store.specs.internal.Apart.{added_by, HasGroupOf}
 use Rattle.rv_program.specs.declared.groups.Groups.{Groups}
 use Rattle.rv_program.specs.declared.groups.Kind.TheVariants.{Uncompared}
+use Rattle.rv_program.specs.internal.FirstUses.{Firsts, first_use, names_on, AreFirstUses}
 use Rattle.rv_program.specs.internal.Briefs.{groups_on}
 use Rattle.rv_store.specs.internal.Appended.{adds, is_earlier, TellEarlier, adds_by_rows}
 use Rattle.rv_program.specs.internal.Defining.{IsOn}
@@ -31,6 +32,7 @@ use Rattle.rv_store.proofs.LongerTexts.{definitions-longer}
 use Rattle.rv_program.specs.lemmas.DefinitionLaws.{IsWithin, within-on, statement-within, definition-within}
 use Rattle.rv_program.specs.lemmas.GroupLaws.{kind-below}
 use Rattle.rv_program.specs.lemmas.LineGroups.{count-groups, kind-on, unused-group}
+use Rattle.rv_program.specs.lemmas.LocalLines.{statement-of-line}
 use Rattle.rv_program.specs.lemmas.NameSetLaws.{none-passes}
 use Rattle.rv_program.specs.lemmas.Programs.{length-program}
 
@@ -142,7 +144,31 @@ unused-by_bucket behind bucket names only apart =
     none-passes (λ b. b == bucket) (added_by behind) (of_bucket behind bucket only) names
     (λ b is. ap (may_have (brief_of_names names)) (eqb-true b bucket is) ∙ apart)
 
+-- before the first use of the bucket of all names that the line adds, no line uses one of them
+pub unused-by_first : (lines : List (List ℕ)) (behind : LineBehind) (firsts : Firsts) (bucket : ℕ) → ((name : List ℕ) → added_by behind name ≡ true → bucket_of name ≡ bucket) → AreFirstUses lines firsts → (line : ℕ) → 0 < line → line ≤ length lines → line ≤ first_use firsts bucket → list_any (added_by behind) (names_used (body_at (program_of lines) line)) ≡ false
+unused-by_first lines behind firsts bucket only are line first within before =
+    ap (λ k. list_any (added_by behind) (names_used (body_at (program_of lines) k))) place
+    ∙ ap (λ s. list_any (added_by behind) (names_used s.body)) (statement-of-line lines (line - 1) (get_or lines (line - 1) []) inside (get_or_default lines (line - 1) [] (get_or lines (line - 1) []) inside))
+    ∙ unused-by_bucket behind bucket (names_used (statement_of (get_or lines (line - 1) [])).body) only (at (may_have (names_on (get_or lines (line - 1) [])) bucket) refl)
+  where
+    place : line ≡ line - 1 + 1
+    place = omega (arith, first)
+
+    inside : line - 1 < length lines
+    inside = omega (arith, first, within)
+
+    at : (b : Bool) → may_have (names_on (get_or lines (line - 1) [])) bucket ≡ b → may_have (names_on (get_or lines (line - 1) [])) bucket ≡ false
+    at false e = e
+    at true e = absurd (let later = are (line - 1) bucket inside e in omega (arith, first, before, later))
+
 -- What holds of each of the first lines
+
+pub passed-on : (f : ℕ → Bool) (begin n end : ℕ) → ((i : ℕ) → begin < i → i ≤ n → f i ≡ false) → ((i : ℕ) → n < i → i ≤ end → f i ≡ false) → (i : ℕ) → begin < i → i ≤ end → f i ≡ false
+passed-on f begin n end earlier later i first last = at (cases_lt n i)
+  where
+    at : (n < i) ⊎ (i ≤ n) → f i ≡ false
+    at (inr before) = earlier i first before
+    at (inl past) = later i past last
 
 pub with-next : (f settled : ℕ → Bool) (begin n : ℕ) → ((i : ℕ) → begin < i → i ≤ n → settled i ≡ true → f i ≡ false) → (settled (n + 1) ≡ true → f (n + 1) ≡ false) → (i : ℕ) → begin < i → i ≤ n + 1 → settled i ≡ true → f i ≡ false
 with-next f settled begin n earlier here i first last h = at (cases_lt n i)

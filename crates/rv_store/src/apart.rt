@@ -6,6 +6,7 @@ ghost use Rattle.rv_stmt.specs.Statement.{statement_of};
 ghost use Rattle.rv_program.specs.declared.limits.TheConstants.{MAX_LINES};
 ghost use Rattle.rv_store.specs.internal.Appended.{adds, touches, is_earlier, TellEarlier, FindsLocals, IsApart};
 ghost use Rattle.rv_store.specs.internal.Apart.{added_by, touched_by, HasGroupOf, AreUnnamed, AreMarked};
+ghost use Rattle.rv_program.specs.internal.FirstUses.{AreFirstUses};
 ghost use Rattle.rv_program.specs.internal.Briefs.{groups_on};
 ghost use Rattle.rv_program.specs.internal.NameSets.{bucket_of};
 ghost use Rattle.rv_program.specs.Definitions.{defines_symbol, place_in_body, is_defined};
@@ -16,8 +17,8 @@ ghost use Rattle.rv_program.specs.Uses.{names_used, uses_local_label};
 use rv_list::DefinitionPlace;
 use rv_program::lines_of_kind::lines_up_to_groups;
 use rv_program::{
-    Groups, Kind, Line, MAX_LINES, NameTable, NameTest, any_name, bucket_of, entry_of, is_defined,
-    place_on, uses_local_label,
+    FirstUses, Groups, Kind, Line, MAX_LINES, NameTable, NameTest, any_name, bucket_of, entry_of,
+    is_defined, place_on, uses_local_label,
 };
 use rv_stmt::{Body, LabelName, LabelSlice};
 use std::alloc::Global;
@@ -181,15 +182,32 @@ impl LineBehind<'_> {
         lines_up_to_groups(groups, next, added.with_kind(Kind::Uncompared, true))
     }
 
+    // How many lines there are before the first one of so many that it may touch. `only` is the bucket of all names that it adds: before the
+    // first use of this bucket no line uses one of them.
+    fn lines_untouched(&self, count: usize, uses: &FirstUses, only: Option<u16>) -> usize
+        requires only { IfSome only (λ bucket. (name : List ℕ) → added_by self.now name ≡ true → bucket_of name ≡ bucket) }
+        ensures within { result ≤ count }
+        ensures untouched { (lines : List (List ℕ)) → length lines ≡ count → AreFirstUses lines uses.now
+            → (line : ℕ) → 0 < line → line ≤ result → uses_any (touched_by self.now) (program_of lines) line ≡ false }
+    {
+        let Some(bucket) = only else {
+            return 0;
+        };
+        let before = (self.from as usize).saturating_sub(1);
+        uses.first(bucket).min(before).min(count)
+    }
+
     // The lines that it touches, rising, or `None` if other lines take what one of them gives, or there is no memory for them. Lines whose
-    // groups say that it does not touch them are gone past.
+    // groups say that it does not touch them are gone past, and so are those before the first use of its only name.
     fn users(
         &self,
         alloc: Global,
         lines: &[Line],
         groups: &[Groups],
+        uses: &FirstUses,
         added: Groups,
     ) -> Option<Vec<u32>>
+        requires uses { AreFirstUses lines.now uses.now }
         requires few { length lines.now ≤ MAX_LINES }
         requires groups { groups.now ≡ map groups_on lines.now }
         requires added { (name : List ℕ) → added_by self.now name ≡ true → HasGroupOf name added }
@@ -198,7 +216,8 @@ impl LineBehind<'_> {
     {
         let only = self.only_bucket();
         let mut users = Vec::new(alloc);
-        let mut i = self.lines_up_to_touched(groups, 0, added);
+        let begin = self.lines_untouched(groups.len(), uses, only);
+        let mut i = self.lines_up_to_touched(groups, begin, added);
         'lines: while i < lines.len() {
             let line = &lines[i];
             let number = i as u32 + 1;
@@ -225,7 +244,7 @@ pub struct Added {
     pub users: Vec<u32>,
 }
 
-/// What a line behind a text adds to it. `groups` are those of the lines, and `definitions` says where names are defined,
+/// What a line behind a text adds to it. `groups` are those of the lines, `uses` tells where names are first used, and `definitions` says where names are defined,
 /// with that line or without it. Each line before `from` finds all its local labels in the text. `None` if another line may have to do with it
 /// otherwise than by a name or a local label: an `.equ` or a high half of the text uses one that it adds, or the line is a high half, or there
 /// is no memory to find out.
@@ -233,11 +252,13 @@ pub fn adds_apart(
     alloc: Global,
     lines: &[Line],
     groups: &[Groups],
+    uses: &FirstUses,
     names: &NameTable,
     definitions: &[DefinitionPlace],
     line: &Line,
     from: u32,
 ) -> Option<Added>
+    requires uses { AreFirstUses lines.now uses.now }
     requires definitions { TellEarlier lines.now names.now definitions.now }
     requires groups { groups.now ≡ map groups_on lines.now }
     requires few { length lines.now ≤ MAX_LINES }
@@ -257,7 +278,7 @@ pub fn adds_apart(
         definitions,
     };
     let added = behind.added();
-    let users = behind.users(alloc, lines, groups, added)?;
+    let users = behind.users(alloc, lines, groups, uses, added)?;
     Some(Added {
         any: !added.are_none(),
         users,

@@ -4,33 +4,35 @@ ghost use Rattle.std.specs.Prelude.{◌≡◌, ◌≤◌, ◌<◌, [], length, m
 ghost use Rattle.rv_program.specs.internal.EditedRows.{HasPlace};
 ghost use Rattle.rv_store.specs.internal.Column.{HasRoom, taken_back};
 ghost use Rattle.rv_program.specs.internal.Briefs.{groups_on};
+ghost use Rattle.rv_program.specs.internal.FirstUses.{AreFirstUses};
 ghost use Rattle.rv_program.specs.Edits.{edit_of_read};
 ghost use Rattle.rv_program.specs.internal.Still.{set_or_push};
 ghost use Rattle.rv_program.specs.Text.{lines_after};
 
-use rv_program::{Groups, Line, ReadEdit};
+use rv_program::{FirstUses, Groups, Line, ReadEdit};
 use std::alloc::{AllocError, Global};
 use std::marker::Model;
 use std::mem;
 
 /// The lines of a text. Beside each stand the groups that it is in: a search for the lines that use a name, or are of a kind, goes past
-/// most of the others without a look at them. Contracts see the lines, and for how many there is room.
+/// most of the others without a look at them, and begins where a name is first used. Contracts see the lines, and for how many there is room.
 #[derive(Drop)]
 pub struct Column {
+    alloc: Global,
     lines: Vec<Line>,
     groups: Vec<Groups>,
+    uses: FirstUses,
 }
 
 impl Model for Column {
-    ghost use Rattle.std.specs.Prelude.{◌≡◌, map, vec_capacity};
-    ghost use Rattle.rv_program.specs.internal.Briefs.{groups_on};
-    ghost use Rattle.rv_store.specs.internal.Column.{Listed};
+    ghost use Rattle.std.specs.Prelude.{vec_capacity};
+    ghost use Rattle.rv_store.specs.internal.Column.{Listed, AreBeside};
 
     ghost Value = { Listed };
 
     ghost view = { λ c. record { items = c.lines.items; room = vec_capacity c.lines; group_room = vec_capacity c.groups } };
 
-    ghost invariant = { λ c. c.groups.items ≡ map groups_on c.lines.items };
+    ghost invariant = { λ c. AreBeside c.lines.items c.groups.items c.uses };
 }
 
 impl Column {
@@ -39,8 +41,10 @@ impl Column {
         ensures { result.items ≡ [] }
     {
         Column {
+            alloc,
             lines: Vec::new(alloc),
             groups: Vec::new(alloc),
+            uses: FirstUses::unknown(),
         }
     }
 
@@ -65,6 +69,24 @@ impl Column {
         self.groups.as_slice()
     }
 
+    /// Where the names of each bucket are first used.
+    pub fn uses(&self) -> &FirstUses
+        ensures { AreFirstUses self.now.items result.now }
+    {
+        &self.uses
+    }
+
+    // Begins to note where names are first used, before the first line is put in.
+    fn begin(&mut self) -> Result<(), AllocError>
+        ensures lines { self.new ≡ self.old }
+        ensures succeeds { 0 < self.old.room → IsOk result }
+    {
+        if self.lines.capacity() == 0 {
+            self.uses = FirstUses::of_none(self.alloc)?;
+        }
+        Ok(())
+    }
+
     // Puts a line in at a place. Where there is no memory for that, the lines stay.
     fn insert(&mut self, place: usize, line: Line) -> Result<(), AllocError>
         requires { place ≤ length self.old.items }
@@ -72,9 +94,14 @@ impl Column {
         ensures err { OnErr result (self.new.items ≡ self.old.items) }
         ensures succeeds { length self.old.items < self.old.room → length self.old.items < self.old.group_room → IsOk result }
     {
+        let brief = line.brief();
+        let count = self.len();
         self.groups.insert(place, line.groups())?;
         match self.lines.insert(place, line) {
-            Ok(()) => Ok(()),
+            Ok(()) => {
+                self.uses.insert(count, place, brief);
+                Ok(())
+            }
             Err(e) => {
                 self.groups.remove(place);
                 Err(e.into())
@@ -90,6 +117,8 @@ impl Column {
         ensures room { length self.new.items < self.new.room }
         ensures group_room { length self.new.items < self.new.group_room }
     {
+        let count = self.len();
+        self.uses.remove(count, place);
         self.groups.remove(place);
         self.lines.remove(place)
     }
@@ -100,6 +129,7 @@ impl Column {
         ensures former { result ≡ get_or self.old.items place result }
         ensures lines { self.new.items ≡ set self.old.items place line }
     {
+        self.uses.replace(place, line.brief());
         self.groups[place] = line.groups();
         mem::replace(&mut self.lines[place], line)
     }
@@ -117,6 +147,7 @@ impl Column {
     {
         match edit {
             ReadEdit::Insert(k, line) => {
+                self.begin()?;
                 self.insert(k as usize - 1, line)?;
                 Ok(ReadEdit::Delete(k))
             }
@@ -147,6 +178,7 @@ impl Column {
             self.replace(place, line);
             return Ok(());
         }
+        self.begin()?;
         self.insert(place, line)
     }
 

@@ -58,6 +58,7 @@ pub fn apart_ending(
         alloc,
         survey.lines.as_slice(),
         survey.lines.groups(),
+        survey.lines.uses(),
         names,
         &survey.definitions,
         line,

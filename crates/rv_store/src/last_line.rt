@@ -45,6 +45,7 @@ pub fn last_line(alloc: Global, base: u32, names: &NameTable, survey: &Survey) -
         alloc,
         earlier,
         groups,
+        survey.lines.uses(),
         names,
         &survey.definitions,
         line,

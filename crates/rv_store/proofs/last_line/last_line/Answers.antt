@@ -7,6 +7,8 @@ use Rattle.rv_program.specs.Program.{program_of}
 use Rattle.rv_store.specs.declared.survey.Survey.{Survey}
 use Rattle.rv_store.specs.internal.Appended.{TellEarlier}
 use Rattle.rv_program.specs.internal.Briefs.{groups_on}
+use Rattle.rv_program.specs.internal.FirstUses.{AreFirstUses}
+use Rattle.rv_program.specs.lemmas.FirstUseLaws.{uses-before}
 use Rattle.rv_store.specs.internal.Ends.{ends_of}
 use Rattle.rv_store.specs.internal.Surveys.{IsSurvey}
 use Rattle.rv_store.proofs.ApartLines.{tell-longer}
@@ -53,6 +55,11 @@ stay_sections-requires-clause-ends c =
     let are = surveyed base lines line c.args.names.now s whole c.requires.survey in
     together-all (shapes base lines line) (shape base lines line) (omega (arith, few-without base lines line c.args.names.now s few are, count-shapes base lines line)) (limited-with base lines line c.args.names.now s few are)
     s.ends (ends-with base lines line c.args.names.now s few are ∙ ap ends_of (shapes-with base lines line))
+
+pub adds_apart-requires-clause-uses : goal.adds_apart-requires-clause-uses
+adds_apart-requires-clause-uses c =
+    let whole = sym c.as_slice.ensures ∙ c.in_ok-line.ensures.cases.0 in
+    uses-before c.in_ok-line.earlier.now (c.in_ok-line.line.now ∷ []) c.uses.result.now (subst (λ ls. AreFirstUses ls c.uses.result.now) whole c.uses.ensures)
 
 pub adds_apart-requires-clause-definitions : goal.adds_apart-requires-clause-definitions
 adds_apart-requires-clause-definitions c =

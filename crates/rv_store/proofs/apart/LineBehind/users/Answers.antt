@@ -7,7 +7,7 @@ use Rattle.rv_program.specs.lemmas.LineRows.{row-added, row-kept, row-through}
 use Rattle.rv_program.specs.lemmas.LocalLines.{statement-of-line}
 use Rattle.rv_store.specs.internal.Apart.{added_by, touched_by}
 use Rattle.rv_store.specs.internal.Still.{is_settled, uses_any}
-use Rattle.rv_store.proofs.ApartLines.{with-next, with-block}
+use Rattle.rv_store.proofs.ApartLines.{passed-on, with-next, with-block}
 use Rattle.rv_store.proofs.apart.LineBehind.users.Goals as goal
 use Rattle.rv_store.proofs.apart.LineBehind.users.Goals.{then-touches+else-is_settled+in-Ok, else-touches}
 
@@ -17,11 +17,13 @@ lines-init c =
     let behind = c.args.self.now in
     let test : ℕ → Bool = uses_any (touched_by behind) (program_of lines) in
     let settled : ℕ → Bool = λ i. is_settled (body_at (program_of lines) i) in
+    let begin = c.lines_untouched-begin in
     let next = c.lines_up_to_touched-i.ensures in
-    let unused = next.passed lines c.requires.groups in
+    let count = count-groups lines c.args.groups.now c.requires.groups in
+    let unused = passed-on test 0 begin.result c.lines_up_to_touched-i.result (begin.ensures.untouched lines (omega (arith, count)) c.requires.uses) (next.passed lines c.requires.groups) in
     record {
-      within = omega (arith, next.within, count-groups lines c.args.groups.now c.requires.groups);
-      users = c.new-users.ensures.items ∙ row-through test 0 c.lines_up_to_touched-i.result next.up unused;
+      within = omega (arith, next.within, count);
+      users = c.new-users.ensures.items ∙ row-through test 0 c.lines_up_to_touched-i.result (omega arith) unused;
       unsettled = λ i first last h. unused i first last;
     }
 

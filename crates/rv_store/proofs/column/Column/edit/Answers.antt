@@ -1,4 +1,4 @@
-use Rattle.std.proofs.Common.{◌-◌, remove, insert, set, arith, ap, subst, ◌∙◌}
+use Rattle.std.proofs.Common.{◌-◌, length, remove, insert, set, arith, ap, subst, ◌∙◌}
 use Rattle.std.proofs.lemmas.Grind.{common_steps}
 use Rattle.rv_program.specs.internal.EditedRows.{HasPlace}
 use Rattle.rv_program.specs.Edits.{edit_of_read}
@@ -7,10 +7,12 @@ use Rattle.rv_store.proofs.column.Column.edit.Goals as goal
 
 pub returns-in_ok-insert-in-Insert-clause-back : goal.returns-in_ok-insert-in-Insert-clause-back
 returns-in_ok-insert-in-Insert-clause-back c =
-    let lines = c.args.self.now.items in
-    let place = subst (λ e. HasPlace lines (edit_of_read e)) c.in-Insert.is c.requires.place in
+    let lines = c.begin.new.self.items in
+    let same = ap (λ v. v.items) c.begin.ensures.lines in
+    let place = subst (λ e. HasPlace c.args.self.now.items (edit_of_read e)) c.in-Insert.is c.requires.place in
     ap (λ ls. remove ls (c.in-Insert.k - 1)) c.in_ok-insert-in-Insert.ensures.ok
-    ∙ removed-inserted lines (c.in-Insert.k - 1) c.in-Insert.line (omega (arith, place.0, place.1))
+    ∙ removed-inserted lines (c.in-Insert.k - 1) c.in-Insert.line (omega (arith, place.0, place.1, ap length same))
+    ∙ same
 
 pub returns-in-Delete-clause-back : goal.returns-in-Delete-clause-back
 returns-in-Delete-clause-back c =
