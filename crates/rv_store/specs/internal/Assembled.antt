@@ -15,3 +15,12 @@ pub record AreCountedAfter (base : ℕ) (lines : List (List ℕ)) (edit : Edit) 
   pub encoded_least : old.encoded ≤ new.encoded
   pub encoded_few : new.encoded ≤ old.encoded + MAX_LINES
   pub encoded_most : new.encoded ≤ old.encoded + most_codes base lines edit
+
+-- Values alone are counted where the rows of a text are made: no more than a few, and so much together with what the shape of a new line
+-- took.
+pub record AreCountedRows (few shape work : ℕ) (old new : Counts) : Type 0 where
+  pub parsed : new.parsed ≡ old.parsed
+  pub valued_least : old.valued ≤ new.valued
+  pub valued_few : new.valued ≤ old.valued + few
+  pub valued_most : new.valued + shape ≤ old.valued + work
+  pub encoded : new.encoded ≡ old.encoded
