@@ -10,7 +10,6 @@ use Rattle.std.proofs.lemmas.Option.{get_or_from_slice_get, slice_get_within}
 use Rattle.rv_text.specs.Counting.{Counts}
 use Rattle.rv_stmt.specs.Statement.{statement_of}
 use Rattle.rv_program.specs.declared.item.Item.{Item}
-use Rattle.rv_program.specs.declared.limits.TheConstants.{MAX_LINES}
 use Rattle.rv_program.specs.Changes.{program_after, is_new_or, differs_in_name, differs_in_uses, differs_in_values}
 use Rattle.rv_program.specs.Edits.{line_before_edit}
 use Rattle.rv_program.specs.Program.{Program, program_of, no_statement, body_at, for_lines, lines_that}
@@ -263,7 +262,7 @@ module _ (r : EditedText) {k : ℕ} {line : List ℕ} {touched : Touched} (is : 
         let here : equ_operands (body_at (program_after r.lines r.edit) (k - 1 + 1)) ≡ equ_operands (statement_of line).body = (let number : k - 1 + 1 ≡ k = omega (arith, first) in ap (λ m. equ_operands (body_at (program_after r.lines r.edit) m)) number ∙ ap equ_operands body-put) in
         omega (arith, surveyed, constants, equs, shape, next, more, here)
 
-    module _ (within : n ≤ MAX_LINES) (old middle : Counts) (parsed : middle.parsed ≡ old.parsed) (least : old.valued ≤ middle.valued) (most : middle.valued ≤ old.valued + 2) (operands : middle.valued ≤ old.valued + 2 * equ_operands (statement_of line).body) (encoded : middle.encoded ≡ old.encoded) where
+    module _ (old middle : Counts) (parsed : middle.parsed ≡ old.parsed) (least : old.valued ≤ middle.valued) (most : middle.valued ≤ old.valued + 2) (operands : middle.valued ≤ old.valued + 2 * equ_operands (statement_of line).body) (encoded : middle.encoded ≡ old.encoded) where
       -- first what it defines is counted, then what the items take
       pub counted-put : (new : Counts) → AreCounted r 0 n middle new → AreCountedAfter r.base r.lines r.edit old new
       counted-put new all =
@@ -271,7 +270,7 @@ module _ (r : EditedText) {k : ℕ} {line : List ℕ} {touched : Touched} (is : 
           let last = is.last in
           let work = defined-work in
           let codes = all.encoded_most in
-          counted-after r.base r.lines (revised_lines r) r.edit old new middle.valued refl within (all.parsed ∙ parsed) least (omega (arith, most, first, last, count)) (omega (arith, operands, work))
+          counted-after r.base r.lines (revised_lines r) r.edit old new middle.valued refl (all.parsed ∙ parsed) least (omega (arith, most, first, last, count)) (omega (arith, operands, work))
           all.valued_least (let few = all.valued_few in omega (arith, few)) (let values = all.valued_most in omega (arith, values))
           (let fewest = all.encoded_least in omega (arith, fewest, encoded)) (let few = all.encoded_few in omega (arith, few, encoded)) (omega (arith, codes, encoded))
 

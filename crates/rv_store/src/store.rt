@@ -258,7 +258,11 @@ impl Store {
         ensures err { OnErr result (self.new ≡ self.old) }
         ensures changed { IfOk result (λ c. c.lines ≡ changed_lines self.old.base self.old.lines (edit_of edit.now)) }
         ensures memory { IfErr result (λ e. e ≡ EditError.Memory) }
-        ensures counted { AreCountedAfter self.old.base self.old.lines (edit_of edit.now) (counts_of C.parsed_count C.valued_count C.encoded_count counter.old) (counts_of C.parsed_count C.valued_count C.encoded_count counter.new) }
+        ensures parsed { C.parsed_count counter.new ≡ C.parsed_count counter.old }
+        ensures valued { (C.valued_count counter.old ≤ C.valued_count counter.new) × (C.valued_count counter.new + 1 < C.valued_count counter.old + 2 ^ 32) }
+        ensures encoded { (C.encoded_count counter.old ≤ C.encoded_count counter.new) × (C.encoded_count counter.new < C.encoded_count counter.old + 2 ^ 32) }
+        ensures values { C.valued_count counter.new + shape_operands (edit_of edit.now) ≤ C.valued_count counter.old + most_values self.old.base self.old.lines (edit_of edit.now) }
+        ensures codes { C.encoded_count counter.new ≤ C.encoded_count counter.old + most_codes self.old.base self.old.lines (edit_of edit.now) }
     {
         let place = edit.place() as usize - 1;
         let former = self.survey.former(place)?;
@@ -422,51 +426,15 @@ impl Store {
         ensures err { OnErr result (self.new ≡ self.old) }
         ensures changed { IfOk result (λ c. c.lines ≡ changed_lines self.old.base self.old.lines (edit_of edit.now)) }
         ensures memory { IfErr result (λ e. e ≡ EditError.Memory) }
-        ensures counted { AreCountedAfter self.old.base self.old.lines (edit_of edit.now) (counts_of C.parsed_count C.valued_count C.encoded_count counter.old) (counts_of C.parsed_count C.valued_count C.encoded_count counter.new) }
+        ensures parsed { C.parsed_count counter.new ≡ C.parsed_count counter.old }
+        ensures valued { (C.valued_count counter.old ≤ C.valued_count counter.new) × (C.valued_count counter.new + 1 < C.valued_count counter.old + 2 ^ 32) }
+        ensures encoded { (C.encoded_count counter.old ≤ C.encoded_count counter.new) × (C.encoded_count counter.new < C.encoded_count counter.old + 2 ^ 32) }
+        ensures values { C.valued_count counter.new + shape_operands (edit_of edit.now) ≤ C.valued_count counter.old + most_values self.old.base self.old.lines (edit_of edit.now) }
+        ensures codes { C.encoded_count counter.new ≤ C.encoded_count counter.old + most_codes self.old.base self.old.lines (edit_of edit.now) }
     {
         self.forget_names();
         let items = self.edited(&read)?;
         self.assemble(edit, read, items, shape, counter)
-    }
-
-    // Makes an edit that is not refused, whose line was read and has this shape, in the way that goes over the fewest lines. Where there
-    // is no memory for that, the text stays.
-    fn make_shaped<C: Count>(
-        &mut self,
-        edit: &LineEdit<'_>,
-        read: ReadEdit,
-        shape: Measured,
-        counter: &mut C,
-    ) -> Result<Changed, EditError>
-        requires allowed { refusal_of self.old.lines (edit_of edit.now) ≡ None }
-        requires read { edit_of_read read ≡ edit_of edit.now }
-        requires shape { IsNewShape self.old.lines (edit_of_read read) shape }
-        requires limited { IsLimited shape }
-        requires valued { C.valued_count counter.old ≤ 2 ^ 63 + 1 }
-        requires encoded { C.encoded_count counter.old ≤ 2 ^ 63 }
-        ensures ok { OnOk result (self.new ≡ text_after self.old (edit_of edit.now)) }
-        ensures err { OnErr result (self.new ≡ self.old) }
-        ensures changed { IfOk result (λ c. c.lines ≡ changed_lines self.old.base self.old.lines (edit_of edit.now)) }
-        ensures memory { IfErr result (λ e. e ≡ EditError.Memory) }
-        ensures counted { AreCountedAfter self.old.base self.old.lines (edit_of edit.now) (counts_of C.parsed_count C.valued_count C.encoded_count counter.old) (counts_of C.parsed_count C.valued_count C.encoded_count counter.new) }
-    {
-        match &read {
-            ReadEdit::Insert(k, line) => match self.ending(*k, line, shape) {
-                Some(end) => self.put(edit, line.share()?, &end.still, &end.users, counter),
-                None => self.rework(edit, read, shape, counter),
-            },
-            ReadEdit::Delete(k) => match self.last_line(*k) {
-                Some(last) => {
-                    self.forget_names();
-                    self.shorten(&last)
-                }
-                None => self.rework(edit, read, shape, counter),
-            },
-            ReadEdit::Replace(k, line) => match self.alike(*k, line, shape) {
-                Some(still) => self.put(edit, line.share()?, &still, &[*k], counter),
-                None => self.rework(edit, read, shape, counter),
-            },
-        }
     }
 
     // Makes an edit that is not refused, whose line was read. Where there is no memory for that, the text stays.
@@ -491,7 +459,23 @@ impl Store {
         ensures codes { C.encoded_count counter.new ≤ C.encoded_count counter.old + most_codes self.old.base self.old.lines (edit_of edit.now) }
     {
         let shape = self.new_shape(&read, counter);
-        self.make_shaped(edit, read, shape, counter)
+        match &read {
+            ReadEdit::Insert(k, line) => match self.ending(*k, line, shape) {
+                Some(end) => self.put(edit, line.share()?, &end.still, &end.users, counter),
+                None => self.rework(edit, read, shape, counter),
+            },
+            ReadEdit::Delete(k) => match self.last_line(*k) {
+                Some(last) => {
+                    self.forget_names();
+                    self.shorten(&last)
+                }
+                None => self.rework(edit, read, shape, counter),
+            },
+            ReadEdit::Replace(k, line) => match self.alike(*k, line, shape) {
+                Some(still) => self.put(edit, line.share()?, &still, &[*k], counter),
+                None => self.rework(edit, read, shape, counter),
+            },
+        }
     }
 
     // Makes an edit, or says why not.

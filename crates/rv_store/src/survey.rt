@@ -5,10 +5,8 @@ ghost use Rattle.rv_layout.specs.Places.{section_base_of, section_end_of, sum_be
 ghost use Rattle.rv_layout.specs.Sections.{sections};
 ghost use Rattle.rv_program.specs.internal.Briefs.{groups_on};
 ghost use Rattle.rv_program.specs.internal.Before.{IsBefore, base_before, lines_before, edit_on};
-ghost use Rattle.rv_program.specs.Counted.{counts_of};
 ghost use Rattle.rv_program.specs.Edits.{edit_of};
 ghost use Rattle.rv_program.specs.internal.EditedRows.{HasPlace};
-ghost use Rattle.rv_store.specs.internal.Assembled.{AreCountedRows};
 ghost use Rattle.rv_store.specs.internal.Ends.{ends_of, end_in, place_by_shapes};
 ghost use Rattle.rv_store.specs.internal.Unmoved.{AreUnmoved};
 ghost use Rattle.rv_program.specs.internal.NewShapes.{IsNewShape, shape_operands};
@@ -156,8 +154,11 @@ impl Survey {
         ensures survey { IfOk result (λ r. IsSurvey base (program_of self.now.lines.items) names.new r.0) }
         ensures still { IfOk result (λ r. r.1 ≡ true → AreUnmoved self.now.shapes.items (edit_of edit.now) r.0.shapes.items) }
         ensures names { Grows names.old names.new }
-        ensures counted { AreCountedRows (4 * length self.now.lines.items) (shape_operands (edit_of edit.now)) (work survey_operands base old.now (edit_of edit.now) (length self.now.lines.items))
-            (counts_of C.parsed_count C.valued_count C.encoded_count counter.old) (counts_of C.parsed_count C.valued_count C.encoded_count counter.new) }
+        ensures least { C.valued_count counter.old ≤ C.valued_count counter.new }
+        ensures most { C.valued_count counter.new ≤ C.valued_count counter.old + 4 * length self.now.lines.items }
+        ensures work { C.valued_count counter.new + shape_operands (edit_of edit.now) ≤ C.valued_count counter.old + work survey_operands base old.now (edit_of edit.now) (length self.now.lines.items) }
+        ensures parsed { C.parsed_count counter.new ≡ C.parsed_count counter.old }
+        ensures encoded { C.encoded_count counter.new ≡ C.encoded_count counter.old }
     {
         let lines = self.lines.as_slice();
         let groups = self.lines.groups();
@@ -211,9 +212,12 @@ impl Survey {
         requires locals { AreLocals (program_of lines.now) (length lines.now) locals }
         requires valued { C.valued_count counter.old ≤ 2 ^ 63 + 2 ^ 32 }
         ensures survey { IfOk result (λ s. IsSurvey (base_before before.now) (program_of lines.now) before.now.symbols.text.names.now s) }
-        ensures counted { AreCountedRows (2 * length lines.now) 0
-            (operands_through equ_operands (program_of lines.now) (length lines.now) + work high_operands (base_before before.now) (lines_before before.now) (edit_on before.now) (length lines.now))
-            (counts_of C.parsed_count C.valued_count C.encoded_count counter.old) (counts_of C.parsed_count C.valued_count C.encoded_count counter.new) }
+        ensures least { C.valued_count counter.old ≤ C.valued_count counter.new }
+        ensures most { C.valued_count counter.new ≤ C.valued_count counter.old + 2 * length lines.now }
+        ensures work { C.valued_count counter.new ≤ C.valued_count counter.old + operands_through equ_operands (program_of lines.now) (length lines.now)
+            + work high_operands (base_before before.now) (lines_before before.now) (edit_on before.now) (length lines.now) }
+        ensures parsed { C.parsed_count counter.new ≡ C.parsed_count counter.old }
+        ensures encoded { C.encoded_count counter.new ≡ C.encoded_count counter.old }
     {
         let column = Lines::in_column(lines);
         let text = TextRows {

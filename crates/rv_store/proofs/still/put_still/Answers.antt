@@ -137,17 +137,17 @@ returns-clause-symbols g c = at c.args.still.now.defines refl
 pub returns-in_err-new-clause-counted : goal.returns-in_err-new-clause-counted
 returns-in_err-new-clause-counted g c =
     let counts = counts_of g.C.Count.parsed_count g.C.Count.valued_count g.C.Count.encoded_count c.args.counter.now in
-    counted-defined (edited_by c.args.base c.args.survey.now.lines.items c.args.edit.now) c.requires.still.still c.requires.edited c.requires.allowed c.requires.few counts counts refl (omega arith) (omega arith) (omega arith) refl
+    counted-defined (edited_by c.args.base c.args.survey.now.lines.items c.args.edit.now) c.requires.still.still c.requires.edited c.requires.allowed counts counts refl (omega arith) (omega arith) (omega arith) refl
 
 pub returns-in_err-put_line-clause-counted : goal.returns-in_err-put_line-clause-counted
 returns-in_err-put_line-clause-counted g c =
     let counts = counts_of g.C.Count.parsed_count g.C.Count.valued_count g.C.Count.encoded_count c.args.counter.now in
-    counted-defined (edited_by c.args.base c.args.survey.now.lines.items c.args.edit.now) c.requires.still.still c.requires.edited c.requires.allowed c.requires.few counts counts refl (omega arith) (omega arith) (omega arith) refl
+    counted-defined (edited_by c.args.base c.args.survey.now.lines.items c.args.edit.now) c.requires.still.still c.requires.edited c.requires.allowed counts counts refl (omega arith) (omega arith) (omega arith) refl
 
 pub returns-in_err-define_last-clause-counted : goal.returns-in_err-define_last-clause-counted
 returns-in_err-define_last-clause-counted g c =
     let counts = counts_of g.C.Count.parsed_count g.C.Count.valued_count g.C.Count.encoded_count in
-    counted-defined (edited_by c.args.base c.args.survey.now.lines.items c.args.edit.now) c.requires.still.still c.requires.edited c.requires.allowed c.requires.few (counts c.args.counter.now) (counts c.define_last.new.counter)
+    counted-defined (edited_by c.args.base c.args.survey.now.lines.items c.args.edit.now) c.requires.still.still c.requires.edited c.requires.allowed (counts c.args.counter.now) (counts c.define_last.new.counter)
     c.define_last.ensures.parsed c.define_last.ensures.least c.define_last.ensures.most (rw c.in_ok-new.ensures at c.define_last.ensures.operands) c.define_last.ensures.encoded
 
 pub returns-in-Ok-clause-counted : goal.returns-in-Ok-clause-counted
@@ -155,7 +155,7 @@ returns-in-Ok-clause-counted g c =
     let counts = counts_of g.C.Count.parsed_count g.C.Count.valued_count g.C.Count.encoded_count in
     let ok = (rw c.place.ensures.value at c.in_ok-put_line.ensures.ok) in
     let whole = c.define_last.ensures.lines.lines ∙ ok.lines ∙ sym c.requires.edited.edited in
-    counted-put (edited_by c.args.base c.args.survey.now.lines.items c.args.edit.now) c.requires.still.still c.requires.edited c.requires.allowed c.requires.few (counts c.args.counter.now) (counts c.define_last.new.counter)
+    counted-put (edited_by c.args.base c.args.survey.now.lines.items c.args.edit.now) c.requires.still.still c.requires.edited c.requires.allowed (counts c.args.counter.now) (counts c.define_last.new.counter)
     c.define_last.ensures.parsed c.define_last.ensures.least c.define_last.ensures.most (rw c.in_ok-new.ensures at c.define_last.ensures.operands) c.define_last.ensures.encoded (counts c.items_put.new.counter)
     (counted-by c.args.base c.args.survey.now.lines.items c.args.items.now.items c.args.edit.now c.define_last.new.self.lines.items c.requires.items.lines whole _ _ c.items_put.ensures.counted)
 
@@ -164,6 +164,6 @@ returns-clause-counted g c =
     let counts = counts_of g.C.Count.parsed_count g.C.Count.valued_count g.C.Count.encoded_count in
     let ok = (rw c.place.ensures.value at c.in_ok-put_line.ensures.ok) in
     let whole = c.define_last.ensures.lines.lines ∙ ok.lines ∙ sym c.requires.edited.edited in
-    counted-put (edited_by c.args.base c.args.survey.now.lines.items c.args.edit.now) c.requires.still.still c.requires.edited c.requires.allowed c.requires.few (counts c.args.counter.now) (counts c.define_last.new.counter)
+    counted-put (edited_by c.args.base c.args.survey.now.lines.items c.args.edit.now) c.requires.still.still c.requires.edited c.requires.allowed (counts c.args.counter.now) (counts c.define_last.new.counter)
     c.define_last.ensures.parsed c.define_last.ensures.least c.define_last.ensures.most (rw c.in_ok-new.ensures at c.define_last.ensures.operands) c.define_last.ensures.encoded (counts c.items_put.new.counter)
     (counted-by c.args.base c.args.survey.now.lines.items c.args.items.now.items c.args.edit.now c.define_last.new.self.lines.items c.requires.items.lines whole _ _ c.items_put.ensures.counted)

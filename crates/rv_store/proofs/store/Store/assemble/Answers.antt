@@ -1,4 +1,4 @@
-use Rattle.std.proofs.Common.{◌≡◌, ℕ, ◌≤◌, List, None, length, map, ap, sym, subst, ◌∙◌}
+use Rattle.std.proofs.Common.{◌≡◌, ℕ, ◌≤◌, List, None, length, map, arith, ap, sym, subst, ◌∙◌, refl}
 use Rattle.std.specs.List.{AllPass}
 use Rattle.std.proofs.lemmas.List.{length-map}
 use Rattle.rv_program.specs.Changes.{changed_lines}
@@ -13,8 +13,8 @@ use Rattle.rv_store.specs.internal.Assembled.{AreCountedAfter}
 use Rattle.rv_store.specs.internal.Column.{Listed}
 use Rattle.rv_store.specs.internal.Surveys.{IsSurvey}
 use Rattle.rv_program.specs.Text.{is_line, refusal_of, lines_after}
-use Rattle.rv_store.proofs.CountedEdits.{counted-nothing}
 use Rattle.rv_store.proofs.EditRefusals.{lined_after, few_after}
+use Rattle.rv_program.specs.lemmas.ShapeWork.{nothing-counted}
 use Rattle.rv_store.proofs.Stores.{survey_grown}
 use Rattle.rv_store.proofs.store.Store.assemble.Goals as goal
 
@@ -82,8 +82,15 @@ invariant_of-self-in-Err g c =
     }
 
 pub returns-in_err-undo-clause-counted : goal.returns-in_err-undo-clause-counted
-returns-in_err-undo-clause-counted g c =
-    counted-nothing c.args.self.now.base c.args.self.now.lines (edit_of c.args.edit.now) (counts_of g.C.Count.parsed_count g.C.Count.valued_count g.C.Count.encoded_count c.args.counter.now) c.requires.allowed
+returns-in_err-undo-clause-counted g c = record {
+  parsed = refl;
+  valued_least = omega arith;
+  valued_few = omega arith;
+  valued_most = omega (arith, nothing-counted c.args.self.now.base c.args.self.now.lines (edit_of c.args.edit.now) c.requires.allowed);
+  encoded_least = omega arith;
+  encoded_few = omega arith;
+  encoded_most = omega arith;
+}
 
 pub invariant_of-self : goal.invariant_of-self
 invariant_of-self g c = record {

@@ -1,20 +1,19 @@
-use Rattle.std.proofs.Common.{◌≡◌, ◌≤◌, List, ℕ, None, length, map, arith, ap, sym, subst, ◌∙◌}
+use Rattle.std.proofs.Common.{◌≡◌, ◌+◌, ◌≤◌, List, ℕ, None, length, map, arith, ap, sym, subst, ◌∙◌}
 use Rattle.std.specs.List.{AllPass}
 use Rattle.rv_program.specs.declared.item.Item.{Item}
-use Rattle.rv_program.specs.Changes.{changed_lines}
-use Rattle.rv_program.specs.Counted.{counts_of}
+use Rattle.rv_program.specs.Changes.{changed_lines, most_values, most_codes}
 use Rattle.rv_program.specs.Edits.{edit_of, place_of_edit}
 use Rattle.rv_program.specs.Program.{program_of}
 use Rattle.rv_program.specs.Text.{Edit, Text, is_line, refusal_of, lines_after}
 use Rattle.rv_program.specs.internal.Items.{AreItems}
+use Rattle.rv_program.specs.internal.NewShapes.{shape_operands}
 use Rattle.rv_program.specs.lemmas.Programs.{length-program}
+use Rattle.rv_program.specs.lemmas.ShapeWork.{nothing-counted}
 use Rattle.rv_store.specs.declared.survey.Survey.{Survey}
-use Rattle.rv_store.specs.internal.Assembled.{AreCountedAfter}
 use Rattle.rv_store.specs.internal.Still.{IsPutEdit}
 use Rattle.rv_store.specs.internal.StillLines.{IsStillLine}
 use Rattle.rv_store.specs.internal.Stored.{IsStored}
 use Rattle.rv_store.specs.internal.Surveys.{IsSurvey}
-use Rattle.rv_store.proofs.CountedEdits.{counted-nothing}
 use Rattle.rv_store.proofs.EditRefusals.{lined_after, few_after}
 use Rattle.rv_store.proofs.StillRows.{symbols-same, survey-back, count-shapes, count-places}
 use Rattle.rv_store.proofs.StillTexts.{within-next}
@@ -122,21 +121,57 @@ returns-in-Ok-clause-changed g c =
     by-text c.self.inside.base c.self.inside.names c.self.inside.survey c.self.inside.items.items c.self.invariant c.args.self.now c.self.view_is
     (λ b ls. c.in-Ok.changed.lines ≡ changed_lines b ls (edit_of c.args.edit.now)) c.in-Ok.ensures.changed
 
-pub returns-in_err-former-clause-counted : goal.returns-in_err-former-clause-counted
-returns-in_err-former-clause-counted g c =
-    counted-nothing c.args.self.now.base c.args.self.now.lines (edit_of c.args.edit.now) (counts_of g.C.Count.parsed_count g.C.Count.valued_count g.C.Count.encoded_count c.args.counter.now) c.requires.allowed
+pub returns-in_err-former-clause-values : goal.returns-in_err-former-clause-values
+returns-in_err-former-clause-values g c =
+    omega (arith, nothing-counted c.args.self.now.base c.args.self.now.lines (edit_of c.args.edit.now) c.requires.allowed)
 
-pub returns-in-Ok-clause-counted : goal.returns-in-Ok-clause-counted
-returns-in-Ok-clause-counted g c =
-    let counts = counts_of g.C.Count.parsed_count g.C.Count.valued_count g.C.Count.encoded_count in
-    by-text c.self.inside.base c.self.inside.names c.self.inside.survey c.self.inside.items.items c.self.invariant c.args.self.now c.self.view_is
-    (λ b ls. AreCountedAfter b ls (edit_of c.args.edit.now) (counts c.args.counter.now) (counts c.put_still.new.counter)) c.put_still.ensures.counted
+pub returns-in-Err-clause-valued : goal.returns-in-Err-clause-valued
+returns-in-Err-clause-valued g c =
+    let most = few c.self.inside.base c.self.inside.names c.self.inside.survey c.self.inside.items.items c.self.invariant c.args.self.now c.self.view_is (edit_of c.args.edit.now) c.requires.allowed in
+    (c.put_still.ensures.counted.valued_least, omega (arith, c.put_still.ensures.counted.valued_few, most))
 
-pub returns-in-Err-clause-counted : goal.returns-in-Err-clause-counted
-returns-in-Err-clause-counted g c =
-    let counts = counts_of g.C.Count.parsed_count g.C.Count.valued_count g.C.Count.encoded_count in
+pub returns-in-Err-clause-encoded : goal.returns-in-Err-clause-encoded
+returns-in-Err-clause-encoded g c =
+    let most = few c.self.inside.base c.self.inside.names c.self.inside.survey c.self.inside.items.items c.self.invariant c.args.self.now c.self.view_is (edit_of c.args.edit.now) c.requires.allowed in
+    (c.put_still.ensures.counted.encoded_least, omega (arith, c.put_still.ensures.counted.encoded_few, most))
+
+pub returns-in-Ok-clause-valued : goal.returns-in-Ok-clause-valued
+returns-in-Ok-clause-valued g c =
+    let most = few c.self.inside.base c.self.inside.names c.self.inside.survey c.self.inside.items.items c.self.invariant c.args.self.now c.self.view_is (edit_of c.args.edit.now) c.requires.allowed in
+    (c.put_still.ensures.counted.valued_least, omega (arith, c.put_still.ensures.counted.valued_few, most))
+
+pub returns-in-Ok-clause-encoded : goal.returns-in-Ok-clause-encoded
+returns-in-Ok-clause-encoded g c =
+    let most = few c.self.inside.base c.self.inside.names c.self.inside.survey c.self.inside.items.items c.self.invariant c.args.self.now c.self.view_is (edit_of c.args.edit.now) c.requires.allowed in
+    (c.put_still.ensures.counted.encoded_least, omega (arith, c.put_still.ensures.counted.encoded_few, most))
+
+pub returns-in-Ok-clause-values : goal.returns-in-Ok-clause-values
+returns-in-Ok-clause-values g c =
+    let count = g.C.Count.valued_count in
+    let edit = edit_of c.args.edit.now in
     by-text c.self.inside.base c.self.inside.names c.self.inside.survey c.self.inside.items.items c.self.invariant c.args.self.now c.self.view_is
-    (λ b ls. AreCountedAfter b ls (edit_of c.args.edit.now) (counts c.args.counter.now) (counts c.put_still.new.counter)) c.put_still.ensures.counted
+    (λ b ls. count c.put_still.new.counter + shape_operands edit ≤ count c.args.counter.now + most_values b ls edit) c.put_still.ensures.counted.valued_most
+
+pub returns-in-Err-clause-values : goal.returns-in-Err-clause-values
+returns-in-Err-clause-values g c =
+    let count = g.C.Count.valued_count in
+    let edit = edit_of c.args.edit.now in
+    by-text c.self.inside.base c.self.inside.names c.self.inside.survey c.self.inside.items.items c.self.invariant c.args.self.now c.self.view_is
+    (λ b ls. count c.put_still.new.counter + shape_operands edit ≤ count c.args.counter.now + most_values b ls edit) c.put_still.ensures.counted.valued_most
+
+pub returns-in-Ok-clause-codes : goal.returns-in-Ok-clause-codes
+returns-in-Ok-clause-codes g c =
+    let count = g.C.Count.encoded_count in
+    let edit = edit_of c.args.edit.now in
+    by-text c.self.inside.base c.self.inside.names c.self.inside.survey c.self.inside.items.items c.self.invariant c.args.self.now c.self.view_is
+    (λ b ls. count c.put_still.new.counter ≤ count c.args.counter.now + most_codes b ls edit) c.put_still.ensures.counted.encoded_most
+
+pub returns-in-Err-clause-codes : goal.returns-in-Err-clause-codes
+returns-in-Err-clause-codes g c =
+    let count = g.C.Count.encoded_count in
+    let edit = edit_of c.args.edit.now in
+    by-text c.self.inside.base c.self.inside.names c.self.inside.survey c.self.inside.items.items c.self.invariant c.args.self.now c.self.view_is
+    (λ b ls. count c.put_still.new.counter ≤ count c.args.counter.now + most_codes b ls edit) c.put_still.ensures.counted.encoded_most
 
 pub take_back-requires : goal.take_back-requires
 take_back-requires g c =

@@ -1,12 +1,12 @@
+use Rattle.std.proofs.Common.{◌≡◌, ◌+◌, ◌≤◌, arith, subst}
+use Rattle.std.proofs.lemmas.Grind.{common_steps}
 use Rattle.std.specs.Result.{IfOk, OnOk, OnErr}
-use Rattle.std.proofs.Common.{◌≡◌, subst}
-use Rattle.rv_program.specs.Changes.{changed_lines}
-use Rattle.rv_program.specs.Counted.{counts_of}
+use Rattle.rv_program.specs.Changes.{changed_lines, most_values, most_codes}
 use Rattle.rv_program.specs.Edits.{edit_of}
 use Rattle.rv_program.specs.internal.Former.{AreFormer}
+use Rattle.rv_program.specs.internal.NewShapes.{shape_operands}
 use Rattle.rv_program.specs.Text.{text_after}
-use Rattle.rv_store.specs.internal.Assembled.{AreCountedAfter}
-use Rattle.rv_store.proofs.CountedEdits.{counted-nothing}
+use Rattle.rv_program.specs.lemmas.ShapeWork.{nothing-counted}
 use Rattle.rv_store.proofs.store.Store.rework.Goals as goal
 
 pub assemble-requires-clause-former : goal.assemble-requires-clause-former
@@ -14,9 +14,12 @@ assemble-requires-clause-former g c =
     let old = c.forget_names.new.self in
     subst (λ e. AreFormer old.base old.lines e 0 c.in_ok-items.items.items) c.requires.read c.in_ok-items.ensures.former
 
-pub returns-in_err-items-clause-counted : goal.returns-in_err-items-clause-counted
-returns-in_err-items-clause-counted g c =
-    counted-nothing c.args.self.now.base c.args.self.now.lines (edit_of c.args.edit.now) (counts_of g.C.Count.parsed_count g.C.Count.valued_count g.C.Count.encoded_count c.args.counter.now) c.requires.allowed
+pub returns-in_err-items-clause-values : goal.returns-in_err-items-clause-values
+returns-in_err-items-clause-values g c =
+    omega (arith, nothing-counted c.args.self.now.base c.args.self.now.lines (edit_of c.args.edit.now) c.requires.allowed)
+
+pub returns-clause-parsed : goal.returns-clause-parsed
+returns-clause-parsed g c = c.assemble.ensures.counted.parsed
 
 -- Names are forgotten, and the text stays
 
@@ -31,7 +34,20 @@ pub returns-clause-changed : goal.returns-clause-changed
 returns-clause-changed g c =
     subst (λ old. IfOk c.assemble.result (λ r. r.lines ≡ changed_lines old.base old.lines (edit_of c.args.edit.now))) c.forget_names.ensures c.assemble.ensures.changed
 
-pub returns-clause-counted : goal.returns-clause-counted
-returns-clause-counted g c =
-    let counts = counts_of g.C.Count.parsed_count g.C.Count.valued_count g.C.Count.encoded_count in
-    subst (λ old. AreCountedAfter old.base old.lines (edit_of c.args.edit.now) (counts c.args.counter.now) (counts c.assemble.new.counter)) c.forget_names.ensures c.assemble.ensures.counted
+pub returns-clause-values : goal.returns-clause-values
+returns-clause-values g c =
+    let count = g.C.Count.valued_count in
+    let edit = edit_of c.args.edit.now in
+    subst (λ old. count c.assemble.new.counter + shape_operands edit ≤ count c.args.counter.now + most_values old.base old.lines edit) c.forget_names.ensures c.assemble.ensures.counted.valued_most
+
+pub returns-clause-codes : goal.returns-clause-codes
+returns-clause-codes g c =
+    let count = g.C.Count.encoded_count in
+    let edit = edit_of c.args.edit.now in
+    subst (λ old. count c.assemble.new.counter ≤ count c.args.counter.now + most_codes old.base old.lines edit) c.forget_names.ensures c.assemble.ensures.counted.encoded_most
+
+pub returns-clause-valued : goal.returns-clause-valued
+returns-clause-valued g c = grind (arith, common_steps)
+
+pub returns-clause-encoded : goal.returns-clause-encoded
+returns-clause-encoded g c = grind (arith, common_steps)

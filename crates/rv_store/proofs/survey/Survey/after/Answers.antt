@@ -1,13 +1,10 @@
-use Rattle.std.proofs.Common.{◌≡◌, ℕ, ◌≤◌, ◌+◌, ◌*◌, ◌^◌, List, length, map, ap, sym, subst, ◌∙◌, arith, refl}
+use Rattle.std.proofs.Common.{◌≡◌, ℕ, ◌≤◌, ◌+◌, ◌*◌, ◌^◌, List, length, map, ap, sym, subst, ◌∙◌, arith}
 use Rattle.rv_layout.specs.Places.{is_base, sum_below}
 use Rattle.rv_layout.specs.Sections.{sections}
 use Rattle.rv_program.specs.declared.before.Before.{Before}
-use Rattle.rv_text.specs.Counting.{Counts}
-use Rattle.rv_program.specs.Counted.{counts_of}
 use Rattle.rv_program.specs.Text.{Edit, lines_after}
 use Rattle.rv_program.specs.internal.Before.{base_before, lines_before, edit_on}
 use Rattle.rv_program.specs.Edits.{edit_of}
-use Rattle.rv_store.specs.internal.Assembled.{AreCountedRows}
 use Rattle.rv_store.specs.internal.Ends.{end_in, place_by_shapes}
 use Rattle.rv_program.specs.internal.Briefs.{groups_on}
 use Rattle.rv_program.specs.internal.NewShapes.{IsNewShape, shape_operands}
@@ -25,76 +22,33 @@ use Rattle.rv_program.specs.lemmas.TextLines.{length_of_shapes}
 use Rattle.rv_store.proofs.Surveys.{unplaced}
 use Rattle.rv_store.proofs.survey.Survey.after.Goals as goal
 
--- What is counted where the shapes are made, and after them
+-- what is computed where the shapes are made, and so much after them
+surveyed : (before : Before) (base : ℕ) (old lines after : List (List ℕ)) (edit : Edit) → base_before before ≡ base → lines_before before ≡ old → edit_on before ≡ edit → lines ≡ after → after ≡ lines_after old edit → (first shaped last : ℕ) → shaped + shape_operands (edit_on before) ≤ first + work constant_operands (base_before before) (lines_before before) (edit_on before) (length lines) → last ≤ shaped + operands_through equ_operands (program_of lines) (length lines) + work high_operands (base_before before) (lines_before before) (edit_on before) (length lines) → last + shape_operands edit ≤ first + work survey_operands base old edit (length after)
+surveyed before base old lines after edit same_base same_lines same_edit same edited first shaped last shapes rest =
+    rw same at
+    (survey_counted before base old lines edit same_base same_lines same_edit (same ∙ edited)
+    first shaped (shaped + operands_through equ_operands (program_of lines) (length lines)) last shapes (omega arith) rest)
 
-module _ (before : Before) (base : ℕ) (old lines after : List (List ℕ)) (edit : Edit) (same_base : base_before before ≡ base) (same_lines : lines_before before ≡ old) (same_edit : edit_on before ≡ edit) (same : lines ≡ after) (edited : after ≡ lines_after old edit) (first shaped : Counts) (parsed : shaped.parsed ≡ first.parsed) (least : first.valued ≤ shaped.valued) (most : shaped.valued ≤ first.valued + 2 * length lines)
-    (shapes : shaped.valued + shape_operands (edit_on before) ≤ first.valued + work constant_operands (base_before before) (lines_before before) (edit_on before) (length lines)) (encoded : shaped.encoded ≡ first.encoded) where
-  counted-with : (last : Counts) → AreCountedRows (2 * length lines) 0 (operands_through equ_operands (program_of lines) (length lines) + work high_operands (base_before before) (lines_before before) (edit_on before) (length lines)) shaped last → AreCountedRows (4 * length after) (shape_operands edit) (work survey_operands base old edit (length after)) first last
-  counted-with last rest =
-      let equs = operands_through equ_operands (program_of lines) (length lines) in
-      let count : length lines ≡ length after = ap length same in
-      record {
-        parsed = rest.parsed ∙ parsed;
-        valued_least = (let more = rest.valued_least in omega (arith, least, more));
-        valued_few = (let few = rest.valued_few in omega (arith, most, few, count));
-        valued_most = rw same at (survey_counted before base old lines edit same_base same_lines same_edit (same ∙ edited) first.valued shaped.valued (shaped.valued + equs) last.valued shapes (omega arith) (let all = rest.valued_most in omega (arith, all)));
-        encoded = rest.encoded ∙ encoded;
-      }
-
-  counted-alone : AreCountedRows (4 * length after) (shape_operands edit) (work survey_operands base old edit (length after)) first shaped
-  counted-alone = counted-with shaped (record { parsed = refl; valued_least = omega arith; valued_few = omega arith; valued_most = omega arith; encoded = refl })
-
-pub returns-in_err-definitions-clause-counted : goal.returns-in_err-definitions-clause-counted
-returns-in_err-definitions-clause-counted g c = record {
-  parsed = refl;
-  valued_least = omega arith;
-  valued_few = omega arith;
-  valued_most = omega (arith, nothing-surveyed c.args.base c.args.old.now (edit_of c.args.edit.now) c.requires.allowed (length c.args.self.now.lines.items) (ap length c.requires.edited));
-  encoded = refl;
-}
-
-pub returns-in_err-sized-clause-counted : goal.returns-in_err-sized-clause-counted
-returns-in_err-sized-clause-counted g c =
-    let counts = counts_of g.C.Count.parsed_count g.C.Count.valued_count g.C.Count.encoded_count in
-    let before = c.before-before.ensures in
-    let shapes = c.shapes.ensures in
-    counted-alone c.before-before.result c.args.base c.args.old.now c.as_slice-lines.result.now c.args.self.now.lines.items (edit_of c.args.edit.now) before.base before.lines before.edit c.as_slice-lines.ensures c.requires.edited
-    (counts c.args.counter.now) (counts c.shapes.new.counter) shapes.parsed shapes.least shapes.most shapes.work shapes.encoded
-
-pub returns-in_err-placed-clause-counted : goal.returns-in_err-placed-clause-counted
-returns-in_err-placed-clause-counted g c =
-    let counts = counts_of g.C.Count.parsed_count g.C.Count.valued_count g.C.Count.encoded_count in
-    let before = c.before-before.ensures in
-    let shapes = c.shapes.ensures in
-    counted-alone c.before-before.result c.args.base c.args.old.now c.as_slice-lines.result.now c.args.self.now.lines.items (edit_of c.args.edit.now) before.base before.lines before.edit c.as_slice-lines.ensures c.requires.edited
-    (counts c.args.counter.now) (counts c.shapes.new.counter) shapes.parsed shapes.least shapes.most shapes.work shapes.encoded
-
-pub returns-in_err-locals-clause-counted : goal.returns-in_err-locals-clause-counted
-returns-in_err-locals-clause-counted g c =
-    let counts = counts_of g.C.Count.parsed_count g.C.Count.valued_count g.C.Count.encoded_count in
-    let before = c.before-before.ensures in
-    let shapes = c.shapes.ensures in
-    counted-alone c.before-before.result c.args.base c.args.old.now c.as_slice-lines.result.now c.args.self.now.lines.items (edit_of c.args.edit.now) before.base before.lines before.edit c.as_slice-lines.ensures c.requires.edited
-    (counts c.args.counter.now) (counts c.shapes.new.counter) shapes.parsed shapes.least shapes.most shapes.work shapes.encoded
-
-pub returns-in_err-survey-clause-counted : goal.returns-in_err-survey-clause-counted
-returns-in_err-survey-clause-counted g c =
-    let counts = counts_of g.C.Count.parsed_count g.C.Count.valued_count g.C.Count.encoded_count in
-    let before = c.before-before.ensures in
-    let shapes = c.shapes.ensures in
-    counted-with c.before-before.result c.args.base c.args.old.now c.as_slice-lines.result.now c.args.self.now.lines.items (edit_of c.args.edit.now) before.base before.lines before.edit c.as_slice-lines.ensures c.requires.edited
-    (counts c.args.counter.now) (counts c.shapes.new.counter) shapes.parsed shapes.least shapes.most shapes.work shapes.encoded (counts c.by_rows.new.counter) c.by_rows.ensures.counted
-
-pub returns-clause-counted : goal.returns-clause-counted
-returns-clause-counted g c =
-    let counts = counts_of g.C.Count.parsed_count g.C.Count.valued_count g.C.Count.encoded_count in
-    let before = c.before-before.ensures in
-    let shapes = c.shapes.ensures in
-    counted-with c.before-before.result c.args.base c.args.old.now c.as_slice-lines.result.now c.args.self.now.lines.items (edit_of c.args.edit.now) before.base before.lines before.edit c.as_slice-lines.ensures c.requires.edited
-    (counts c.args.counter.now) (counts c.shapes.new.counter) shapes.parsed shapes.least shapes.most shapes.work shapes.encoded (counts c.by_rows.new.counter) c.by_rows.ensures.counted
+pub returns-in_err-definitions-clause-work : goal.returns-in_err-definitions-clause-work
+returns-in_err-definitions-clause-work g c =
+    omega (arith, nothing-surveyed c.args.base c.args.old.now (edit_of c.args.edit.now) c.requires.allowed (length c.args.self.now.lines.items) (ap length c.requires.edited))
 
 pub before-before-requires-clause-survey : goal.before-before-requires-clause-survey
 before-before-requires-clause-survey g c = survey_grown _ _ _ _ _ c.definitions_after.ensures.names c.requires.old
+
+pub returns-in_err-sized-clause-work : goal.returns-in_err-sized-clause-work
+returns-in_err-sized-clause-work g c =
+    let count = g.C.Count.valued_count in
+    let before = c.before-before.ensures in
+    surveyed c.before-before.result c.args.base c.args.old.now c.as_slice-lines.result.now c.args.self.now.lines.items (edit_of c.args.edit.now) before.base before.lines before.edit c.as_slice-lines.ensures c.requires.edited
+    (count c.args.counter.now) (count c.shapes.new.counter) (count c.shapes.new.counter) c.shapes.ensures.work (omega arith)
+
+pub returns-in_err-placed-clause-work : goal.returns-in_err-placed-clause-work
+returns-in_err-placed-clause-work g c =
+    let count = g.C.Count.valued_count in
+    let before = c.before-before.ensures in
+    surveyed c.before-before.result c.args.base c.args.old.now c.as_slice-lines.result.now c.args.self.now.lines.items (edit_of c.args.edit.now) before.base before.lines before.edit c.as_slice-lines.ensures c.requires.edited
+    (count c.args.counter.now) (count c.shapes.new.counter) (count c.shapes.new.counter) c.shapes.ensures.work (omega arith)
 
 pub placed-requires-clause-few : goal.placed-requires-clause-few
 placed-requires-clause-few g c =
@@ -130,6 +84,51 @@ by_rows-requires-clause-places g c =
     c.in_ok-placed.ensures.places
     ∙ ap (λ base. for_lines (place_by_shapes base shapes) (length shapes)) (sym c.before-before.ensures.base)
 
+pub returns-in_err-locals-clause-work : goal.returns-in_err-locals-clause-work
+returns-in_err-locals-clause-work g c =
+    let count = g.C.Count.valued_count in
+    let before = c.before-before.ensures in
+    surveyed c.before-before.result c.args.base c.args.old.now c.as_slice-lines.result.now c.args.self.now.lines.items (edit_of c.args.edit.now) before.base before.lines before.edit c.as_slice-lines.ensures c.requires.edited
+    (count c.args.counter.now) (count c.shapes.new.counter) (count c.shapes.new.counter) c.shapes.ensures.work (omega arith)
+
+pub returns-clause-work : goal.returns-clause-work
+returns-clause-work g c =
+    let count = g.C.Count.valued_count in
+    let before = c.before-before.ensures in
+    surveyed c.before-before.result c.args.base c.args.old.now c.as_slice-lines.result.now c.args.self.now.lines.items (edit_of c.args.edit.now) before.base before.lines before.edit c.as_slice-lines.ensures c.requires.edited
+    (count c.args.counter.now) (count c.shapes.new.counter) (count c.by_rows.new.counter) c.shapes.ensures.work c.by_rows.ensures.work
+
+pub returns-in_err-survey-clause-work : goal.returns-in_err-survey-clause-work
+returns-in_err-survey-clause-work g c =
+    let count = g.C.Count.valued_count in
+    let before = c.before-before.ensures in
+    surveyed c.before-before.result c.args.base c.args.old.now c.as_slice-lines.result.now c.args.self.now.lines.items (edit_of c.args.edit.now) before.base before.lines before.edit c.as_slice-lines.ensures c.requires.edited
+    (count c.args.counter.now) (count c.shapes.new.counter) (count c.by_rows.new.counter) c.shapes.ensures.work c.by_rows.ensures.work
+
+pub returns-in_err-sized-clause-parsed : goal.returns-in_err-sized-clause-parsed
+returns-in_err-sized-clause-parsed g c = c.shapes.ensures.parsed
+
+pub returns-in_err-placed-clause-parsed : goal.returns-in_err-placed-clause-parsed
+returns-in_err-placed-clause-parsed g c = c.shapes.ensures.parsed
+
+pub returns-in_err-locals-clause-parsed : goal.returns-in_err-locals-clause-parsed
+returns-in_err-locals-clause-parsed g c = c.shapes.ensures.parsed
+
+pub returns-clause-parsed : goal.returns-clause-parsed
+returns-clause-parsed g c = c.by_rows.ensures.parsed ∙ c.shapes.ensures.parsed
+
+pub returns-in_err-sized-clause-encoded : goal.returns-in_err-sized-clause-encoded
+returns-in_err-sized-clause-encoded g c = c.shapes.ensures.encoded
+
+pub returns-in_err-placed-clause-encoded : goal.returns-in_err-placed-clause-encoded
+returns-in_err-placed-clause-encoded g c = c.shapes.ensures.encoded
+
+pub returns-in_err-locals-clause-encoded : goal.returns-in_err-locals-clause-encoded
+returns-in_err-locals-clause-encoded g c = c.shapes.ensures.encoded
+
+pub returns-clause-encoded : goal.returns-clause-encoded
+returns-clause-encoded g c = c.by_rows.ensures.encoded ∙ c.shapes.ensures.encoded
+
 pub shapes-requires-clause-shape : goal.shapes-requires-clause-shape
 shapes-requires-clause-shape g c =
     let before = c.before-before.ensures in
@@ -143,6 +142,12 @@ returns-clause-still g c = λ still.
     subst (AreUnmoved c.args.self.now.shapes.items (edit_of c.args.edit.now)) (c.in_ok-sized.ensures.shapes ∙ sym c.in_ok-survey.ensures.survey.shapes)
     (subst (λ e. AreUnmoved c.args.self.now.shapes.items e c.in_ok-sized.sized.shapes.items) before.edit
     (subst (λ ms. AreUnmoved ms (edit_on c.before-before.result) c.in_ok-sized.sized.shapes.items) before.shapes unmoved))
+
+pub returns-in_err-survey-clause-parsed : goal.returns-in_err-survey-clause-parsed
+returns-in_err-survey-clause-parsed g c = c.by_rows.ensures.parsed ∙ c.shapes.ensures.parsed
+
+pub returns-in_err-survey-clause-encoded : goal.returns-in_err-survey-clause-encoded
+returns-in_err-survey-clause-encoded g c = c.by_rows.ensures.encoded ∙ c.shapes.ensures.encoded
 
 -- The rows of the text before
 
@@ -225,10 +230,63 @@ by_rows-requires-clause-locals g c = c.in_ok-locals.ensures
 shaped-room : (first shaped n m : ℕ) → first ≤ 2 ^ 63 + 1 → shaped ≤ first + 2 * n → n ≡ m → m ≤ 16384 → shaped ≤ 2 ^ 63 + 2 ^ 32
 shaped-room first shaped n m room most same few = omega arith
 
+shaped-most : (first shaped n m : ℕ) → shaped ≤ first + 2 * n → n ≡ m → shaped ≤ first + 4 * m
+shaped-most first shaped n m most same = omega arith
+
+both-most : (first shaped last n m : ℕ) → shaped ≤ first + 2 * n → last ≤ shaped + 2 * n → n ≡ m → last ≤ first + 4 * m
+both-most first shaped last n m most rest same = omega arith
+
+both-least : (first shaped last : ℕ) → first ≤ shaped → shaped ≤ last → first ≤ last
+both-least first shaped last least rest = omega arith
+
 pub by_rows-requires-clause-valued : goal.by_rows-requires-clause-valued
 by_rows-requires-clause-valued g c =
     let count = g.C.Count.valued_count in
     shaped-room (count c.args.counter.now) (count c.shapes.new.counter) (length c.as_slice-lines.result.now) (length c.args.self.now.lines.items) c.requires.valued c.shapes.ensures.most (ap length c.as_slice-lines.ensures) c.requires.few
+
+pub returns-in_err-sized-clause-least : goal.returns-in_err-sized-clause-least
+returns-in_err-sized-clause-least g c = c.shapes.ensures.least
+
+pub returns-in_err-placed-clause-least : goal.returns-in_err-placed-clause-least
+returns-in_err-placed-clause-least g c = c.shapes.ensures.least
+
+pub returns-in_err-locals-clause-least : goal.returns-in_err-locals-clause-least
+returns-in_err-locals-clause-least g c = c.shapes.ensures.least
+
+pub returns-in_err-survey-clause-least : goal.returns-in_err-survey-clause-least
+returns-in_err-survey-clause-least g c =
+    let count = g.C.Count.valued_count in
+    both-least (count c.args.counter.now) (count c.shapes.new.counter) (count c.by_rows.new.counter) c.shapes.ensures.least c.by_rows.ensures.least
+
+pub returns-clause-least : goal.returns-clause-least
+returns-clause-least g c =
+    let count = g.C.Count.valued_count in
+    both-least (count c.args.counter.now) (count c.shapes.new.counter) (count c.by_rows.new.counter) c.shapes.ensures.least c.by_rows.ensures.least
+
+pub returns-in_err-sized-clause-most : goal.returns-in_err-sized-clause-most
+returns-in_err-sized-clause-most g c =
+    let count = g.C.Count.valued_count in
+    shaped-most (count c.args.counter.now) (count c.shapes.new.counter) (length c.as_slice-lines.result.now) (length c.args.self.now.lines.items) c.shapes.ensures.most (ap length c.as_slice-lines.ensures)
+
+pub returns-in_err-placed-clause-most : goal.returns-in_err-placed-clause-most
+returns-in_err-placed-clause-most g c =
+    let count = g.C.Count.valued_count in
+    shaped-most (count c.args.counter.now) (count c.shapes.new.counter) (length c.as_slice-lines.result.now) (length c.args.self.now.lines.items) c.shapes.ensures.most (ap length c.as_slice-lines.ensures)
+
+pub returns-in_err-locals-clause-most : goal.returns-in_err-locals-clause-most
+returns-in_err-locals-clause-most g c =
+    let count = g.C.Count.valued_count in
+    shaped-most (count c.args.counter.now) (count c.shapes.new.counter) (length c.as_slice-lines.result.now) (length c.args.self.now.lines.items) c.shapes.ensures.most (ap length c.as_slice-lines.ensures)
+
+pub returns-in_err-survey-clause-most : goal.returns-in_err-survey-clause-most
+returns-in_err-survey-clause-most g c =
+    let count = g.C.Count.valued_count in
+    both-most (count c.args.counter.now) (count c.shapes.new.counter) (count c.by_rows.new.counter) (length c.as_slice-lines.result.now) (length c.args.self.now.lines.items) c.shapes.ensures.most c.by_rows.ensures.most (ap length c.as_slice-lines.ensures)
+
+pub returns-clause-most : goal.returns-clause-most
+returns-clause-most g c =
+    let count = g.C.Count.valued_count in
+    both-most (count c.args.counter.now) (count c.shapes.new.counter) (count c.by_rows.new.counter) (length c.as_slice-lines.result.now) (length c.args.self.now.lines.items) c.shapes.ensures.most c.by_rows.ensures.most (ap length c.as_slice-lines.ensures)
 
 pub returns-clause-survey : goal.returns-clause-survey
 returns-clause-survey g c =

@@ -1,4 +1,4 @@
-use Rattle.std.proofs.Common.{arith, ◌∙◌}
+use Rattle.std.proofs.Common.{◌∙◌}
 use Rattle.rv_program.specs.internal.Before.{base_before}
 use Rattle.rv_program.specs.Program.{program_of}
 use Rattle.rv_program.specs.lemmas.Programs.{length-program}
@@ -36,39 +36,20 @@ returns-clause-survey g c = record {
   highs = rw c.in_column-column.ensures at c.in_ok-highs.ensures.highs;
 }
 
--- The values of the `.equ`s are computed, and then the high halves
+pub returns-in_err-equ_values-clause-parsed : goal.returns-in_err-equ_values-clause-parsed
+returns-in_err-equ_values-clause-parsed g c = c.equ_values.ensures.parsed
 
-pub returns-in_err-equ_values-clause-counted : goal.returns-in_err-equ_values-clause-counted
-returns-in_err-equ_values-clause-counted g c =
-    let first = c.equ_values.ensures in
-    record {
-      parsed = first.parsed;
-      valued_least = first.valued;
-      valued_few = (let within = rw c.in_column-column.ensures at first.valued_within in omega (arith, within));
-      valued_most = (let operands = rw c.in_column-column.ensures at first.operands in omega (arith, operands));
-      encoded = first.encoded;
-    }
+pub returns-in_err-highs-clause-parsed : goal.returns-in_err-highs-clause-parsed
+returns-in_err-highs-clause-parsed g c = c.highs.ensures.parsed ∙ c.equ_values.ensures.parsed
 
-pub returns-in_err-highs-clause-counted : goal.returns-in_err-highs-clause-counted
-returns-in_err-highs-clause-counted g c =
-    let first = c.equ_values.ensures in
-    let rest = c.highs.ensures in
-    record {
-      parsed = rest.parsed ∙ first.parsed;
-      valued_least = omega (arith, first.valued, rest.least);
-      valued_few = (let within = rw c.in_column-column.ensures at first.valued_within in let most = rw c.in_column-column.ensures at rest.most in omega (arith, within, most));
-      valued_most = (let operands = rw c.in_column-column.ensures at first.operands in let high = rw c.in_column-column.ensures at rest.work in omega (arith, operands, high));
-      encoded = rest.encoded ∙ first.encoded;
-    }
+pub returns-clause-parsed : goal.returns-clause-parsed
+returns-clause-parsed g c = c.highs.ensures.parsed ∙ c.equ_values.ensures.parsed
 
-pub returns-clause-counted : goal.returns-clause-counted
-returns-clause-counted g c =
-    let first = c.equ_values.ensures in
-    let rest = c.highs.ensures in
-    record {
-      parsed = rest.parsed ∙ first.parsed;
-      valued_least = omega (arith, first.valued, rest.least);
-      valued_few = (let within = rw c.in_column-column.ensures at first.valued_within in let most = rw c.in_column-column.ensures at rest.most in omega (arith, within, most));
-      valued_most = (let operands = rw c.in_column-column.ensures at first.operands in let high = rw c.in_column-column.ensures at rest.work in omega (arith, operands, high));
-      encoded = rest.encoded ∙ first.encoded;
-    }
+pub returns-in_err-equ_values-clause-encoded : goal.returns-in_err-equ_values-clause-encoded
+returns-in_err-equ_values-clause-encoded g c = c.equ_values.ensures.encoded
+
+pub returns-in_err-highs-clause-encoded : goal.returns-in_err-highs-clause-encoded
+returns-in_err-highs-clause-encoded g c = c.highs.ensures.encoded ∙ c.equ_values.ensures.encoded
+
+pub returns-clause-encoded : goal.returns-clause-encoded
+returns-clause-encoded g c = c.highs.ensures.encoded ∙ c.equ_values.ensures.encoded
