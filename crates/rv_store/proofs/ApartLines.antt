@@ -1,10 +1,11 @@
 -- Lines with which no line of a text has to do: what they add, and who uses it.
-use Rattle.std.proofs.Common.{◌≡◌, ℕ, suc, ◌+◌, ◌-◌, ◌%◌, ◌<◌, ◌≤◌, ◌==◌, ◌⊎◌, inl, inr, Bool, true, false, not, ◌&&◌, ◌||◌, List, [], ◌∷◌, ◌++◌, length, map, get_or, nat_le, if◌then◌else◌, true≢false, arith, ap, sym, subst, ◌∙◌, refl}
+use Rattle.std.proofs.Common.{◌≡◌, ℕ, suc, ◌+◌, ◌-◌, ◌%◌, ◌<◌, ◌≤◌, ◌==◌, ◌⊎◌, inl, inr, Bool, true, false, not, ◌&&◌, ◌||◌, List, [], ◌∷◌, ◌++◌, length, bytes_eq, map, get_or, nat_le, if◌then◌else◌, true≢false, arith, ap, sym, subst, ◌∙◌, refl}
 use Rattle.std.specs.List.{list_any}
 use Rattle.std.proofs.Math.Path.{fun_ext}
 use Rattle.std.proofs.lemmas.Bool.{cases_lt, lt-ltb, le-ltb, lt-leb, eqb-true, eq-eqb, and_parts, and_left, or_parts, or_from, or_cases}
 use Rattle.std.proofs.lemmas.List.{get_or-map, get_or_default}
 use Rattle.std.proofs.lemmas.Slice.Eq.{bytes_eq-Decides}
+use Rattle.rv_stmt.specs.declared.directive.Definition.{Definition}
 use Rattle.rv_stmt.specs.declared.statement.Stmt.{Stmt}
 use Rattle.rv_stmt.specs.declared.statement.Body.{Body}
 use Rattle.rv_stmt.specs.declared.statement.Body.TheVariants.{Equ as EquBody}
@@ -130,6 +131,28 @@ one-added behind l others symbol name are none is no_equ adds =
     at : (list_any (λ l. defines_symbol l.name name) (statement_of behind.line.now).labels ≡ true) ⊎ (is_defined (place_in_body behind.number (statement_of behind.line.now).body name) ≡ true) → name ≡ symbol
     at (inl labels) = defined-by_one l others symbol name none is (ap (list_any (λ l. defines_symbol l.name name)) (sym are) ∙ labels)
     at (inr body) = absurd (true≢false (sym body ∙ undefined-by_body behind.number (statement_of behind.line.now).body name no_equ))
+
+-- an `.equ` without a label adds no name but its symbol
+equ-defined : (line : ℕ) (d : Definition) (name : List ℕ) → is_defined (place_in_body line (EquBody d) name) ≡ true → name ≡ d.symbol
+equ-defined line d name h = at (bytes_eq d.symbol name) refl h
+  where
+    at : (b : Bool) → bytes_eq d.symbol name ≡ b → is_defined (if b then Equ line else Nowhere) ≡ true → name ≡ d.symbol
+    at true e h = sym ((bytes_eq-Decides d.symbol name).0 e)
+    at false e h = absurd (true≢false (sym h))
+
+none-defines : (ls : List Label) (name : List ℕ) → length ls ≡ 0 → list_any (λ l. defines_symbol l.name name) ls ≡ false
+none-defines [] name none = refl
+none-defines (l ∷ ls) name none = absurd (omega (arith, none))
+
+pub equ-added : (behind : LineBehind) (d : Definition) (name : List ℕ) → length (statement_of behind.line.now).labels ≡ 0 → (statement_of behind.line.now).body ≡ EquBody d → added_by behind name ≡ true → name ≡ d.symbol
+equ-added behind d name none is adds =
+    let s = statement_of behind.line.now in
+    let parts = and_parts (not (is_earlier behind.number (in_row behind.names.now behind.definitions.now Nowhere name))) (is_defined (place_in_statement behind.number s name)) adds in
+    at (statement-defines behind.number s name parts.1)
+  where
+    at : (list_any (λ l. defines_symbol l.name name) (statement_of behind.line.now).labels ≡ true) ⊎ (is_defined (place_in_body behind.number (statement_of behind.line.now).body name) ≡ true) → name ≡ d.symbol
+    at (inl labels) = absurd (true≢false (sym labels ∙ none-defines (statement_of behind.line.now).labels name none))
+    at (inr body) = equ-defined behind.number d name (ap (λ b. is_defined (place_in_body behind.number b name)) (sym is) ∙ body)
 
 -- so a line that uses no name of its bucket uses none that it adds
 of_bucket : (behind : LineBehind) (bucket : ℕ) → ((name : List ℕ) → added_by behind name ≡ true → bucket_of name ≡ bucket) → (name : List ℕ) → ((bucket_of name == bucket) ≡ true) ⊎ (added_by behind name ≡ false)

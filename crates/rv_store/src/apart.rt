@@ -108,8 +108,8 @@ impl LineBehind<'_> {
         added
     }
 
-    // The bucket of the only name that it may add: that of its label, where it has one and is no `.equ`.
-    fn only_bucket(&self) -> Option<u16>
+    // The bucket of the label of a line that has one and is no `.equ`: it adds no other name.
+    fn only_label(&self) -> Option<u16>
         ensures { IfSome result (λ bucket. (name : List ℕ) → added_by self.now name ≡ true → bucket_of name ≡ bucket) }
     {
         let labels = &self.line.stmt().labels;
@@ -120,6 +120,19 @@ impl LineBehind<'_> {
         match label.name {
             LabelName::Symbol(symbol) => Some(bucket_of(symbol)),
             LabelName::Local(_) => None,
+        }
+    }
+
+    // The bucket of the only name that it may add: that of its label, or that of its `.equ`, where it has one of these alone.
+    fn only_bucket(&self) -> Option<u16>
+        ensures { IfSome result (λ bucket. (name : List ℕ) → added_by self.now name ≡ true → bucket_of name ≡ bucket) }
+    {
+        let stmt = self.line.stmt();
+        match &stmt.body {
+            Body::Equ(definition) if stmt.labels.is_empty() => {
+                Some(bucket_of(definition.symbol.bytes()))
+            }
+            _ => self.only_label(),
         }
     }
 
