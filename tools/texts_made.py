@@ -324,6 +324,18 @@ def jump_tables(random, count):
     return Text([f".L{k}: nop" for k in range(half)] + [".data"] + tables)
 
 
+def tables_before_labels(random, count):
+    half = count // 2
+    tables = ["    .word " + ", ".join(f".L{random.randrange(half)}" for _ in range(4)) for _ in range(count - half - 2)]
+    return Text([".data"] + tables + [".text"] + [f".L{k}: nop" for k in range(half)])
+
+
+def one_long_jump(random, count):
+    """Local labels as in loops, under one jump to a label behind all of them."""
+    loops = ["1:  nop" if k % 2 == 0 else f"    bnez {register(random)}, 1b" for k in range(count - 2)]
+    return Text(["    j 9f"] + loops + ["9:  nop"], own=["1: nop", "    bnez a0, 1b"])
+
+
 # Other lines.
 
 
@@ -388,6 +400,11 @@ def empty(_, count):
 
 def pages(_, count):
     return Text([f"x{k}: .space 4096" if k % 2 else "    nop" for k in range(count)], own=["    .space 4096", "    .space 4096"])
+
+
+def pages_below_data(random, count):
+    """The same below a section that each of them moves."""
+    return Text([".data", "v: .word 1", ".text"] + pages(random, count - 3).lines, own=["    .space 4096", "    .space 4096"])
 
 
 def line_marks(random, count):
@@ -474,6 +491,7 @@ TEXTS = [
     ("`li` of constants of one constant", constants_of_one),
     ("fills by one constant", fills),
     ("`1:` on every second line", numbers_on_every_second_line),
+    ("the same under one `j 9f`", one_long_jump),
     ("one `9999:` in 100 lines", one_large_number),
     ("10,000 numbers", different_numbers),
     ("atomics", atomics),
@@ -487,6 +505,7 @@ TEXTS = [
     ("one label first, all use it", one_label_first),
     ("one label last, all use it", one_label_last),
     ("jump tables", jump_tables),
+    ("jump tables before their labels", tables_before_labels),
     ("490 unary operators", unary),
     ("64 parentheses", parentheses),
     ("240 names a line", many_names),
@@ -499,6 +518,7 @@ TEXTS = [
     ("long comments", comments),
     ("empty lines", empty),
     ("fills of 4,096 bytes", pages),
+    ("the same, `.data` above", pages_below_data),
     ("marks of a preprocessor (faulty)", line_marks),
     ("warnings", warnings),
     ("odd addresses (faulty)", odd_addresses),
