@@ -19,7 +19,6 @@ ghost use Rattle.rv_program.specs.internal.TextRows.{program_in};
 
 use crate::before::Before;
 use crate::brief::Brief;
-use crate::differing::differing_names;
 use crate::groups::{Groups, Kind};
 use crate::invalidation::{is_invalidated, may_be_invalidated};
 use crate::jumps::{differs_in_distance, differs_in_local_distance, rise};
@@ -225,8 +224,8 @@ fn lines_up_to_due(groups: &[Groups], i: usize, wanted: Groups, place: u32) -> u
 }
 
 /// The lines of the text after an edit that are due, rising: the edit invalidates each of them, and all others keep their values and their
-/// shape. The text has these lines, of these groups; `still` is only true where each line is where it was. Lines whose groups say that they
-/// are not due are gone past.
+/// shape. The text has these lines, of these groups; `differing` has each symbol that differs on one of them, and `still` is only true where
+/// each line is where it was. Lines whose groups say that they are not due are gone past.
 ///
 /// The counter's number of expressions computed rises by one for each jump to a local label that stood in the text before: the distance of
 /// the label is computed in both texts.
@@ -238,6 +237,7 @@ pub fn due_lines<C: Count>(
     alloc: Global,
     before: &Before<'_, '_>,
     after: &SymbolRows<'_>,
+    differing: &NameSet,
     lines: &[Line],
     groups: &[Groups],
     still: bool,
@@ -246,6 +246,7 @@ pub fn due_lines<C: Count>(
     requires before { IsBefore before.now }
     requires rows { AreSymbolRows after.now }
     requires after { IsAfter before.now after.now.text }
+    requires differing { HasDiffering (base_before before.now) (lines_before before.now) (edit_on before.now) differing.now }
     requires column { lines.now ≡ after.now.text.lines.now }
     requires groups { groups.now ≡ map groups_on lines.now }
     requires still { still ≡ true → AreStill before.now after.now.text }
@@ -253,14 +254,13 @@ pub fn due_lines<C: Count>(
     ensures due { IfOk result (λ row. AreDue (edited_before before.now) (length after.now.text.lines.now) row.items) }
     ensures compared { AreCompared (edited_before before.now) (length after.now.text.lines.now) (counts_of C.parsed_count C.valued_count C.encoded_count counter.old) (counts_of C.parsed_count C.valued_count C.encoded_count counter.new) }
 {
-    let differing = differing_names(alloc, before, after)?;
-    let wanted = due_groups(&differing, still);
+    let wanted = due_groups(differing, still);
     let place = before.edit.place();
     let mut row = Vec::new(alloc);
     let mut i = lines_up_to_due(groups, 0, wanted, place);
     'lines: while i < lines.len() {
         let line = i as u32 + 1;
-        if is_due_by_brief(before, after, &differing, lines[i].brief(), line, counter) {
+        if is_due_by_brief(before, after, differing, lines[i].brief(), line, counter) {
             row.push(line)?;
         }
         i = lines_up_to_due(groups, i + 1, wanted, place);

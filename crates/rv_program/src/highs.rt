@@ -7,6 +7,7 @@ ghost use Rattle.rv_program.specs.internal.Briefs.{groups_on};
 ghost use Rattle.rv_program.specs.declared.limits.TheConstants.{MAX_LINES};
 ghost use Rattle.rv_program.specs.internal.Before.{IsBefore, IsAfter, base_before, lines_before, edit_on};
 ghost use Rattle.rv_program.specs.Changes.{is_invalidated};
+ghost use Rattle.rv_program.specs.internal.Differing.{HasDiffering};
 ghost use Rattle.rv_program.specs.Pairs.{pcrel_high_of, high_by, high_at};
 ghost use Rattle.rv_program.specs.Program.{body_at};
 ghost use Rattle.rv_program.specs.internal.Rows.{AreHighs};
@@ -16,14 +17,14 @@ ghost use Rattle.rv_program.specs.internal.Work.{high_operands, work};
 
 use crate::before::Before;
 use crate::groups::{Groups, Kind};
-use crate::invalidation::is_invalidated;
+use crate::invalidation::{is_invalidated, may_be_invalidated};
 use crate::line_names::references_at;
 use crate::lines_of_kind::lines_up_to;
 use crate::name_set::NameSet;
 use crate::pairs::high_in;
 use crate::room::row_of;
 use crate::symbol_rows::SymbolRows;
-use crate::text_lines::{place_on, statement_on};
+use crate::text_lines::{brief_on, place_on, statement_on};
 use crate::text_rows::TextRows;
 use rv_expr::{Expr, Names, ValueFault, value};
 use rv_fix::{Entry, displacement};
@@ -107,29 +108,40 @@ fn has_pcrel_high(text: &TextRows<'_>, line: u32) -> bool
     text.lines.line(line).brief().pcrel_high
 }
 
-// Whether the edit invalidates a line, by its names one by one.
-fn is_line_invalidated(before: &Before<'_, '_>, after: &SymbolRows<'_>, line: u32) -> bool
+// Whether the edit invalidates a line, which its brief usually tells. `differing` has each symbol that differs on one of the lines.
+fn is_line_invalidated(
+    before: &Before<'_, '_>,
+    after: &SymbolRows<'_>,
+    differing: &NameSet,
+    line: u32,
+) -> bool
     requires before { IsBefore before.now }
     requires rows { AreSymbolRows after.now }
     requires after { IsAfter before.now after.now.text }
+    requires differing { HasDiffering (base_before before.now) (lines_before before.now) (edit_on before.now) differing.now }
     requires first { 1 ≤ line }
     requires last { line ≤ length after.now.text.lines.now }
     ensures { result ≡ is_invalidated (base_before before.now) (lines_before before.now) (edit_on before.now) line }
 {
-    let every = NameSet::every();
-    is_invalidated(before, after, &every, line)
+    let brief = brief_on(&after.text, line);
+    if !may_be_invalidated(before, after, differing, brief, line) {
+        return false;
+    }
+    is_invalidated(before, after, differing, line)
 }
 
 // The high half on a line of the text after an edit: what it was, unless the edit invalidates the line.
 fn high_after<C: Count>(
     before: &Before<'_, '_>,
     after: &SymbolRows<'_>,
+    differing: &NameSet,
     line: u32,
     counter: &mut C,
 ) -> Entry
     requires before { IsBefore before.now }
     requires rows { AreSymbolRows after.now }
     requires after { IsAfter before.now after.now.text }
+    requires differing { HasDiffering (base_before before.now) (lines_before before.now) (edit_on before.now) differing.now }
     requires first { 1 ≤ line }
     requires last { line ≤ length after.now.text.lines.now }
     requires valued { C.valued_count counter.old < 2 ^ 64 - 1 }
@@ -143,7 +155,7 @@ fn high_after<C: Count>(
     if !has_pcrel_high(&after.text, line) {
         return Err(ValueFault::NoPartner);
     }
-    if !is_line_invalidated(before, after, line) {
+    if !is_line_invalidated(before, after, differing, line) {
         if let Some(stood) = before.edit.line_before(line) {
             return high_in(before.highs, stood as usize);
         }
@@ -152,7 +164,7 @@ fn high_after<C: Count>(
 }
 
 /// The high half on each line of the text after an edit, the lines of which have these groups. Lines without `%pcrel_hi` are
-/// gone past; where there are no others, the row is empty.
+/// gone past; where there are no others, the row is empty. `differing` has each symbol that differs on one of the lines.
 ///
 /// The counter's number of expressions computed rises by at most the high halves on the lines that the edit invalidates,
 /// whatever the outcome.
@@ -164,12 +176,14 @@ pub fn highs<C: Count>(
     alloc: Global,
     before: &Before<'_, '_>,
     after: &SymbolRows<'_>,
+    differing: &NameSet,
     groups: &[Groups],
     counter: &mut C,
 ) -> Result<Vec<Entry>, AllocError>
     requires before { IsBefore before.now }
     requires rows { AreSymbolRows after.now }
     requires after { IsAfter before.now after.now.text }
+    requires differing { HasDiffering (base_before before.now) (lines_before before.now) (edit_on before.now) differing.now }
     requires groups { groups.now ≡ map groups_on after.now.text.lines.now }
     requires valued { C.valued_count counter.old + length after.now.text.lines.now < 2 ^ 64 }
     ensures highs { IfOk result (λ row. AreHighs after.now.text.base (program_in after.now.text) row.items) }
@@ -185,7 +199,7 @@ pub fn highs<C: Count>(
     }
     let mut row = row_of(alloc, Err(ValueFault::NoPartner), groups.len())?;
     while i < groups.len() {
-        row[i] = high_after(before, after, i as u32 + 1, counter);
+        row[i] = high_after(before, after, differing, i as u32 + 1, counter);
         i = lines_up_to(groups, i + 1, Kind::PcrelHigh);
     }
     Ok(row)

@@ -63,9 +63,9 @@ pub fn assembled<C: Count>(
     ensures memory { IfErr result (λ e. e ≡ EditError.Memory) }
     ensures counted { AreCountedAfter base old.now (edit_of edit.now) (counts_of C.parsed_count C.valued_count C.encoded_count counter.old) (counts_of C.parsed_count C.valued_count C.encoded_count counter.new) }
 {
-    let (after, still) = survey.after(alloc, base, old, edit, names, shape, counter)?;
+    let (after, still, differing) = survey.after(alloc, base, old, edit, names, shape, counter)?;
     let (items, changed) = items_edited(
-        alloc, base, names, survey, old, edit, &after, still, &items, counter,
+        alloc, base, names, survey, old, edit, &after, still, &differing, &items, counter,
     )?;
     Ok((after, items, changed))
 }

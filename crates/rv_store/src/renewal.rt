@@ -6,6 +6,7 @@ ghost use Rattle.rv_program.specs.Counted.{counts_of};
 ghost use Rattle.rv_program.specs.Edits.{edit_of, line_before_edit};
 ghost use Rattle.rv_program.specs.Program.{program_of};
 ghost use Rattle.rv_program.specs.Text.{refusal_of, lines_after};
+ghost use Rattle.rv_program.specs.internal.Differing.{HasDiffering};
 ghost use Rattle.rv_program.specs.internal.Former.{AreFormer};
 ghost use Rattle.rv_program.specs.internal.Items.{IsItem, AreItems};
 ghost use Rattle.rv_program.specs.internal.Lines.{lines_of};
@@ -19,7 +20,7 @@ ghost use Rattle.rv_store.specs.internal.Unmoved.{AreUnmoved};
 use crate::changed::Changed;
 use crate::survey::Survey;
 use rv_program::{
-    EditError, Item, LineEdit, Lines, NameTable, Revision, ValueRows, due_lines, renewed,
+    EditError, Item, LineEdit, Lines, NameSet, NameTable, Revision, ValueRows, due_lines, renewed,
     renewed_in_one_pass,
 };
 use rv_text::Count;
@@ -93,8 +94,9 @@ pub fn items_passed<C: Count>(
 }
 
 /// Like `items_passed`, but by the survey of the text before the edit, `old`, whose lines are `old_lines`, but that it has the lines after the
-/// edit already, and by that of the text after it: those that are due are looked for. `still` tells that the edit moved none of them. For each
-/// jump to a local label among the invalidated lines, one expression more may be computed.
+/// edit already, and by that of the text after it: those that are due are looked for. `still` tells that the edit moved none of them, and
+/// `differing` has each symbol that differs on one of them. For each jump to a local label among the invalidated lines, one expression more may
+/// be computed.
 pub fn items_edited<'a, C: Count>(
     alloc: Global,
     base: u32,
@@ -104,6 +106,7 @@ pub fn items_edited<'a, C: Count>(
     edit: &LineEdit<'_>,
     survey: &'a Survey,
     still: bool,
+    differing: &NameSet,
     items: &SumTree<Item>,
     counter: &mut C,
 ) -> Result<(SumTree<Item>, Changed), EditError>
@@ -113,6 +116,7 @@ pub fn items_edited<'a, C: Count>(
     requires survey { IsSurvey base (program_of old.now.lines.items) names.now survey.now }
     requires edited { old.now.lines.items ≡ lines_after old_lines.now (edit_of edit.now) }
     requires still { still ≡ true → AreUnmoved old.now.shapes.items (edit_of edit.now) survey.now.shapes.items }
+    requires differing { HasDiffering base old_lines.now (edit_of edit.now) differing.now }
     requires few { length old.now.lines.items ≤ MAX_LINES }
     requires count { length items.now.items ≡ length old.now.lines.items }
     requires former { AreFormer base old_lines.now (edit_of edit.now) 0 items.now.items }
@@ -128,7 +132,16 @@ pub fn items_edited<'a, C: Count>(
     let groups = old.lines.groups();
     let column = Lines::in_column(lines);
     let rows = survey.rows(&column, base, names);
-    let due = due_lines(alloc, &before, &rows.symbols, lines, groups, still, counter)?;
+    let due = due_lines(
+        alloc,
+        &before,
+        &rows.symbols,
+        differing,
+        lines,
+        groups,
+        still,
+        counter,
+    )?;
     items_passed(alloc, &before.revision(), &rows, items, &due, counter)
 }
 

@@ -6,6 +6,7 @@ ghost use Rattle.rv_layout.specs.Sections.{sections};
 ghost use Rattle.rv_program.specs.internal.Briefs.{groups_on};
 ghost use Rattle.rv_program.specs.internal.Before.{IsBefore, base_before, lines_before, edit_on};
 ghost use Rattle.rv_program.specs.Edits.{edit_of};
+ghost use Rattle.rv_program.specs.internal.Differing.{HasDiffering};
 ghost use Rattle.rv_program.specs.internal.EditedRows.{HasPlace};
 ghost use Rattle.rv_store.specs.internal.Ends.{ends_of, end_in, place_by_shapes};
 ghost use Rattle.rv_store.specs.internal.Unmoved.{AreUnmoved};
@@ -30,8 +31,8 @@ use rv_program::equ_values::equ_values;
 use rv_program::highs::highs;
 use rv_program::locals_after::locals_after;
 use rv_program::{
-    Before, Groups, Line, LineEdit, Lines, Locals, MAX_LINES, NameTable, SymbolRows, TextRows,
-    ValueRows, definitions_after,
+    Before, Groups, Line, LineEdit, Lines, Locals, MAX_LINES, NameSet, NameTable, SymbolRows,
+    TextRows, ValueRows, definitions_after, differing_names,
 };
 use rv_text::Count;
 use std::alloc::{AllocError, Global};
@@ -127,8 +128,8 @@ impl Survey {
 
     /// That of a text after an edit, the first line of which is at `base`, by the rows of the text before it, which has the
     /// lines `old`. `self` holds these rows, and the lines after the edit already. `shape` is that of the line that the edit puts in.
-    /// The answer does not get the lines. With it comes whether each line that stood is known to be where it was. Names that the lines
-    /// define get numbers, also where there is no memory for the rest.
+    /// The answer does not get the lines. With it comes whether each line that stood is known to be where it was, and a set that has each
+    /// symbol that differs on one of the lines. Names that the lines define get numbers, also where there is no memory for the rest.
     ///
     /// The counter's number of expressions computed rises by at most four for each line, and by at most what the edit
     /// invalidates: the size operands but for that of the new line, the high halves, and the `.equ`s twice.
@@ -141,7 +142,7 @@ impl Survey {
         names: &mut NameTable,
         shape: Measured,
         counter: &mut C,
-    ) -> Result<(Survey, bool), AllocError>
+    ) -> Result<(Survey, bool, NameSet), AllocError>
         requires base { is_base base ≡ true }
         requires old { IsSurvey base (program_of old.now) names.old self.now }
         requires old_few { length old.now ≤ MAX_LINES }
@@ -153,6 +154,7 @@ impl Survey {
         requires valued { C.valued_count counter.old ≤ 2 ^ 63 + 1 }
         ensures survey { IfOk result (λ r. IsSurvey base (program_of self.now.lines.items) names.new r.0) }
         ensures still { IfOk result (λ r. r.1 ≡ true → AreUnmoved self.now.shapes.items (edit_of edit.now) r.0.shapes.items) }
+        ensures differing { IfOk result (λ r. HasDiffering base old.now (edit_of edit.now) r.2) }
         ensures names { Grows names.old names.new }
         ensures least { C.valued_count counter.old ≤ C.valued_count counter.new }
         ensures most { C.valued_count counter.new ≤ C.valued_count counter.old + 4 * length self.now.lines.items }
@@ -168,7 +170,7 @@ impl Survey {
         let placed = self.placed(alloc, base, edit, &sized)?;
         let locals = locals_after(alloc, &before, lines)?;
         let still = sized.still;
-        let survey = Survey::by_rows(
+        let (survey, differing) = Survey::by_rows(
             alloc,
             &before,
             lines,
@@ -179,11 +181,11 @@ impl Survey {
             locals,
             counter,
         )?;
-        Ok((survey, still))
+        Ok((survey, still, differing))
     }
 
-    /// That of the lines of a text after an edit, which have these groups, by the rows that the others are made from. It does not get the
-    /// lines.
+    /// That of the lines of a text after an edit, which have these groups, by the rows that the others are made from, and a set that has
+    /// each symbol that differs on one of the lines. It does not get the lines.
     ///
     /// The counter's number of expressions computed rises by at most two for each line: the `.equ`s, and the high halves that
     /// the edit invalidates.
@@ -197,7 +199,7 @@ impl Survey {
         placed: Placed,
         locals: Locals,
         counter: &mut C,
-    ) -> Result<Survey, AllocError>
+    ) -> Result<(Survey, NameSet), AllocError>
         requires base { is_base (base_before before.now) ≡ true }
         requires before { IsBefore before.now }
         requires edited { lines.now ≡ lines_after (lines_before before.now) (edit_on before.now) }
@@ -211,7 +213,8 @@ impl Survey {
         requires places { placed.places.items ≡ for_lines (place_by_shapes (base_before before.now) sized.shapes.items) (length sized.shapes.items) }
         requires locals { AreLocals (program_of lines.now) (length lines.now) locals }
         requires valued { C.valued_count counter.old ≤ 2 ^ 63 + 2 ^ 32 }
-        ensures survey { IfOk result (λ s. IsSurvey (base_before before.now) (program_of lines.now) before.now.symbols.text.names.now s) }
+        ensures survey { IfOk result (λ r. IsSurvey (base_before before.now) (program_of lines.now) before.now.symbols.text.names.now r.0) }
+        ensures differing { IfOk result (λ r. HasDiffering (base_before before.now) (lines_before before.now) (edit_on before.now) r.1) }
         ensures least { C.valued_count counter.old ≤ C.valued_count counter.new }
         ensures most { C.valued_count counter.new ≤ C.valued_count counter.old + 2 * length lines.now }
         ensures work { C.valued_count counter.new ≤ C.valued_count counter.old + operands_through equ_operands (program_of lines.now) (length lines.now)
@@ -234,8 +237,9 @@ impl Survey {
             constants: &sized.constants,
             equ_values: &equ_values,
         };
-        let highs = highs(alloc, before, &after, groups, counter)?;
-        Ok(Survey {
+        let differing = differing_names(alloc, before, &after)?;
+        let highs = highs(alloc, before, &after, &differing, groups, counter)?;
+        let survey = Survey {
             lines: Column::new(alloc),
             definitions,
             constants: sized.constants,
@@ -245,7 +249,8 @@ impl Survey {
             locals,
             equ_values,
             highs,
-        })
+        };
+        Ok((survey, differing))
     }
 
     // The text of these lines with what its symbols are.

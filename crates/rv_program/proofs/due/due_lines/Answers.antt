@@ -32,7 +32,7 @@ lines-init g c =
       within = omega (arith, up.within, count);
       row = c.new-row.ensures.items
           ∙ row-through (is_due (base_before before) (lines_before before) (edit_on before)) 0 next up.up
-          (due-apart before c.args.after.now.text c.args.lines.now c.args.groups.now c.args.still c.due_groups-wanted.result c.in_ok-differing.differing c.requires.before c.requires.after c.requires.column c.requires.groups c.requires.still c.in_ok-differing.ensures c.due_groups-wanted.ensures 0 next up.within up.passed
+          (due-apart before c.args.after.now.text c.args.lines.now c.args.groups.now c.args.still c.due_groups-wanted.result c.args.differing.now c.requires.before c.requires.after c.requires.column c.requires.groups c.requires.still c.requires.differing c.due_groups-wanted.ensures 0 next up.within up.passed
           (λ k first last at. up.apart k first last (at ∙ sym c.place-place.ensures.value)));
       compared = more-compared before 0 next counts counts up.up (none-compared before counts);
     }
@@ -48,7 +48,7 @@ lines-preserved g c =
     let up = c.lines_up_to_due-i-in-lines.ensures in
     let count = count-groups c.args.lines.now c.args.groups.now c.requires.groups in
     let apart = row-through test (n + 1) next up.up
-    (due-apart before c.args.after.now.text c.args.lines.now c.args.groups.now c.args.still c.due_groups-wanted.result c.in_ok-differing.differing c.requires.before c.requires.after c.requires.column c.requires.groups c.requires.still c.in_ok-differing.ensures c.due_groups-wanted.ensures (n + 1) next up.within up.passed
+    (due-apart before c.args.after.now.text c.args.lines.now c.args.groups.now c.args.still c.due_groups-wanted.result c.args.differing.now c.requires.before c.requires.after c.requires.column c.requires.groups c.requires.still c.requires.differing c.due_groups-wanted.ensures (n + 1) next up.within up.passed
     (λ k first last at. up.apart k first last (at ∙ sym c.place-place.ensures.value))) in
     record {
       within = omega (arith, up.within, count);
@@ -79,13 +79,7 @@ returns-clause-due g c =
       those = c.lines.invariant.row ∙ ap (lines_that (is_due base lines edit)) all;
     }
 
--- where no memory is left for the set of names
-pub returns-in_err-differing-clause-compared : goal.returns-in_err-differing-clause-compared
-returns-in_err-differing-clause-compared g c =
-    let counts = counts_of g.C.Count.parsed_count g.C.Count.valued_count g.C.Count.encoded_count in
-    more-compared c.args.before.now 0 (length c.args.after.now.text.lines.now) (counts c.args.counter.now) (counts c.args.counter.now) (omega arith) (none-compared c.args.before.now (counts c.args.counter.now))
-
--- or for the row
+-- where no memory is left for the row
 pub returns-in_err-push-clause-compared : goal.returns-in_err-push-clause-compared
 returns-in_err-push-clause-compared g c =
     let counts = counts_of g.C.Count.parsed_count g.C.Count.valued_count g.C.Count.encoded_count in

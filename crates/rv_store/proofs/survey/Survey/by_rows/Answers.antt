@@ -12,6 +12,17 @@ equ_values-requires-clause-rows g c = record {
   located = rw (c.in_column-column.ensures, length-program) c.requires.locals;
 }
 
+pub differing_names-requires-clause-rows : goal.differing_names-requires-clause-rows
+differing_names-requires-clause-rows g c = record {
+  text = record {
+    defined = rw (c.in_column-column.ensures, c.deref.ensures.value) c.requires.definitions;
+    placed = rw (c.in_column-column.ensures, c.deref-2.ensures.value) (placed (base_before c.args.before.now) (program_of c.args.lines.now) c.args.sized.shapes.items _ c.requires.shapes c.requires.places);
+    located = rw (c.in_column-column.ensures, length-program) c.requires.locals;
+  };
+  constants = rw (c.in_column-column.ensures, c.deref-3.ensures.value) c.requires.constants;
+  equ_values = rw c.deref-4.ensures.value c.in_ok-equ_values.ensures.values;
+}
+
 pub highs-requires-clause-rows : goal.highs-requires-clause-rows
 highs-requires-clause-rows g c = record {
   text = record {
