@@ -1,7 +1,7 @@
 -- The high halves on the lines of a text, and on the lines that an edit does not invalidate.
-use Rattle.std.proofs.Common.{◌≡◌, ℕ, suc, ◌+◌, ◌-◌, ◌<◌, ◌≤◌, pos, Bool, true, false, ◌||◌, List, ◌∷◌, length, get_or, is_some, Option, Some, None, Ok, Err, true≢false, arith, ap, sym, ◌∙◌, refl}
+use Rattle.std.proofs.Common.{◌≡◌, ℕ, ℤ, suc, ◌+◌, ◌-◌, ◌<◌, ◌≤◌, ◌==◌, pos, Bool, true, false, not, ◌&&◌, ◌||◌, if◌then◌else◌, List, ◌∷◌, length, get_or, is_some, Option, Some, None, Ok, Err, true≢false, arith, ap, sym, ◌∙◌, refl}
 use Rattle.std.specs.List.{list_any, flat_map}
-use Rattle.std.proofs.lemmas.Bool.{both_ways, or_parts, or_left, or_right}
+use Rattle.std.proofs.lemmas.Bool.{both_ways, or_parts, or_left, or_right, eq-eqb}
 use Rattle.std.proofs.lemmas.List.Folds.{list_any-append}
 use Rattle.rv_expr.specs.declared.faults.ValueFault.TheVariants.{NoPartner}
 use Rattle.rv_expr.specs.Tree.{Tree}
@@ -14,22 +14,29 @@ use Rattle.rv_stmt.specs.declared.operand.OperandValue.TheVariants.{PcrelHigh}
 use Rattle.rv_stmt.specs.declared.statement.Body.{Body}
 use Rattle.rv_stmt.specs.declared.statement.Body.TheVariants as body
 use Rattle.rv_stmt.specs.Readings.{and_then}
+use Rattle.rv_layout.specs.Places.{IsLimited}
+use Rattle.rv_layout.specs.Sections.{section_number}
+use Rattle.rv_layout.specs.ShapeLaws.{limited}
+use Rattle.rv_layout.specs.Shapes.{shape_of}
 use Rattle.rv_fix.specs.Displacements.{displacement}
 use Rattle.rv_fix.specs.Values.{Entry}
 use Rattle.rv_program.specs.declared.before.Before.{Before}
 use Rattle.rv_program.specs.declared.text_rows.TextRows.{TextRows}
 use Rattle.rv_program.specs.internal.Before.{IsAfter, base_before, lines_before, edit_on}
 use Rattle.rv_program.specs.Changes.{program_after, differs_in_name, differs_in_uses, is_invalidated}
-use Rattle.rv_program.specs.Layout.{address_at}
-use Rattle.rv_program.specs.Pairs.{pcrel_high_value, pcrel_high_operand, pcrel_high_of, high_by, high_at}
-use Rattle.rv_program.specs.Program.{Program, program_of, body_at}
+use Rattle.rv_program.specs.Constants.{constant_of}
+use Rattle.rv_program.specs.Layout.{shape_at, section_at, address_at, size_at}
+use Rattle.rv_program.specs.Pairs.{pcrel_high_value, pcrel_high_operand, pcrel_high_of, high_by, high_at, has_bytes_in, high_at_line, paired_high_of}
+use Rattle.rv_program.specs.Program.{Program, program_of, body_at, first_line}
 use Rattle.rv_program.specs.References.{references_at}
-use Rattle.rv_program.specs.internal.Rows.{AreHighs}
+use Rattle.rv_program.specs.internal.Rows.{own_high_of, AreHighs}
 use Rattle.rv_program.specs.internal.TextRows.{program_in}
-use Rattle.rv_program.specs.Uses.{names_in, has_local_label, expression_of, is_pcrel_high, is_relative, has_here, operand_uses_address}
+use Rattle.rv_program.specs.Uses.{names_in, has_local_label, expression_of, is_pcrel_high, is_relative, has_here, operand_uses_address, uses_address}
 use Rattle.rv_program.specs.internal.Work.{one_if_some, high_operands, work}
+use Rattle.rv_program.specs.lemmas.Alignments.{size_at-follows}
 use Rattle.rv_program.specs.lemmas.KeptLines.{UsesSame, same_name, uses-same}
 use Rattle.rv_program.specs.lemmas.Programs.{length-program}
+use Rattle.rv_program.specs.lemmas.UsedConstants.{shape-follows}
 use Rattle.rv_program.specs.lemmas.UsedValues.{value-follows}
 use Rattle.rv_program.specs.lemmas.WorkLaws.{work-invalidated}
 
@@ -81,10 +88,70 @@ high-counted before after line is_after first some invalidated =
     let more = work-invalidated high_operands (base_before before) (lines_before before) (edit_on before) line first invalidated in
     omega (arith, here, more)
 
+-- High halves on lines with bytes
+
+pub no-own : (base : ℕ) (program : Program) (i : ℕ) → is_some (pcrel_high_of (body_at program i)) ≡ false → own_high_of base program i ≡ Err NoPartner
+no-own base program i none = at (size_at program i == 0)
+  where
+    at : (b : Bool) → (if b then Err NoPartner else high_at base program i) ≡ Err NoPartner
+    at true = refl
+    at false = no-high (references_at base program i) (address_at base program i) (pcrel_high_of (body_at program i)) none
+
+pub own-none : (base : ℕ) (program : Program) (i : ℕ) → (size_at program i == 0) ≡ true → own_high_of base program i ≡ Err NoPartner
+own-none base program i none = ap (λ b. if b then Err NoPartner else high_at base program i) none
+
+pub own-is : (base : ℕ) (program : Program) (i : ℕ) → (size_at program i == 0) ≡ false → own_high_of base program i ≡ high_at base program i
+own-is base program i bytes = ap (λ b. if b then Err NoPartner else high_at base program i) bytes
+
+-- a line with bytes is the first with bytes from there on
+own-first : (base : ℕ) (program : Program) (i : ℕ) → 1 ≤ i → i ≤ length program → (size_at program i == 0) ≡ false → paired_high_of base program i ≡ high_at base program i
+own-first base program i first last bytes =
+    let section = section_number (section_at program i) in
+    let test = has_bytes_in program section in
+    let next : suc (i - 1) ≡ i = omega (arith, first) in
+    let count : length program - (i - 1) ≡ suc (length program - i) = omega (arith, first, last) in
+    let passes : test (suc (i - 1)) ≡ true = ap test next ∙ (λ j. eq-eqb section section refl j && not (bytes j)) in
+    ap (λ n. high_at_line base program (first_line test (i - 1) n)) count
+    ∙ ap (λ b. high_at_line base program (if b then Some (suc (i - 1)) else first_line test (suc (i - 1)) (length program - i))) passes
+    ∙ ap (high_at base program) next
+
+-- Lines that are not invalidated
+
+uses-address : (b : Body) → is_some (pcrel_high_of b) ≡ true → uses_address b ≡ true
+uses-address (body.Instr i) some = at i.op i.operands some
+  where
+    value : (o : Operand) → is_some (pcrel_high_value o.value) ≡ true → operand_uses_address o ≡ true
+    value o some = or_left (has_here (expression_of o.value) || is_pcrel_high o.value) (is_relative o.role) (or_right (has_here (expression_of o.value)) (is_pcrel_high o.value) (is-high o.value some))
+      where
+        is-high : (v : OperandValue) → is_some (pcrel_high_value v) ≡ true → is_pcrel_high v ≡ true
+        is-high (PcrelHigh e) some = refl
+        is-high v some = absurd (true≢false (sym some))
+
+    at : (op : Op) (os : List Operand) → is_some (pcrel_high_operand op os) ≡ true → list_any operand_uses_address os ≡ true
+    at Auipc (o ∷ os) some = or_left (operand_uses_address o) (list_any operand_uses_address os) (value o some)
+    at op os some = absurd (true≢false (sym some))
+uses-address b some = absurd (true≢false (sym some))
+
+-- it has as many bytes as it had
+pub high-size : (base : ℕ) (before after : Program) (k j : ℕ) → 1 ≤ k → k ≤ length after → 1 ≤ j → j ≤ length before → body_at after k ≡ body_at before j → is_some (pcrel_high_of (body_at after k)) ≡ true → differs_in_uses base before after k j (body_at after k) ≡ false → size_at after k ≡ size_at before j
+high-size base before after k j first last first' last' same some h =
+    let b = body_at after k in
+    let uses = uses-same base before after k j b h in
+    let place = uses.place (uses-address b some) in
+    let shape : shape_at after k ≡ shape_at before j =
+    shape-follows (differs_in_name base before after k j) (constant_of after k) (constant_of before j) (λ name g. (same_name base before after k j name g).1) b uses.names
+    ∙ ap (shape_of (constant_of before j)) same in
+    size_at-follows base after before k j first last first' last' (limited-high (constant_of before j) (body_at before j) (ap (λ b. is_some (pcrel_high_of b)) (sym same) ∙ some)) shape place.1 place.0
+  where
+    limited-high : (f : List ℕ → Option ℤ) (b : Body) → is_some (pcrel_high_of b) ≡ true → IsLimited (shape_of f b)
+    limited-high f (body.Instr i) some = limited f (body.Instr i) (omega arith)
+    limited-high f b some = absurd (true≢false (sym some))
+
 -- The row of high halves
 
-pub high_of_line : (base : ℕ) (lines : List (List ℕ)) (row : List Entry) (i : ℕ) → AreHighs base (program_of lines) row → 1 ≤ i → i ≤ length lines → get_or row (i - 1) (Err NoPartner) ≡ high_at base (program_of lines) i
-high_of_line base lines row i are first last =
+pub high_of_line : (base : ℕ) (lines : List (List ℕ)) (row : List Entry) (i : ℕ) → AreHighs base (program_of lines) row → 1 ≤ i → i ≤ length lines → (size_at (program_of lines) i == 0) ≡ false → get_or row (i - 1) (Err NoPartner) ≡ high_at base (program_of lines) i
+high_of_line base lines row i are first last bytes =
     let within : i - 1 < length (program_of lines) = omega (arith, first, last, length-program lines) in
     let next : suc (i - 1) ≡ i = omega (arith, first) in
-    are.each (i - 1) within ∙ ap (high_at base (program_of lines)) next
+    are.each (i - 1) within ∙ ap (paired_high_of base (program_of lines)) next
+    ∙ own-first base (program_of lines) i first (omega (arith, last, length-program lines)) bytes

@@ -3,18 +3,16 @@ use Rattle.std.proofs.Common.{◌≡◌, ℕ, suc, ◌+◌, ◌<◌, ◌≤◌, 
 use Rattle.std.proofs.lemmas.Bool.{cases_lt}
 use Rattle.rv_expr.specs.declared.faults.ValueFault.TheVariants.{NoPartner}
 use Rattle.rv_fix.specs.Values.{Entry}
-use Rattle.rv_program.specs.Layout.{address_at}
 use Rattle.rv_program.specs.internal.LinesWithout.{AreWithout}
-use Rattle.rv_program.specs.Pairs.{pcrel_high_of, high_at}
-use Rattle.rv_program.specs.Program.{Program, body_at}
-use Rattle.rv_program.specs.References.{references_at}
-use Rattle.rv_program.specs.internal.Rows.{AreHighs}
-use Rattle.rv_program.proofs.HighLaws.{no-high}
+use Rattle.rv_program.specs.Pairs.{pcrel_high_of}
+use Rattle.rv_program.specs.Program.{Program}
+use Rattle.rv_program.specs.internal.Rows.{own_high_of, AreOwnHighs}
+use Rattle.rv_program.proofs.HighLaws.{no-own}
 use Rattle.rv_program.specs.lemmas.Lists.{get_or-same}
 
 module _ (base : ℕ) (program : Program) where
   pub record AreHighsThrough (i : ℕ) (row : List Entry) : Type 0 where
-    pub done : (k : ℕ) → k < i → get_or row k (Err NoPartner) ≡ high_at base program (suc k)
+    pub done : (k : ℕ) → k < i → get_or row k (Err NoPartner) ≡ own_high_of base program (suc k)
     pub left : (k : ℕ) → i ≤ k → get_or row k (Err NoPartner) ≡ Err NoPartner
 
   pub highs-none : (n : ℕ) → AreHighsThrough 0 (replicate n (Err NoPartner))
@@ -30,26 +28,26 @@ module _ (base : ℕ) (program : Program) where
     left = λ k from. are.left k (omega (arith, up, from));
   }
     where
-      at : (k : ℕ) → k < j → (k < i) ⊎ (i ≤ k) → get_or row k (Err NoPartner) ≡ high_at base program (suc k)
+      at : (k : ℕ) → k < j → (k < i) ⊎ (i ≤ k) → get_or row k (Err NoPartner) ≡ own_high_of base program (suc k)
       at k below (inl before) = are.done k before
       at k below (inr from) =
           are.left k from
-          ∙ sym (no-high (references_at base program (suc k)) (address_at base program (suc k)) (pcrel_high_of (body_at program (suc k))) (passed.each k from below))
+          ∙ sym (no-own base program (suc k) (passed.each k from below))
 
   -- one line more, with its high half
-  pub highs-set : (i : ℕ) (row : List Entry) (high : Entry) → i < length row → high ≡ high_at base program (suc i) → AreHighsThrough i row → AreHighsThrough (i + 1) (set row i high)
+  pub highs-set : (i : ℕ) (row : List Entry) (high : Entry) → i < length row → high ≡ own_high_of base program (suc i) → AreHighsThrough i row → AreHighsThrough (i + 1) (set row i high)
   highs-set i row high within is are = record {
     done = λ k below. at k below (cases_lt k i);
     left = λ k from. get_or-set_other row i k high (Err NoPartner) (λ e. omega (arith, e, from)) ∙ are.left k (omega (arith, from));
   }
     where
-      at : (k : ℕ) → k < i + 1 → (k < i) ⊎ (i ≤ k) → get_or (set row i high) k (Err NoPartner) ≡ high_at base program (suc k)
+      at : (k : ℕ) → k < i + 1 → (k < i) ⊎ (i ≤ k) → get_or (set row i high) k (Err NoPartner) ≡ own_high_of base program (suc k)
       at k below (inl before) = get_or-set_other row i k high (Err NoPartner) (λ e. omega (arith, e, before)) ∙ are.done k before
       at k below (inr from) =
           let same : k ≡ i = omega (arith, below, from) in
           ap (λ n. get_or (set row i high) n (Err NoPartner)) same ∙ get_or-set_same row i high (Err NoPartner) within ∙ is
-          ∙ ap (λ n. high_at base program (suc n)) (sym same)
+          ∙ ap (λ n. own_high_of base program (suc n)) (sym same)
 
   -- through the last line
-  pub highs-all : (row : List Entry) → length row ≤ length program → AreHighsThrough (length program) row → AreHighs base program row
+  pub highs-all : (row : List Entry) → length row ≤ length program → AreHighsThrough (length program) row → AreOwnHighs base program row
   highs-all row many are = record { each = are.done; within = many }

@@ -12,6 +12,7 @@ pub mod LinesWithout
 pub mod ListedLines
 pub mod MovedLocals
 pub mod NumberedNames
+pub mod PairedHighs
 pub mod RenewalRuns
 pub mod StayingItems
 pub mod ValidLines

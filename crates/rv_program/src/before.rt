@@ -16,7 +16,7 @@ pub struct Before<'a, 'e> {
     pub symbols: SymbolRows<'a>,
     /// The shapes of the lines.
     pub shapes: &'a [Measured],
-    /// The high halves on the lines.
+    /// The high halves that `%pcrel_lo` takes, by the lines of the labels.
     pub highs: &'a [Entry],
 }
 

@@ -1,6 +1,6 @@
-//! The high halves on the lines of a text.
+//! The high halves on the lines of a text, and what `%pcrel_lo` takes.
 
-ghost use Rattle.std.specs.Prelude.{◌≡◌, ◌≤◌, ◌<◌, ◌+◌, ◌^◌, ◌-◌, Err, length, IfOk, map};
+ghost use Rattle.std.specs.Prelude.{◌≡◌, ◌≤◌, ◌<◌, ◌+◌, ◌^◌, ◌-◌, ◌==◌, ◌⊎◌, Err, None, true, false, length, IfOk, IfSome, map};
 ghost use Rattle.std.specs.Option.{is_some, option_map};
 ghost use Rattle.rv_expr.specs.declared.faults.ValueFault.TheVariants.{NoPartner};
 ghost use Rattle.rv_program.specs.internal.Briefs.{groups_on};
@@ -8,9 +8,10 @@ ghost use Rattle.rv_program.specs.declared.limits.TheConstants.{MAX_LINES};
 ghost use Rattle.rv_program.specs.internal.Before.{IsBefore, IsAfter, base_before, lines_before, edit_on};
 ghost use Rattle.rv_program.specs.Changes.{is_invalidated};
 ghost use Rattle.rv_program.specs.internal.Differing.{HasDiffering};
+ghost use Rattle.rv_program.specs.Layout.{size_at};
 ghost use Rattle.rv_program.specs.Pairs.{pcrel_high_of, high_by, high_at};
 ghost use Rattle.rv_program.specs.Program.{body_at};
-ghost use Rattle.rv_program.specs.internal.Rows.{AreHighs};
+ghost use Rattle.rv_program.specs.internal.Rows.{own_high_of, AreOwnHighs, AreHighs};
 ghost use Rattle.rv_program.specs.internal.SymbolRows.{AreSymbolRows};
 ghost use Rattle.rv_program.specs.internal.TextRows.{AreTextRows, AreEquValuesIn, program_in};
 ghost use Rattle.rv_program.specs.internal.Work.{high_operands, work};
@@ -21,7 +22,7 @@ use crate::invalidation::{is_invalidated, may_be_invalidated};
 use crate::line_names::references_at;
 use crate::lines_of_kind::lines_up_to;
 use crate::name_set::NameSet;
-use crate::pairs::high_in;
+use crate::pairs::{high_in, pair_highs};
 use crate::room::row_of;
 use crate::symbol_rows::SymbolRows;
 use crate::text_lines::{brief_on, place_on, statement_on};
@@ -130,7 +131,32 @@ fn is_line_invalidated(
     is_invalidated(before, after, differing, line)
 }
 
-// The high half on a line of the text after an edit: what it was, unless the edit invalidates the line.
+// What the high half on a line was, if the edit does not invalidate the line.
+fn high_left(
+    before: &Before<'_, '_>,
+    after: &SymbolRows<'_>,
+    differing: &NameSet,
+    line: u32,
+) -> Option<Entry>
+    requires before { IsBefore before.now }
+    requires rows { AreSymbolRows after.now }
+    requires after { IsAfter before.now after.now.text }
+    requires differing { HasDiffering (base_before before.now) (lines_before before.now) (edit_on before.now) differing.now }
+    requires first { 1 ≤ line }
+    requires last { line ≤ length after.now.text.lines.now }
+    requires high { is_some (pcrel_high_of (body_at (program_in after.now.text) line)) ≡ true }
+    requires bytes { (size_at (program_in after.now.text) line == 0) ≡ false }
+    ensures high { IfSome result (λ high. high ≡ high_at after.now.text.base (program_in after.now.text) line) }
+    ensures none { result ≡ None → is_invalidated (base_before before.now) (lines_before before.now) (edit_on before.now) line ≡ true }
+{
+    let stood = before.edit.line_before(line)?;
+    if is_line_invalidated(before, after, differing, line) {
+        return None;
+    }
+    Some(high_in(before.highs, stood as usize))
+}
+
+// The high half on a line of the text after an edit, if it has bytes: what it was, unless the edit invalidates the line.
 fn high_after<C: Count>(
     before: &Before<'_, '_>,
     after: &SymbolRows<'_>,
@@ -145,7 +171,7 @@ fn high_after<C: Count>(
     requires first { 1 ≤ line }
     requires last { line ≤ length after.now.text.lines.now }
     requires valued { C.valued_count counter.old < 2 ^ 64 - 1 }
-    ensures value { result ≡ high_at after.now.text.base (program_in after.now.text) line }
+    ensures value { result ≡ own_high_of after.now.text.base (program_in after.now.text) line }
     ensures least { C.valued_count counter.old ≤ C.valued_count counter.new }
     ensures most { C.valued_count counter.new + work high_operands (base_before before.now) (lines_before before.now) (edit_on before.now) (line - 1) ≤ C.valued_count counter.old + work high_operands (base_before before.now) (lines_before before.now) (edit_on before.now) line }
     ensures one { C.valued_count counter.new ≤ C.valued_count counter.old + 1 }
@@ -155,16 +181,52 @@ fn high_after<C: Count>(
     if !has_pcrel_high(&after.text, line) {
         return Err(ValueFault::NoPartner);
     }
-    if !is_line_invalidated(before, after, differing, line) {
-        if let Some(stood) = before.edit.line_before(line) {
-            return high_in(before.highs, stood as usize);
-        }
+    if place_on(&after.text, line).size == 0 {
+        return Err(ValueFault::NoPartner);
     }
-    high_on(&after.text, after.equ_values, line, counter)
+    match high_left(before, after, differing, line) {
+        Some(high) => high,
+        None => high_on(&after.text, after.equ_values, line, counter),
+    }
 }
 
-/// The high half on each line of the text after an edit, the lines of which have these groups. Lines without `%pcrel_hi` are
-/// gone past; where there are no others, the row is empty. `differing` has each symbol that differs on one of the lines.
+// The high half on each line that has bytes. Lines without `%pcrel_hi` are gone past; where there are no others, the row is empty.
+fn own_highs<C: Count>(
+    alloc: Global,
+    before: &Before<'_, '_>,
+    after: &SymbolRows<'_>,
+    differing: &NameSet,
+    groups: &[Groups],
+    counter: &mut C,
+) -> Result<Vec<Entry>, AllocError>
+    requires before { IsBefore before.now }
+    requires rows { AreSymbolRows after.now }
+    requires after { IsAfter before.now after.now.text }
+    requires differing { HasDiffering (base_before before.now) (lines_before before.now) (edit_on before.now) differing.now }
+    requires groups { groups.now ≡ map groups_on after.now.text.lines.now }
+    requires valued { C.valued_count counter.old + length after.now.text.lines.now < 2 ^ 64 }
+    ensures highs { IfOk result (λ row. AreOwnHighs after.now.text.base (program_in after.now.text) row.items) }
+    ensures many { IfOk result (λ row. (length row.items ≡ 0) ⊎ (length row.items ≡ length after.now.text.lines.now)) }
+    ensures least { C.valued_count counter.old ≤ C.valued_count counter.new }
+    ensures most { C.valued_count counter.new ≤ C.valued_count counter.old + length after.now.text.lines.now }
+    ensures work { C.valued_count counter.new ≤ C.valued_count counter.old + work high_operands (base_before before.now) (lines_before before.now) (edit_on before.now) (length after.now.text.lines.now) }
+    ensures parsed { C.parsed_count counter.new ≡ C.parsed_count counter.old }
+    ensures encoded { C.encoded_count counter.new ≡ C.encoded_count counter.old }
+{
+    let mut i = lines_up_to(groups, 0, Kind::PcrelHigh);
+    if i >= groups.len() {
+        return Ok(Vec::new(alloc));
+    }
+    let mut row = row_of(alloc, Err(ValueFault::NoPartner), groups.len())?;
+    while i < groups.len() {
+        row[i] = high_after(before, after, differing, i as u32 + 1, counter);
+        i = lines_up_to(groups, i + 1, Kind::PcrelHigh);
+    }
+    Ok(row)
+}
+
+/// What `%pcrel_lo` of a label on each line of the text after an edit takes, the lines of which have these groups. Where no line has a high
+/// half, the row is empty. `differing` has each symbol that differs on one of the lines.
 ///
 /// The counter's number of expressions computed rises by at most the high halves on the lines that the edit invalidates,
 /// whatever the outcome.
@@ -193,14 +255,10 @@ pub fn highs<C: Count>(
     ensures parsed { C.parsed_count counter.new ≡ C.parsed_count counter.old }
     ensures encoded { C.encoded_count counter.new ≡ C.encoded_count counter.old }
 {
-    let mut i = lines_up_to(groups, 0, Kind::PcrelHigh);
-    if i >= groups.len() {
-        return Ok(Vec::new(alloc));
+    let mut row = own_highs(alloc, before, after, differing, groups, counter)?;
+    if row.is_empty() {
+        return Ok(row);
     }
-    let mut row = row_of(alloc, Err(ValueFault::NoPartner), groups.len())?;
-    while i < groups.len() {
-        row[i] = high_after(before, after, differing, i as u32 + 1, counter);
-        i = lines_up_to(groups, i + 1, Kind::PcrelHigh);
-    }
+    pair_highs(after.text.places, &mut row);
     Ok(row)
 }

@@ -9,7 +9,7 @@ ghost use Rattle.rv_program.specs.References.{line_of_place, or_faulty_equ, by_d
 ghost use Rattle.rv_program.specs.internal.TextRows.{address_in, program_in, AreTextRows, AreEquValuesIn, AreHighsIn, address_in_text, references_through};
 
 use crate::names::{entry_at, entry_of};
-use crate::pairs::paired_high;
+use crate::pairs::high_in;
 use crate::text_rows::{TextRows, address_in, address_of_found};
 use rv_expr::{Direction, LabelReference, Names, ValueFault};
 use rv_fix::Entry;
@@ -22,7 +22,7 @@ pub struct LineNames<'a> {
     text: TextRows<'a>,
     // The values of the `.equ`s, by the numbers of their names.
     equ_values: &'a [Entry],
-    // The high halves on the lines.
+    // The high halves that `%pcrel_lo` takes, by the lines of the labels.
     highs: &'a [Entry],
     line: u32,
     // The `.equ`s of the lines up to this one may be used.
@@ -50,7 +50,7 @@ impl Names for LineNames<'_> {
 
     fn paired_high(&self, _here: u32, label: &LabelReference) -> Result<i64, ValueFault> {
         let line = self.label_line(label)?;
-        paired_high(self.text.places, self.highs, line)
+        high_in(self.highs, line as usize)
     }
 }
 

@@ -14,7 +14,7 @@ pub struct ValueRows<'a> {
     pub symbols: SymbolRows<'a>,
     /// The shapes of the lines.
     pub shapes: &'a [Measured],
-    /// The high halves on the lines.
+    /// The high halves that `%pcrel_lo` takes, by the lines of the labels.
     pub highs: &'a [Entry],
 }
 

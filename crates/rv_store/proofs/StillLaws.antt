@@ -303,23 +303,6 @@ module _ {base : ℕ} {p q : Program} {k : ℕ} {touched : Touched} (is : IsStil
   high-behind : (i : ℕ) → length p < i → i ≤ length q → high_at base q i ≡ Err NoPartner
   high-behind i past last = ap (high_at base q) (is.behind i past last) ∙ high-new
 
-  pub highs-still : (row : List Entry) → AreHighs base p row → AreHighs base q row
-  highs-still row are = record {
-    each = λ i below. at i below (cases_lt i (length p));
-    within = let longer = is.longer in omega (arith, are.within, longer);
-  }
-    where
-      at : (i : ℕ) → i < length q → (i < length p) ⊎ (length p ≤ i) → get_or row i (Err NoPartner) ≡ high_at base q (suc i)
-      at i below (inl earlier) = are.each i earlier ∙ sym (high-still (suc i) (omega arith) (omega (arith, earlier)))
-      at i below (inr past) =
-          get_or_past row i (Err NoPartner) (omega (arith, past, are.within)) ∙ sym (high-behind (suc i) (omega (arith, past)) (omega (arith, below)))
-
-  pub highs-back : (row : List Entry) → AreHighs base q row → AreHighs base p (take (length p) row)
-  highs-back row are = record {
-    each = λ i below. let longer = is.longer in get_or-take (length p) row i (Err NoPartner) below ∙ are.each i (omega (arith, below, longer)) ∙ high-still (suc i) (omega arith) (omega (arith, below));
-    within = omega (arith, length-take (length p) row);
-  }
-
   has_bytes-still : (section i : ℕ) → 1 ≤ i → i ≤ length p → has_bytes_in q section i ≡ has_bytes_in p section i
   has_bytes-still section i first last =
       let there = section-still i first last in
@@ -351,6 +334,28 @@ module _ {base : ℕ} {p q : Program} {k : ℕ} {touched : Touched} (is : IsStil
       let section = section-still i first last in
       (λ j. high_at_line base q (first_line (has_bytes_in q (section_number (section j))) (i - 1) (length q - (i - 1))))
       ∙ next_high-still (section_number (section_at p i)) (i - 1) (length p - (i - 1)) (length q - (i - 1)) (omega (arith, first, last)) (omega (arith, first, last, longer))
+
+  paired-behind : (i : ℕ) → length p < i → i ≤ length q → paired_high_of base q i ≡ Err NoPartner
+  paired-behind i past last =
+      next_high-none (section_number (section_at q i)) (i - 1) (length q - (i - 1)) (omega (arith, past)) (omega (arith, past, last))
+
+  -- the row of what is paired
+  pub highs-still : (row : List Entry) → AreHighs base p row → AreHighs base q row
+  highs-still row are = record {
+    each = λ i below. at i below (cases_lt i (length p));
+    within = let longer = is.longer in omega (arith, are.within, longer);
+  }
+    where
+      at : (i : ℕ) → i < length q → (i < length p) ⊎ (length p ≤ i) → get_or row i (Err NoPartner) ≡ paired_high_of base q (suc i)
+      at i below (inl earlier) = are.each i earlier ∙ sym (paired_high-still (suc i) (omega arith) (omega (arith, earlier)))
+      at i below (inr past) =
+          get_or_past row i (Err NoPartner) (omega (arith, past, are.within)) ∙ sym (paired-behind (suc i) (omega (arith, past)) (omega (arith, below)))
+
+  pub highs-back : (row : List Entry) → AreHighs base q row → AreHighs base p (take (length p) row)
+  highs-back row are = record {
+    each = λ i below. let longer = is.longer in get_or-take (length p) row i (Err NoPartner) below ∙ are.each i (omega (arith, below, longer)) ∙ paired_high-still (suc i) (omega arith) (omega (arith, below));
+    within = omega (arith, length-take (length p) row);
+  }
 
   pair-still : (i : ℕ) (label : LabelReference) → i ≤ length p → NoneIn (names_in (tree_of_label label)) → (has_local_label (tree_of_label label) ≡ true → Near i) → and_then (label_line q i label) (paired_high_of base q) ≡ and_then (label_line p i label) (paired_high_of base p)
   pair-still i label within none near =

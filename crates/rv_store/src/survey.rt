@@ -57,7 +57,7 @@ pub struct Survey {
     pub locals: Locals,
     /// The value that the `.equ` of each name has.
     pub equ_values: Vec<Entry>,
-    /// The high half on each line. The row may end before the lines do, if those behind its end have none.
+    /// What `%pcrel_lo` of a label on each line takes. The row may end before the lines do, if there is nothing for those behind its end.
     pub highs: Vec<Entry>,
 }
 

@@ -13,7 +13,7 @@ use Rattle.rv_program.specs.declared.line_names.LineNames.{LineNames}
 use Rattle.rv_list.specs.declared.view.LinePlace.{LinePlace}
 use Rattle.rv_program.specs.declared.text_rows.TextRows.{TextRows}
 use Rattle.rv_program.specs.internal.Locals.{local_line_in}
-use Rattle.rv_program.specs.internal.PairedHighs.{paired_high_in}
+use Rattle.rv_program.specs.internal.PairedHighs.{high_in}
 use Rattle.rv_program.specs.References.{line_of_place, by_definition}
 use Rattle.rv_program.specs.internal.Rows.{in_row}
 use Rattle.rv_program.specs.internal.TextRows.{address_in}
@@ -33,14 +33,14 @@ label_line_in text line (reference.Local number direction) =
 label_line_in text line reference.Here = Err Undefined
 
 -- what names give on a line at the address `here`, where the `.equ`s of the first lines may be used: by the values of the `.equ`s, and the
--- high halves on the lines
+-- high halves that `%pcrel_lo` takes
 abbrev pub names_by : TextRows → (equ_values highs : List Entry) → (line usable_equs here : ℕ) → Environment
 names_by text equ_values highs line usable_equs here = record {
   symbol = λ name.
       by_definition (address_in text.places.now) usable_equs (definition_in text name) (in_row text.names.now equ_values (Err LaterEqu) name);
   local = λ number direction. address_of_found text.places.now (local_line_in text.locals.now line number direction);
   here = Ok (pos here);
-  paired_high = λ label. and_then (label_line_in text line label) (paired_high_in text.places.now highs);
+  paired_high = λ label. and_then (label_line_in text line label) (high_in highs);
 }
 
 -- what the names of a line give

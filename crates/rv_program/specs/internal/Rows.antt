@@ -1,5 +1,5 @@
 -- What the rows hold that are kept of a text: one value for each name, by the name's number, or one for each line.
-use Rattle.std.specs.Prelude.{◌≡◌, ℕ, ℤ, suc, ◌<◌, ◌≤◌, Bool, List, [], ◌++◌, length, get_or, position, bytes_eq, Option, Some, None, Err}
+use Rattle.std.specs.Prelude.{◌≡◌, ℕ, ℤ, suc, ◌<◌, ◌≤◌, ◌==◌, Bool, List, [], ◌++◌, length, get_or, position, bytes_eq, Option, Some, None, Err, if◌then◌else◌}
 use Rattle.std.specs.Option.{is_some}
 use Rattle.rv_expr.specs.declared.faults.ValueFault.TheVariants.{LaterEqu, NoPartner}
 use Rattle.rv_layout.specs.declared.measured.Measured.{Measured}
@@ -9,8 +9,8 @@ use Rattle.rv_list.specs.declared.view.DefinitionPlace.TheVariants.{Nowhere}
 use Rattle.rv_list.specs.declared.view.LinePlace.{LinePlace}
 use Rattle.rv_program.specs.Constants.{constant_through}
 use Rattle.rv_program.specs.Definitions.{definition_of}
-use Rattle.rv_program.specs.Layout.{shapes_of, place_at}
-use Rattle.rv_program.specs.Pairs.{high_at}
+use Rattle.rv_program.specs.Layout.{shapes_of, size_at, place_at}
+use Rattle.rv_program.specs.Pairs.{high_at, paired_high_of}
 use Rattle.rv_program.specs.Program.{Program, for_lines, lines_that}
 use Rattle.rv_program.specs.References.{has_local, equ_value}
 
@@ -65,9 +65,18 @@ AreShapes program row = row ≡ shapes_of program
 abbrev pub ArePlaces : (base : ℕ) → Program → List LinePlace → Type 0
 ArePlaces base program row = row ≡ for_lines (place_at base program) (length program)
 
--- the high half on each line; the row may end before the lines do, if those behind its end have none
+-- the high half on a line, if it has bytes
+abbrev pub own_high_of : (base : ℕ) → Program → (i : ℕ) → Entry
+own_high_of base program i = if size_at program i == 0 then Err NoPartner else high_at base program i
+
+-- that on each line
+pub record AreOwnHighs (base : ℕ) (program : Program) (row : List Entry) : Type 0 where
+  pub each : (k : ℕ) → k < length program → get_or row k (Err NoPartner) ≡ own_high_of base program (suc k)
+  pub within : length row ≤ length program
+
+-- what `%pcrel_lo` of a label on each line takes; the row may end before the lines do, if there is nothing for those behind its end
 pub record AreHighs (base : ℕ) (program : Program) (row : List Entry) : Type 0 where
-  pub each : (k : ℕ) → k < length program → get_or row k (Err NoPartner) ≡ high_at base program (suc k)
+  pub each : (k : ℕ) → k < length program → get_or row k (Err NoPartner) ≡ paired_high_of base program (suc k)
   pub within : length row ≤ length program
 
 -- the lines of local labels, by their numbers: those of the first k lines

@@ -20,8 +20,8 @@ use Rattle.rv_program.specs.Definitions.{definition_of}
 use Rattle.rv_program.specs.Layout.{section_at, address_at, place_at}
 use Rattle.rv_program.specs.internal.LineNames.{address_of_found, label_line_in, names_by}
 use Rattle.rv_program.specs.internal.Locals.{local_line_in}
-use Rattle.rv_program.specs.internal.PairedHighs.{high_in, has_bytes_there, has_bytes_by, next_with_bytes_in, paired_high_in}
-use Rattle.rv_program.specs.Pairs.{has_bytes_in, high_at_line, paired_high_of}
+use Rattle.rv_program.specs.internal.PairedHighs.{high_in}
+use Rattle.rv_program.specs.Pairs.{paired_high_of}
 use Rattle.rv_program.specs.Program.{Program, last_line, first_line}
 use Rattle.rv_program.specs.References.{has_local, local_line, line_of_place, label_line, by_definition, address_of_line, names_on, no_pairs, equ_value, symbol_through}
 use Rattle.rv_program.specs.internal.Rows.{in_row, ArePlaces, AreHighs}
@@ -66,44 +66,9 @@ local_line-is program i number Forward l = first_line-is (has_local program numb
 
 -- High halves that `%pcrel_lo` takes
 
-first_line-same : (test other : ℕ → Bool) (i count : ℕ) → ((j : ℕ) → i < j → j ≤ i + count → test j ≡ other j) → first_line test i count ≡ first_line other i count
-first_line-same test other i zero same = refl
-first_line-same test other i (suc count) same =
-    (λ j. if same (suc i) (omega arith) (omega arith) j then Some (suc i) else first_line test (suc i) count)
-    ∙ ap (λ o. if other (suc i) then Some (suc i) else o) (first_line-same test other (suc i) count (λ j first last. same j (omega (arith, first)) (omega (arith, last))))
-
-none-paired : (found : Option ℕ) → and_then (ok_or found NoPartner) (high_in []) ≡ Err NoPartner
-none-paired None = refl
-none-paired (Some line) = refl
-
-high-found : (base : ℕ) (program : Program) (highs : List Entry) (found : Option ℕ) → AreHighs base program highs → IsLine (length program) found → and_then (ok_or found NoPartner) (high_in highs) ≡ high_at_line base program found
-high-found base program highs None are within = refl
-high-found base program highs (Some line) are within =
-    are.each (line - 1) (omega (arith, within.0, within.1)) ∙ ap (λ i. high_at_line base program (Some i)) (let e : suc (line - 1) ≡ line = omega (arith, within.0) in e)
-
--- the one of the first line with bytes in the section, by the rows of a text
-paired-is : (base : ℕ) (program : Program) (places : List LinePlace) (highs : List Entry) (line : ℕ) → ArePlaces base program places → AreHighs base program highs → 1 ≤ line → line ≤ length program → paired_high_in places highs line ≡ paired_high_of base program line
-paired-is base program places highs line are held first last =
-    ap (λ found. and_then (ok_or found NoPartner) (high_in highs)) next
-    ∙ high-found base program highs (first_line (has_bytes_in program section) (line - 1) (length program - (line - 1))) held (first_line-is (has_bytes_in program section) (line - 1) (length program - (line - 1)) (length program) (omega (arith, first, last)))
-  where
-    section : ℕ
-    section = section_number (section_at program line)
-
-    at : (i : ℕ) → 1 ≤ i → i ≤ length program → get_or places (i - 1) no_place ≡ place_at base program i
-    at i first last = ap (λ row. get_or row (i - 1) no_place) are ∙ at-line (place_at base program) (length program) i no_place first last
-
-    count : length places ≡ length program
-    count = ap length are ∙ length-for_lines (place_at base program) (length program)
-
-    bytes : (i : ℕ) → line - 1 < i → i ≤ line - 1 + (length program - (line - 1)) → has_bytes_by places section i ≡ has_bytes_in program section i
-    bytes i from to =
-        ap (has_bytes_there section) (at i (omega (arith, from)) (omega (arith, to, first, last)))
-
-    next : next_with_bytes_in places line ≡ first_line (has_bytes_in program section) (line - 1) (length program - (line - 1))
-    next =
-        (λ j. first_line (has_bytes_by places (section_number (at line first last j).section)) (line - 1) (count j - (line - 1)))
-        ∙ first_line-same (has_bytes_by places section) (has_bytes_in program section) (line - 1) (length program - (line - 1)) bytes
+paired-is : (base : ℕ) (program : Program) (highs : List Entry) (line : ℕ) → AreHighs base program highs → 1 ≤ line → line ≤ length program → high_in highs line ≡ paired_high_of base program line
+paired-is base program highs line held first last =
+    held.each (line - 1) (omega (arith, first, last)) ∙ ap (paired_high_of base program) (let e : suc (line - 1) ≡ line = omega (arith, first) in e)
 
 -- Names
 
@@ -168,7 +133,7 @@ local_by-rows text line number direction are last =
 
 -- what names give by the rows of a text, where the `.equ`s of the first lines may be used and the row of their values has
 -- these
-names_by-rows : (text : TextRows) (row highs : List Entry) (k line usable : ℕ) (high : ℕ → Entry) → AreTextRows text → AreEquValuesIn text k row → usable ≤ k → line ≤ length (program_in text) → 1 ≤ line → ((l : ℕ) → 1 ≤ l → l ≤ length (program_in text) → paired_high_in text.places.now highs l ≡ high l) → names_by text row highs line usable (address_in_text text line) ≡ names_on text.base (program_in text) line (symbol_through text.base (program_in text) usable) high
+names_by-rows : (text : TextRows) (row highs : List Entry) (k line usable : ℕ) (high : ℕ → Entry) → AreTextRows text → AreEquValuesIn text k row → usable ≤ k → line ≤ length (program_in text) → 1 ≤ line → ((l : ℕ) → 1 ≤ l → l ≤ length (program_in text) → high_in highs l ≡ high l) → names_by text row highs line usable (address_in_text text line) ≡ names_on text.base (program_in text) line (symbol_through text.base (program_in text) usable) high
 names_by-rows text row highs k line usable high are values less last first same =
     let program : Program = program_in text in
     same_names _ _ _ _ _ _ _ _
@@ -178,16 +143,16 @@ names_by-rows text row highs k line usable high are values less last first same 
     (fun_ext (λ number. fun_ext (λ direction. local_by-rows text line number direction are last)))
     refl
     (fun_ext (λ label.
-    ap (λ found. and_then found (paired_high_in text.places.now highs)) (label_line-same text line label are last)
-    ∙ high-by (label_line program line label) (paired_high_in text.places.now highs) high
+    ap (λ found. and_then found (high_in highs)) (label_line-same text line label are last)
+    ∙ high-by (label_line program line label) (high_in highs) high
     (λ l e. let within = label_line-within program line label l last e in same l within.0 within.1)))
 
 -- where there are no pairs
 pub references_by-rows : (text : TextRows) (row : List Entry) (k line usable : ℕ) → AreTextRows text → AreEquValuesIn text k row → usable ≤ k → line ≤ length (program_in text) → 1 ≤ line → names_by text row [] line usable (address_in_text text line) ≡ names_on text.base (program_in text) line (symbol_through text.base (program_in text) usable) no_pairs
 references_by-rows text row k line usable are values less last first =
-    names_by-rows text row [] k line usable no_pairs are values less last first (λ l a b. none-paired (next_with_bytes_in text.places.now l))
+    names_by-rows text row [] k line usable no_pairs are values less last first (λ l a b. refl)
 
 pub names_by-pairs : (text : TextRows) (row highs : List Entry) (k line usable : ℕ) → AreTextRows text → AreEquValuesIn text k row → AreHighsIn text highs → usable ≤ k → line ≤ length (program_in text) → 1 ≤ line → names_by text row highs line usable (address_in_text text line) ≡ names_on text.base (program_in text) line (symbol_through text.base (program_in text) usable) (paired_high_of text.base (program_in text))
 names_by-pairs text row highs k line usable are values paired less last first =
     names_by-rows text row highs k line usable (paired_high_of text.base (program_in text)) are values less last first
-    (λ l a b. paired-is text.base (program_in text) text.places.now highs l are.placed paired a b)
+    (λ l a b. paired-is text.base (program_in text) highs l paired a b)

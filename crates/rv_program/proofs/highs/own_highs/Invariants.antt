@@ -3,7 +3,7 @@ use Rattle.rv_program.specs.internal.Before.{base_before, lines_before, edit_on}
 use Rattle.rv_program.specs.internal.TextRows.{program_in}
 use Rattle.rv_program.specs.internal.Work.{high_operands, work}
 use Rattle.rv_program.proofs.HighRows.{AreHighsThrough}
-use Rattle.rv_program.proofs.highs.highs.Given as goal
+use Rattle.rv_program.proofs.highs.own_highs.Given as goal
 
 -- the high halves on the lines so far
 abbrev pub invariant-loop-i : goal.invariant-loop-i
