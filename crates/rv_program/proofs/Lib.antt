@@ -10,6 +10,7 @@ pub mod HighRows
 pub mod LinePairLaws
 pub mod LinesWithout
 pub mod ListedLines
+pub mod LocalRows
 pub mod MovedLocals
 pub mod NumberedNames
 pub mod PairedHighs

@@ -29,6 +29,7 @@ mod line_sum;
 mod line_values;
 mod lines;
 pub mod lines_of_kind;
+mod local_row;
 mod locals;
 pub mod locals_after;
 mod moved_definitions;

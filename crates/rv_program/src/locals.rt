@@ -1,13 +1,14 @@
 //! The lines of local labels.
 
-ghost use Rattle.std.specs.Prelude.{◌≡◌, ◌≤◌, ◌<◌, ◌==◌, ℕ, [], nat_le, nat_lt, true, false, length, get_or, IsTrue, OnOk};
+ghost use Rattle.std.specs.Prelude.{◌≡◌, ◌≤◌, ◌<◌, ◌==◌, ℕ, [], nat_le, nat_lt, true, false, length, slice_get, IsTrue, IfOk, OnOk};
 ghost use Rattle.std.specs.List.{AllWithin};
 ghost use Rattle.std.specs.List.Sorted.{IsNonDecreasing};
 ghost use Rattle.std.specs.Option.{is_some};
 ghost use Rattle.rv_expr.specs.declared.tree.Direction.TheVariants.{Forward};
-ghost use Rattle.rv_program.specs.internal.Locals.{AreParted, AreRising, line_among, local_line_in, has_local_labels, with_last, lines_below};
+ghost use Rattle.rv_program.specs.internal.Locals.{AreParted, AreFrom, AreRising, ArePartedBefore, IsRowOf, is_row_of, lines_with, line_among, local_line_in, has_local_labels, with_last, lines_below};
 ghost use Rattle.rv_program.specs.References.{among_local};
 
+use crate::local_row::LocalRow;
 use rv_expr::Direction;
 use rv_stmt::{LabelName, LabelSlice};
 use rv_text::Sequence;
@@ -17,30 +18,44 @@ use std::marker::Model;
 // How far from a guess a count is looked for first.
 const REACH: usize = 4;
 
-/// The lines of the local labels, by their numbers: for each number the lines that have its label, rising.
+/// The lines of the local labels: a row for each number that has some, sorted by the numbers.
 #[derive(Drop)]
 pub struct Locals {
-    rows: Vec<Sequence<u32>>,
+    rows: Vec<LocalRow>,
 }
 
 impl Model for Locals {
-    ghost use Rattle.std.specs.Prelude.{ℕ, List};
-    ghost use Rattle.rv_program.specs.internal.Locals.{AreRising};
+    ghost use Rattle.std.specs.Prelude.{List};
+    ghost use Rattle.rv_program.specs.declared.local_row.LocalRow.{LocalRow};
+    ghost use Rattle.rv_program.specs.internal.Locals.{AreLocalRows};
 
-    ghost Value = { List (List ℕ) };
+    ghost Value = { List LocalRow };
 
     ghost view = { λ l. l.rows.items };
 
-    ghost invariant = { λ l. AreRising l.rows.items };
+    ghost invariant = { λ l. AreLocalRows l.rows.items };
 }
 
-/// The lines that rows of local labels have for a number: none where it has no row.
-pub fn lines_of(rows: &[Sequence<u32>], number: usize) -> &[u32]
-    ensures { result.now ≡ get_or rows.now number [] }
+// How many of some rows are of lower numbers than this one.
+fn rows_below(rows: &[LocalRow], number: u16) -> usize
+    requires { AreFrom 0 rows.now }
+    ensures bound { result ≤ length rows.now }
+    ensures parted { ArePartedBefore number rows.now result }
 {
-    match rows.get(number) {
-        Some(row) => row.as_slice(),
-        None => &[],
+    rows.partition_point(
+        |row: &LocalRow| -> bool
+            ensures { result ≡ nat_lt row.now.number number }
+        { row.number < number },
+    )
+}
+
+// Whether there is a row at a place, and it is of this number.
+fn is_row_of(rows: &[LocalRow], place: usize, number: u16) -> bool
+    ensures { result ≡ is_row_of number (slice_get rows.now place) }
+{
+    match rows.get(place) {
+        Some(row) => row.number == number,
+        None => false,
     }
 }
 
@@ -160,26 +175,34 @@ impl Locals {
     }
 
     /// Those of these rows.
-    pub fn of_rows(rows: Vec<Sequence<u32>>) -> Self
-        requires { AreRising rows.items }
+    pub fn of_rows(rows: Vec<LocalRow>) -> Self
+        requires sorted { AreFrom 0 rows.items }
+        requires rising { AreRising rows.items }
         ensures { result ≡ rows.items }
     {
         Locals { rows }
     }
 
     /// The rows.
-    pub fn rows(&self) -> &[Sequence<u32>]
-        ensures { result.now ≡ self.now }
+    pub fn rows(&self) -> &[LocalRow]
+        ensures rows { result.now ≡ self.now }
+        ensures sorted { AreFrom 0 result.now }
     {
         self.rows.as_slice()
     }
 
     // The lines that have the local label of a number.
     fn row(&self, number: u16) -> &[u32]
-        ensures lines { result.now ≡ get_or self.now number [] }
+        ensures lines { result.now ≡ lines_with self.now number }
         ensures rising { IsNonDecreasing result.now }
     {
-        lines_of(self.rows.as_slice(), usize::from(number))
+        let rows = self.rows.as_slice();
+        let place = rows_below(rows, number);
+        if is_row_of(rows, place, number) {
+            rows[place].lines.as_slice()
+        } else {
+            &[]
+        }
     }
 
     /// How many lines up to this one have the local label of a number: looked for first where it would be if they stood evenly. A guess
@@ -235,27 +258,28 @@ impl Locals {
         first
     }
 
-    // Makes the rows longer, so that a number has one.
-    fn lengthen(&mut self, alloc: Global, number: usize) -> Result<(), AllocError>
-        ensures long { OnOk result (number < length self.new) }
-        ensures same { (n : ℕ) → get_or self.new n [] ≡ get_or self.old n [] }
+    // Makes a row for a number that has none. Its place, or that of the row that stood there.
+    fn make_row(&mut self, alloc: Global, number: u16) -> Result<usize, AllocError>
+        ensures row { IfOk result (λ place. IsRowOf number self.new place) }
+        ensures same { (n : ℕ) → lines_with self.new n ≡ lines_with self.old n }
     {
-        'rows: while self.rows.len() <= number {
-            self.rows.push(Sequence::new(alloc))?;
+        let place = rows_below(self.rows.as_slice(), number);
+        if !is_row_of(self.rows.as_slice(), place, number) {
+            let lines = Sequence::new(alloc);
+            self.rows.insert(place, LocalRow { number, lines })?;
         }
-        Ok(())
+        Ok(place)
     }
 
     // Makes a line the last one that has the local label of a number. The lines before it stay, also where there is no memory for that.
     fn put_last(&mut self, alloc: Global, number: u16, line: u32) -> Result<(), AllocError>
-        ensures ok { OnOk result ((n : ℕ) → get_or self.new n [] ≡ with_last line (n == number) (get_or self.old n [])) }
-        ensures below { (n : ℕ) → lines_below line (get_or self.new n []) ≡ lines_below line (get_or self.old n []) }
+        ensures ok { OnOk result ((n : ℕ) → lines_with self.new n ≡ with_last line (n == number) (lines_with self.old n)) }
+        ensures below { (n : ℕ) → lines_below line (lines_with self.new n) ≡ lines_below line (lines_with self.old n) }
     {
-        let number = usize::from(number);
-        self.lengthen(alloc, number)?;
-        let row = &mut self.rows[number];
-        keep_below(row, line);
-        row.push(line)?;
+        let place = self.make_row(alloc, number)?;
+        let lines = &mut self.rows[place].lines;
+        keep_below(lines, line);
+        lines.push(line)?;
         Ok(())
     }
 
@@ -270,8 +294,8 @@ impl Locals {
         mut labels: LabelSlice<'_>,
         line: u32,
     ) -> Result<(), AllocError>
-        ensures ok { OnOk result ((number : ℕ) → get_or self.new number [] ≡ with_last line (among_local number labels.entry) (get_or self.old number [])) }
-        ensures below { (number : ℕ) → lines_below line (get_or self.new number []) ≡ lines_below line (get_or self.old number []) }
+        ensures ok { OnOk result ((number : ℕ) → lines_with self.new number ≡ with_last line (among_local number labels.entry) (lines_with self.old number)) }
+        ensures below { (number : ℕ) → lines_below line (lines_with self.new number) ≡ lines_below line (lines_with self.old number) }
     {
         'labels: while let Some((label, rest)) = labels.split_first() {
             if let LabelName::Local(number) = label.name {
@@ -284,10 +308,10 @@ impl Locals {
 
     /// Takes out the lines from this one on.
     pub fn take_out(&mut self, line: u32)
-        ensures { (number : ℕ) → get_or self.new number [] ≡ lines_below line (get_or self.old number []) }
+        ensures { (number : ℕ) → lines_with self.new number ≡ lines_below line (lines_with self.old number) }
     {
-        for number in 0..self.rows.len() {
-            keep_below(&mut self.rows[number], line);
+        for place in 0..self.rows.len() {
+            keep_below(&mut self.rows[place].lines, line);
         }
     }
 }

@@ -1,13 +1,11 @@
 //! The local labels of a text after an edit, by those before it.
 
-ghost use Rattle.std.specs.Prelude.{◌≡◌, ◌≤◌, ◌^◌, ◌++◌, ℕ, [], None, length, get_or, IfOk, OnOk};
-ghost use Rattle.rv_stmt.specs.LentLabels.{name_lent};
+ghost use Rattle.std.specs.Prelude.{◌≡◌, ◌≤◌, ◌==◌, ◌+◌, ◌++◌, ℕ, None, length, if◌then◌else◌, IfOk, OnOk};
 ghost use Rattle.rv_program.specs.internal.Before.{IsBefore, lines_before, edit_on};
 ghost use Rattle.rv_program.specs.Edits.{edit_of};
-ghost use Rattle.rv_program.specs.internal.MovedLocals.{labels_put_in, line_moved, lines_moved, number_behind, numbers_end, row_after};
-ghost use Rattle.rv_program.specs.internal.Locals.{lines_below};
+ghost use Rattle.rv_program.specs.internal.MovedLocals.{labels_put_in, line_moved, lines_moved, first_number, rows_behind, row_after};
+ghost use Rattle.rv_program.specs.internal.Locals.{AreFrom, AreWithin, lines_with, lines_below};
 ghost use Rattle.rv_program.specs.Program.{program_of};
-ghost use Rattle.rv_program.specs.References.{among_local, is_local};
 ghost use Rattle.rv_program.specs.internal.Rows.{AreLocals};
 ghost use Rattle.rv_program.specs.Text.{refusal_of, lines_after};
 
@@ -16,8 +14,9 @@ use crate::edit::LineEdit;
 use crate::limits::MAX_LINES;
 use crate::line::Line;
 use crate::lines::Lines;
-use crate::locals::{Locals, lines_of};
-use rv_stmt::{LabelName, LabelSlice};
+use crate::local_row::LocalRow;
+use crate::locals::Locals;
+use rv_stmt::LabelSlice;
 use rv_text::Sequence;
 use std::alloc::{AllocError, Global};
 
@@ -33,54 +32,6 @@ fn labels_put_in<'a>(old: &Lines<'_>, lines: &'a [Line], edit: &LineEdit<'_>) ->
         }
         LineEdit::Delete(_) => LabelSlice::empty(),
     }
-}
-
-// Whether a label is the local one of a number.
-fn is_local(name: LabelName<'_>, number: usize) -> bool
-    ensures { result ≡ is_local number (name_lent name.entry) }
-{
-    match name {
-        LabelName::Local(local) => usize::from(local) == number,
-        LabelName::Symbol(_) => false,
-    }
-}
-
-// Whether one of some labels is.
-fn is_among(labels: &LabelSlice<'_>, number: usize) -> bool
-    ensures { result ≡ among_local number labels.now }
-{
-    let mut rest = labels.copy();
-    'labels: while let Some((label, later)) = rest.split_first() {
-        if is_local(label.name, number) {
-            return true;
-        }
-        rest = later;
-    }
-    false
-}
-
-// The number behind that of a local label.
-fn number_behind(name: LabelName<'_>) -> usize
-    ensures value { result ≡ number_behind (name_lent name.entry) }
-    ensures few { result ≤ 2 ^ 16 }
-{
-    match name {
-        LabelName::Local(number) => usize::from(number) + 1,
-        LabelName::Symbol(_) => 0,
-    }
-}
-
-// The least number behind those of some labels.
-fn numbers_end(labels: &LabelSlice<'_>) -> usize
-    ensures { result ≡ numbers_end labels.now }
-{
-    let mut end = 0;
-    let mut rest = labels.copy();
-    'labels: while let Some((label, later)) = rest.split_first() {
-        end = number_behind(label.name).max(end);
-        rest = later;
-    }
-    end
 }
 
 // Adds the lines before a place.
@@ -127,42 +78,92 @@ fn push_moved(
     Ok(())
 }
 
-// The lines of a label after an edit, by those before it. The line that the edit puts in has the label or not.
+// Adds these lines.
+fn push_lines(row: &mut Sequence<u32>, mut lines: &[u32]) -> Result<(), AllocError>
+    ensures { OnOk result (row.new ≡ row.old ++ lines.entry.now) }
+{
+    'lines: while let [line, later @ ..] = lines {
+        row.push(*line)?;
+        lines = later;
+    }
+    Ok(())
+}
+
+// The lines of a label after an edit, by those before it and those that the edit puts in.
 fn row_after(
     alloc: Global,
     edit: &LineEdit<'_>,
+    put_in: &[u32],
     lines: &[u32],
-    labelled: bool,
 ) -> Result<Sequence<u32>, AllocError>
-    ensures { IfOk result (λ row. row ≡ row_after (edit_of edit.now) labelled lines.now) }
+    ensures { IfOk result (λ row. row ≡ row_after (edit_of edit.now) put_in.now lines.now) }
 {
     let mut row = Sequence::new(alloc);
-    if lines.is_empty() && !labelled {
-        return Ok(row);
-    }
     push_below(&mut row, lines, edit.place())?;
-    if labelled {
-        row.push(edit.place())?;
-    }
+    push_lines(&mut row, put_in)?;
     push_moved(&mut row, lines, edit)?;
     Ok(row)
 }
 
-// The lines of all numbers after an edit, by those before it. The line that the edit puts in has these labels.
+// The lesser of the numbers of two first rows.
+fn first_number(rows: &[LocalRow], others: &[LocalRow]) -> Option<u16>
+    ensures { result ≡ first_number rows.now others.now }
+{
+    match (rows.first(), others.first()) {
+        (Some(row), Some(other)) => Some(row.number.min(other.number)),
+        (Some(row), None) => Some(row.number),
+        (None, Some(other)) => Some(other.number),
+        (None, None) => None,
+    }
+}
+
+// The lines of the first of some rows and the rows behind it, where it is of this number; no lines and all rows, where all are of
+// greater ones.
+fn split_row(rows: &[LocalRow], number: u16) -> (&[u32], &[LocalRow])
+    requires { AreFrom number rows.now }
+    ensures lines { result.0.now ≡ lines_with rows.now number }
+    ensures behind { result.1.now ≡ rows_behind number rows.now }
+{
+    let [row, later @ ..] = rows else {
+        return (&[], rows);
+    };
+    if row.number != number {
+        return (&[], rows);
+    }
+    (row.lines.as_slice(), later)
+}
+
+// Adds the row of a number behind those of lesser ones, if it has lines.
+fn push_row(rows: &mut Vec<LocalRow>, number: u16, lines: Sequence<u32>) -> Result<(), AllocError>
+    requires { AreWithin 0 number rows.old.items }
+    ensures sorted { OnOk result (AreWithin 0 (number + 1) rows.new.items) }
+    ensures lines { OnOk result ((n : ℕ) → lines_with rows.new.items n ≡ (if number == n then lines else lines_with rows.old.items n)) }
+{
+    if !lines.as_slice().is_empty() {
+        rows.push(LocalRow { number, lines })?;
+    }
+    Ok(())
+}
+
+// The rows after an edit, by those before it and those of the line that it puts in.
 fn rows_after(
     alloc: Global,
     edit: &LineEdit<'_>,
-    rows: &[Sequence<u32>],
-    labels: &LabelSlice<'_>,
-) -> Result<Vec<Sequence<u32>>, AllocError>
-    ensures { IfOk result (λ after. (number : ℕ) → get_or after.items number [] ≡ row_after (edit_of edit.now) (among_local number labels.now) (get_or rows.now number [])) }
+    mut put_in: &[LocalRow],
+    mut rows: &[LocalRow],
+) -> Result<Vec<LocalRow>, AllocError>
+    requires put_in { AreFrom 0 put_in.now }
+    requires rows { AreFrom 0 rows.now }
+    ensures lines { IfOk result (λ after. (number : ℕ) → lines_with after.items number ≡ row_after (edit_of edit.now) (lines_with put_in.entry.now number) (lines_with rows.entry.now number)) }
+    ensures sorted { IfOk result (λ after. AreFrom 0 after.items) }
 {
-    let end = rows.len().max(numbers_end(labels));
-    let mut after = Vec::with_capacity(alloc, end)?;
-    for number in 0..end {
-        let labelled = is_among(labels, number);
-        let row = row_after(alloc, edit, lines_of(rows, number), labelled)?;
-        after.push_reserved(row);
+    let mut after = Vec::with_capacity(alloc, rows.len() + put_in.len())?;
+    'numbers: while let Some(number) = first_number(rows, put_in) {
+        let (new, later_new) = split_row(put_in, number);
+        let (lines, later_rows) = split_row(rows, number);
+        push_row(&mut after, number, row_after(alloc, edit, new, lines)?)?;
+        put_in = later_new;
+        rows = later_rows;
     }
     Ok(after)
 }
@@ -185,6 +186,8 @@ pub fn locals_after(
 {
     let text = &before.symbols.text;
     let labels = labels_put_in(text.lines, lines, &before.edit);
-    let rows = rows_after(alloc, &before.edit, text.locals.rows(), &labels)?;
+    let mut put_in = Locals::new(alloc);
+    put_in.put_line(alloc, labels, before.edit.place())?;
+    let rows = rows_after(alloc, &before.edit, put_in.rows(), text.locals.rows())?;
     Ok(Locals::of_rows(rows))
 }

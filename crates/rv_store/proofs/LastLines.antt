@@ -24,6 +24,7 @@ use Rattle.rv_program.specs.References.{among_local, has_local, equ_value}
 use Rattle.rv_program.specs.Text.{Edit, Delete, lines_after}
 use Rattle.rv_program.specs.internal.Items.{AreItems}
 use Rattle.rv_program.specs.internal.Rows.{AreConstants, AreEquValues, AreShapes, AreHighs}
+use Rattle.rv_program.specs.internal.Locals.{lines_with}
 use Rattle.rv_program.specs.internal.LinesAhead.{all_ahead, none_ahead}
 use Rattle.rv_program.specs.lemmas.LocalLines.{statement-of-line}
 use Rattle.rv_program.specs.lemmas.Programs.{at-for_lines, length-for_lines, length-program}
@@ -235,7 +236,7 @@ module _ {base : ℕ} {lines : List (List ℕ)} {line : List ℕ} {there : Still
 
   -- the rows by lines lose their last values
   pub survey-without : (names : List (List ℕ)) (old new : Survey) → IsSurvey base whole names old → AreSymbols base without (length lines) names new → new.shapes.items ≡ take (length lines) old.shapes.items → new.ends ≡ ends_of (shapes_of without)
-      → new.places.items ≡ take (length lines) old.places.items → ((number : ℕ) → get_or new.locals number [] ≡ get_or old.locals number []) → ((number : ℕ) → among_local number (statement_of line).labels ≡ false) → new.highs.items ≡ take (length lines) old.highs.items → IsSurvey base without names new
+      → new.places.items ≡ take (length lines) old.places.items → ((number : ℕ) → lines_with new.locals number ≡ lines_with old.locals number) → ((number : ℕ) → among_local number (statement_of line).labels ≡ false) → new.highs.items ≡ take (length lines) old.highs.items → IsSurvey base without names new
   survey-without names old new are symbols shapes ends places locals local highs =
       let count : length lines ≡ length without = sym (length-program lines) in
       let kept : AreShapes without new.shapes.items = shapes ∙ survey-row (shape_at without) (shape_at whole) old.shapes.items (shape-still still) are.shapes in

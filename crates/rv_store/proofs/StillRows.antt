@@ -15,7 +15,7 @@ use Rattle.rv_store.specs.internal.Ends.{ends_of}
 use Rattle.rv_program.specs.Layout.{shape_at, place_at}
 use Rattle.rv_program.specs.Program.{Program, program_of, no_statement, statement_at, lines_that}
 use Rattle.rv_program.specs.References.{among_local, has_local}
-use Rattle.rv_program.specs.internal.Locals.{with_last, lines_below}
+use Rattle.rv_program.specs.internal.Locals.{lines_with, with_last, lines_below}
 use Rattle.rv_program.specs.internal.Rows.{AreDefinitions, AreConstants, AreEquValues, AreShapes, ArePlaces, AreLocals, AreHighs}
 use Rattle.rv_program.specs.internal.Still.{set_or_push}
 use Rattle.rv_store.specs.internal.Still.{Touched, IsStill}
@@ -51,7 +51,7 @@ with-line line false xs before = sym (append-nil xs)
 
 module _ (place : ℕ) (s : Survey) (located : AreLocals (program_of s.lines.items) (length (program_of s.lines.items)) s.locals) where
   -- all stand before it
-  pub locals-before : length s.lines.items ≤ place → (number : ℕ) → lines_below (suc place) (get_or s.locals number []) ≡ get_or s.locals number []
+  pub locals-before : length s.lines.items ≤ place → (number : ℕ) → lines_below (suc place) (lines_with s.locals number) ≡ lines_with s.locals number
   locals-before behind number =
       ap (lines_below (suc place)) (located number)
       ∙ first-below (has_local (program_of s.lines.items) number) (suc place) (length (program_of s.lines.items)) (omega (arith, behind, length-program s.lines.items))
@@ -60,13 +60,13 @@ module _ (place : ℕ) (s : Survey) (located : AreLocals (program_of s.lines.ite
   pub has-last-none : MayHaveLast place s s
   has-last-none = record { within = λ l number. refl; behind = locals-before }
 
-  pub has-last : (line : List ℕ) (new : Survey) → ((number : ℕ) → get_or new.locals number [] ≡ with_last (suc place) (is_behind_with s place line number) (get_or s.locals number [])) → MayHaveLast place s new
+  pub has-last : (line : List ℕ) (new : Survey) → ((number : ℕ) → lines_with new.locals number ≡ with_last (suc place) (is_behind_with s place line number) (lines_with s.locals number)) → MayHaveLast place s new
   has-last line new put = record {
     within = λ l number.
         put number
-        ∙ ap (λ b. with_last (suc place) b (get_or s.locals number []))
+        ∙ ap (λ b. with_last (suc place) b (lines_with s.locals number))
         (and_left (nat_lt (length s.lines.items) (suc place)) (among_local number (statement_of line).labels) (le-ltb (length s.lines.items) (suc place) (omega (arith, l))));
-    behind = λ l number. ap (lines_below (suc place)) (put number) ∙ below-last (suc place) (is_behind_with s place line number) (get_or s.locals number []) ∙ locals-before l number;
+    behind = λ l number. ap (lines_below (suc place)) (put number) ∙ below-last (suc place) (is_behind_with s place line number) (lines_with s.locals number) ∙ locals-before l number;
   }
 
 pub partly : (place : ℕ) (line : List ℕ) (given : Still) (old new : Survey) → AreLocals (program_of old.lines.items) (length (program_of old.lines.items)) old.locals → AreLinesPut place line given old new → ArePartlyPut place old new

@@ -1,7 +1,7 @@
 //! Lines with which other lines have to do by their names and their local labels alone: in the place of another one or behind the last one,
 //! only that line and those that use one of these are made.
 
-ghost use Rattle.std.specs.Prelude.{◌≡◌, ◌≤◌, ◌+◌, ◌-◌, ◌^◌, ℕ, suc, [], None, true, false, length, get_or, IfOk, IfErr, OnOk, OnErr};
+ghost use Rattle.std.specs.Prelude.{◌≡◌, ◌≤◌, ◌+◌, ◌-◌, ◌^◌, ℕ, suc, None, true, false, length, IfOk, IfErr, OnOk, OnErr};
 ghost use Rattle.rv_program.specs.declared.limits.TheConstants.{MAX_LINES};
 ghost use Rattle.rv_store.specs.internal.Assembled.{AreCountedAfter};
 ghost use Rattle.rv_store.specs.internal.Appended.{AreSameLines, AreSameSymbols, AreSymbols};
@@ -11,7 +11,7 @@ ghost use Rattle.rv_program.specs.Edits.{edit_of, place_of_edit};
 ghost use Rattle.rv_program.specs.internal.Items.{AreItems};
 ghost use Rattle.rv_program.specs.Program.{program_of};
 ghost use Rattle.rv_program.specs.Text.{refusal_of, lines_after};
-ghost use Rattle.rv_program.specs.internal.Locals.{with_last, lines_below};
+ghost use Rattle.rv_program.specs.internal.Locals.{lines_with, with_last, lines_below};
 ghost use Rattle.rv_program.specs.internal.Rows.{AreLocals};
 ghost use Rattle.rv_program.specs.internal.Still.{set_or_push};
 ghost use Rattle.rv_store.specs.internal.Column.{taken_back};
@@ -106,7 +106,7 @@ impl Survey {
     fn put_locals(&mut self, alloc: Global, place: usize, line: &Line) -> Result<(), AllocError>
         requires few { place ≤ MAX_LINES }
         requires locals { AreLocals (program_of self.old.lines.items) (length (program_of self.old.lines.items)) self.old.locals }
-        ensures ok { OnOk result ((number : ℕ) → get_or self.new.locals number [] ≡ with_last (suc place) (is_behind_with self.old place line.now number) (get_or self.old.locals number [])) }
+        ensures ok { OnOk result ((number : ℕ) → lines_with self.new.locals number ≡ with_last (suc place) (is_behind_with self.old place line.now number) (lines_with self.old.locals number)) }
         ensures locals { MayHaveLast place self.old self.new }
         ensures others { StayButLocals self.old self.new }
         ensures symbols { AreSameSymbols self.old self.new }
@@ -121,8 +121,8 @@ impl Survey {
     // Takes the local labels of a line back, where it was put behind the others.
     fn take_locals(&mut self, place: usize, behind: bool)
         requires { place ≤ MAX_LINES }
-        ensures behind { behind ≡ true → (number : ℕ) → get_or self.new.locals number [] ≡ lines_below (suc place) (get_or self.old.locals number []) }
-        ensures within { behind ≡ false → (number : ℕ) → get_or self.new.locals number [] ≡ get_or self.old.locals number [] }
+        ensures behind { behind ≡ true → (number : ℕ) → lines_with self.new.locals number ≡ lines_below (suc place) (lines_with self.old.locals number) }
+        ensures within { behind ≡ false → (number : ℕ) → lines_with self.new.locals number ≡ lines_with self.old.locals number }
         ensures others { StayButLocals self.old self.new }
         ensures symbols { AreSameSymbols self.old self.new }
     {

@@ -1,12 +1,18 @@
 -- How the row of local labels is asked for one. (docs/LANGUAGE.md, Local labels)
-use Rattle.std.specs.Prelude.{◌≡◌, ℕ, nat_le, nat_lt, Bool, true, false, List, [], ◌∷◌, ◌++◌, get_or, Option, Some, None, if◌then◌else◌}
+use Rattle.std.specs.Prelude.{◌≡◌, ℕ, ◌+◌, ◌<◌, ◌≤◌, ◌==◌, nat_le, nat_lt, Bool, true, false, List, [], ◌∷◌, ◌++◌, length, get_or, Option, Some, None, if◌then◌else◌}
 use Rattle.std.specs.List.{filter, list_any}
 use Rattle.std.specs.List.Sorted.{IsNonDecreasing, IsPartitionPoint}
 use Rattle.std.specs.Option.{option_or}
 use Rattle.rv_expr.specs.declared.tree.Direction.{Direction}
 use Rattle.rv_expr.specs.declared.tree.Direction.TheVariants.{Back, Forward}
+use Rattle.rv_program.specs.declared.local_row.LocalRow.{LocalRow}
 use Rattle.rv_stmt.specs.LabelNames.{Label, LabelName}
 use Rattle.rv_stmt.specs.LabelNames as label
+
+-- the lines of a number: those of its row, or none
+abbrev pub lines_with : List LocalRow → (number : ℕ) → List ℕ
+lines_with [] number = []
+lines_with (row ∷ rows) number = if row.number == number then row.lines else lines_with rows number
 
 -- so many of some lines, from the first on, are this one or earlier ones, and the others are not
 abbrev pub AreParted : (line : ℕ) → List ℕ → (count : ℕ) → Type 0
@@ -28,12 +34,42 @@ line_among lines line Back = last_up_to line lines
 line_among lines line Forward = first_above line lines
 
 -- the line of a local label as `line` names it, where the rows hold the lines of each number
-abbrev pub local_line_in : List (List ℕ) → (line number : ℕ) → Direction → Option ℕ
-local_line_in rows line number direction = line_among (get_or rows number []) line direction
+abbrev pub local_line_in : List LocalRow → (line number : ℕ) → Direction → Option ℕ
+local_line_in rows line number direction = line_among (lines_with rows number) line direction
+
+-- The order of rows
+
+-- the numbers of rows rise, from this one on
+abbrev pub AreFrom : (first : ℕ) → List LocalRow → Type 0
+AreFrom first [] = Unit {0}
+AreFrom first (row ∷ rows) = (first ≤ row.number) × AreFrom (row.number + 1) rows
+
+-- the same, and all are before `end`
+abbrev pub AreWithin : (first end : ℕ) → List LocalRow → Type 0
+AreWithin first end [] = first ≤ end
+AreWithin first end (row ∷ rows) = (first ≤ row.number) × AreWithin (row.number + 1) end rows
 
 -- the lines of each number rise
-abbrev pub AreRising : List (List ℕ) → Type 0
-AreRising rows = (number : ℕ) → IsNonDecreasing (get_or rows number [])
+abbrev pub AreRising : List LocalRow → Type 0
+AreRising rows = (number : ℕ) → IsNonDecreasing (lines_with rows number)
+
+pub record AreLocalRows (rows : List LocalRow) : Type 0 where
+  pub sorted : AreFrom 0 rows
+  pub rising : AreRising rows
+
+-- so many rows, from the first on, are of numbers before this one, and the others are not
+abbrev pub ArePartedBefore : (number : ℕ) → List LocalRow → (count : ℕ) → Type 0
+ArePartedBefore number rows count = IsPartitionPoint (λ r. nat_lt r.number number ≡ true) (λ r. nat_lt r.number number ≡ false) rows count
+
+-- the row, if there is one, is that of a number
+abbrev pub is_row_of : (number : ℕ) → Option LocalRow → Bool
+is_row_of number None = false
+is_row_of number (Some row) = row.number == number
+
+-- that at a place is
+pub record IsRowOf (number : ℕ) (rows : List LocalRow) (place : ℕ) : Type 0 where
+  pub within : place < length rows
+  pub same : (other : LocalRow) → (get_or rows place other).number ≡ number
 
 -- those of some lines that are before this one
 abbrev pub lines_below : (line : ℕ) → List ℕ → List ℕ

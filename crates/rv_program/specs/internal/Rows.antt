@@ -7,8 +7,10 @@ use Rattle.rv_fix.specs.Values.{Entry}
 use Rattle.rv_list.specs.declared.view.DefinitionPlace.{DefinitionPlace}
 use Rattle.rv_list.specs.declared.view.DefinitionPlace.TheVariants.{Nowhere}
 use Rattle.rv_list.specs.declared.view.LinePlace.{LinePlace}
+use Rattle.rv_program.specs.declared.local_row.LocalRow.{LocalRow}
 use Rattle.rv_program.specs.Constants.{constant_through}
 use Rattle.rv_program.specs.Definitions.{definition_of}
+use Rattle.rv_program.specs.internal.Locals.{lines_with}
 use Rattle.rv_program.specs.Layout.{shapes_of, size_at, place_at}
 use Rattle.rv_program.specs.Pairs.{high_at, paired_high_of}
 use Rattle.rv_program.specs.Program.{Program, for_lines, lines_that}
@@ -80,5 +82,5 @@ pub record AreHighs (base : ℕ) (program : Program) (row : List Entry) : Type 0
   pub within : length row ≤ length program
 
 -- the lines of local labels, by their numbers: those of the first k lines
-abbrev pub AreLocals : Program → (k : ℕ) → List (List ℕ) → Type 0
-AreLocals program k rows = (number : ℕ) → get_or rows number [] ≡ lines_that (has_local program number) k
+abbrev pub AreLocals : Program → (k : ℕ) → List LocalRow → Type 0
+AreLocals program k rows = (number : ℕ) → lines_with rows number ≡ lines_that (has_local program number) k

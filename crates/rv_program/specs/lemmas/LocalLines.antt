@@ -13,6 +13,7 @@ use Rattle.rv_expr.specs.declared.tree.Direction.TheVariants.{Back, Forward}
 use Rattle.rv_stmt.specs.LabelNames.{Label, LabelName}
 use Rattle.rv_stmt.specs.LabelNames as label
 use Rattle.rv_stmt.specs.Statement.{statement_of}
+use Rattle.rv_program.specs.declared.local_row.LocalRow.{LocalRow}
 use Rattle.rv_program.specs.internal.Locals.{AreParted, last_up_to, first_above, local_line_in, with_last, AreRising, is_local_label, has_local_labels, lines_below}
 use Rattle.rv_program.specs.Program.{Program, program_of, lines_that, last_line, first_line, no_statement, statement_at}
 use Rattle.rv_program.specs.References.{has_local, among_local, is_local, local_line}
@@ -260,7 +261,7 @@ first-of-lines test line (suc count) (suc n) e =
     ∙ sym (first_line-more test line count)
 
 -- the row of local labels tells the line of a label as each line of the text names it
-pub local_line-row : (program : Program) (rows : List (List ℕ)) (line number : ℕ) (direction : Direction) → AreLocals program (length program) rows → line ≤ length program → local_line_in rows line number direction ≡ local_line program line number direction
+pub local_line-row : (program : Program) (rows : List LocalRow) (line number : ℕ) (direction : Direction) → AreLocals program (length program) rows → line ≤ length program → local_line_in rows line number direction ≡ local_line program line number direction
 local_line-row program rows line number Back are l =
     ap (last_up_to line) (are number) ∙ last-of-lines (has_local program number) (length program) line l
 local_line-row program rows line number Forward are l =
@@ -291,5 +292,5 @@ lines-rising test (suc n) = at (test (suc n)) (lines-rising test n)
         subst (λ ls. IsNonDecreasing (ls ++ suc n ∷ [])) all (rising-pushed (suc n) (lines_that test n) (subst IsNonDecreasing (sym all) up))
     at false up = subst IsNonDecreasing (sym (append-nil (lines_that test n))) up
 
-pub rows-AreRising : (program : Program) (k : ℕ) (rows : List (List ℕ)) → AreLocals program k rows → AreRising rows
+pub rows-AreRising : (program : Program) (k : ℕ) (rows : List LocalRow) → AreLocals program k rows → AreRising rows
 rows-AreRising program k rows are number = subst IsNonDecreasing (sym (are number)) (lines-rising (has_local program number) k)

@@ -1,6 +1,6 @@
 -- A line at the end of a text. Other lines have to do with it by the names that it defines and its local labels alone, where no section
 -- moves by it.
-use Rattle.std.specs.Prelude.{◌≡◌, ℕ, suc, ◌<◌, ◌≤◌, Bool, true, false, not, ◌&&◌, nat_lt, List, [], ◌∷◌, ◌++◌, length, get_or, None}
+use Rattle.std.specs.Prelude.{◌≡◌, ℕ, suc, ◌<◌, ◌≤◌, Bool, true, false, not, ◌&&◌, nat_lt, List, [], ◌∷◌, ◌++◌, length, None}
 use Rattle.std.specs.Option.{is_some}
 use Rattle.rv_expr.specs.declared.tree.Direction.TheVariants.{Forward}
 use Rattle.rv_stmt.specs.declared.statement.Stmt.{Stmt}
@@ -18,6 +18,7 @@ use Rattle.rv_program.specs.Layout.{shapes_of}
 use Rattle.rv_program.specs.Pairs.{pcrel_high_of}
 use Rattle.rv_program.specs.Program.{Program, program_of, body_at}
 use Rattle.rv_program.specs.References.{among_local, local_line, equ_value}
+use Rattle.rv_program.specs.internal.Locals.{lines_with}
 use Rattle.rv_program.specs.internal.Rows.{in_row, AreDefinitions, AreConstants, AreEquValues, ArePlaces, AreLocals}
 use Rattle.rv_store.specs.internal.Still.{Touched, is_settled, uses_any}
 
@@ -79,7 +80,7 @@ pub record AreSameLines (old new : Survey) : Type 0 where
   pub shapes : new.shapes.items ≡ old.shapes.items
   pub ends : new.ends ≡ old.ends
   pub places : new.places.items ≡ old.places.items
-  pub locals : (number : ℕ) → get_or new.locals number [] ≡ get_or old.locals number []
+  pub locals : (number : ℕ) → lines_with new.locals number ≡ lines_with old.locals number
   pub highs : new.highs.items ≡ old.highs.items
 
 -- the rows by names hold where a text defines them, and the constants and the values of the `.equ`s of its first k lines, and no row is

@@ -12,7 +12,7 @@ use Rattle.rv_store.specs.internal.Still.{Touched, is_put_or_uses, IsStill}
 use Rattle.rv_program.specs.Layout.{shape_at, shapes_of, place_at}
 use Rattle.rv_program.specs.Program.{program_of, lines_that}
 use Rattle.rv_program.specs.References.{among_local}
-use Rattle.rv_program.specs.internal.Locals.{with_last, lines_below}
+use Rattle.rv_program.specs.internal.Locals.{lines_with, with_last, lines_below}
 use Rattle.rv_program.specs.internal.Still.{set_or_push}
 
 -- What line k of a text is, if other lines have to do with it by its names and its local labels alone, and which lines of the text before it
@@ -51,7 +51,7 @@ pub record AreLinesPut (place : ℕ) (line : List ℕ) (given : Still) (old new 
   pub shapes : new.shapes.items ≡ set_or_push old.shapes.items place given.shape
   pub ends : new.ends ≡ given.ends
   pub places : new.places.items ≡ set_or_push old.places.items place given.place
-  pub locals : (number : ℕ) → get_or new.locals number [] ≡ with_last (suc place) (is_behind_with old place line number) (get_or old.locals number [])
+  pub locals : (number : ℕ) → lines_with new.locals number ≡ with_last (suc place) (is_behind_with old place line number) (lines_with old.locals number)
   pub highs : new.highs.items ≡ old.highs.items
 
 -- a row is another one, or that with something in place
@@ -67,8 +67,8 @@ pub record StayButLocals (old new : Survey) : Type 0 where
 
 -- the rows of local labels may have a line behind the lines
 pub record MayHaveLast (place : ℕ) (old new : Survey) : Type 0 where
-  pub within : place < length old.lines.items → (number : ℕ) → get_or new.locals number [] ≡ get_or old.locals number []
-  pub behind : length old.lines.items ≤ place → (number : ℕ) → lines_below (suc place) (get_or new.locals number []) ≡ get_or old.locals number []
+  pub within : place < length old.lines.items → (number : ℕ) → lines_with new.locals number ≡ lines_with old.locals number
+  pub behind : length old.lines.items ≤ place → (number : ℕ) → lines_below (suc place) (lines_with new.locals number) ≡ lines_with old.locals number
 
 -- some of the rows have a line in place
 pub record ArePartlyPut (place : ℕ) (old new : Survey) : Type 0 where

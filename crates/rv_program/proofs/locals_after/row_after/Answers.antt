@@ -4,6 +4,3 @@ use Rattle.rv_program.proofs.locals_after.row_after.Goals as goal
 
 pub returns : goal.returns
 returns c = grind (arith, common_steps)
-
-pub returns-then-not-labelled : goal.returns-then-not-labelled
-returns-then-not-labelled c = grind (arith, common_steps)

@@ -1,13 +1,18 @@
-use Rattle.std.proofs.Common.{◌≡◌, ◌<◌, ◌≤◌, ℕ, [], length, get_or, vec_capacity}
+use Rattle.std.proofs.Common.{◌≡◌, ◌+◌, ◌++◌, ℕ, length}
 use Rattle.rv_program.specs.Edits.{edit_of}
+use Rattle.rv_program.specs.internal.Locals.{AreFrom, AreWithin, lines_with}
 use Rattle.rv_program.specs.internal.MovedLocals.{row_after}
-use Rattle.rv_program.specs.References.{among_local}
 use Rattle.rv_program.proofs.locals_after.rows_after.Given as goal
 
--- the rows of the numbers so far
-abbrev pub invariant-loop-number : goal.invariant-loop-number
-invariant-loop-number l = record {
-  count : length l.after.items ≡ l.number;
-  room : l.end ≤ vec_capacity l.after;
-  rows : (k : ℕ) → k < l.number → get_or l.after.items k [] ≡ row_after (edit_of l.edit) (among_local k l.labels) (get_or l.rows k []);
+-- the rows so far are of lesser numbers than those that are left, and the lines of each number are in the one or come of the others
+abbrev pub invariant-numbers : goal.invariant-numbers
+invariant-numbers l = record {
+  next : ℕ;
+  made : AreWithin 0 next l.after.items;
+  put_in : AreFrom next l.put_in;
+  rows : AreFrom next l.rows;
+  lines : (n : ℕ) → lines_with l.after.items n ++ row_after (edit_of l.edit) (lines_with l.put_in n) (lines_with l.rows n) ≡ row_after (edit_of l.edit) (lines_with l.fn.put_in n) (lines_with l.fn.rows n);
 }
+
+abbrev pub decreases-numbers : goal.decreases-numbers
+decreases-numbers l = length l.put_in + length l.rows

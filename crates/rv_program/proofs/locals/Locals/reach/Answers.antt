@@ -1,11 +1,11 @@
-use Rattle.std.proofs.Common.{◌≡◌, ℕ, ◌||◌, ◌<◌, [], get_or, Bool, true, false, arith, ap, sym, subst, ◌∙◌, refl}
+use Rattle.std.proofs.Common.{◌≡◌, ℕ, ◌||◌, ◌<◌, Bool, true, false, arith, ap, sym, subst, ◌∙◌, refl}
 use Rattle.std.specs.Option.{is_some}
 use Rattle.std.proofs.lemmas.Bool.{eq-eqb, eqb-true, false≢true, or_left, or_right}
 use Rattle.rv_expr.specs.declared.tree.Direction.TheVariants.{Forward}
 use Rattle.rv_stmt.specs.LabelNames.{LabelName}
 use Rattle.rv_stmt.specs.LabelNames as label
 use Rattle.rv_stmt.specs.LentLabels.{name_lent}
-use Rattle.rv_program.specs.internal.Locals.{first_above, local_line_in}
+use Rattle.rv_program.specs.internal.Locals.{first_above, lines_with, local_line_in}
 use Rattle.rv_program.specs.References.{is_local, among_local}
 use Rattle.rv_program.proofs.locals.Locals.reach.Goals as goal
 
@@ -24,7 +24,7 @@ labels-preserved-in-Local c = record {
     found number i none all below = at (is_local number (name_lent c.in-Some.label.name)) refl
       where
         at : (b : Bool) → is_local number (name_lent c.in-Some.label.name) ≡ b → is_some (local_line_in c.args.self.now i number Forward) ≡ true
-        at true is = subst (λ n. is_some (first_above i (get_or c.args.self.now n [])) ≡ true) (number-of number (name_lent c.in-Some.label.name) c.in-Local.number (ap name_lent c.in-Local.is) is) (c.last.ensures i (omega (arith, below, c.min-first.ensures)))
+        at true is = subst (λ n. is_some (first_above i (lines_with c.args.self.now n)) ≡ true) (number-of number (name_lent c.in-Some.label.name) c.in-Local.number (ap name_lent c.in-Local.is) is) (c.last.ensures i (omega (arith, below, c.min-first.ensures)))
         at false is =
             c.labels.invariant.found number i (ap (among_local number) c.in-Some.ensures.some ∙ ap (λ b. b || among_local number c.in-Some.rest) is ∙ none) all (omega (arith, below, c.min-first.ensures))
 

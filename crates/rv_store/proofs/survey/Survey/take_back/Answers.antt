@@ -1,6 +1,7 @@
-use Rattle.std.proofs.Common.{◌≡◌, ℕ, List, not, Option, Some, None, [], get_or, arith, ap, sym, ◌∙◌}
+use Rattle.std.proofs.Common.{◌≡◌, ℕ, List, not, Option, Some, None, arith, ap, sym, ◌∙◌}
 use Rattle.std.specs.Option.{is_some}
 use Rattle.std.proofs.lemmas.Bool.{not-true, not-false}
+use Rattle.rv_program.specs.internal.Locals.{lines_with}
 use Rattle.rv_store.specs.internal.Column.{taken_back}
 use Rattle.rv_store.specs.internal.StillLines.{IsAt}
 use Rattle.rv_store.proofs.StillRows.{back}
@@ -19,6 +20,6 @@ returns-clause-lines c old put former =
       highs = stay.highs ∙ put.highs;
     }
   where
-    at : (line : Option (List ℕ)) → is_some line ≡ not c.is_none.result → IsAt old.lines.items c.args.place line → (number : ℕ) → get_or c.take_locals.new.self.locals number [] ≡ get_or old.locals number []
+    at : (line : Option (List ℕ)) → is_some line ≡ not c.is_none.result → IsAt old.lines.items c.args.place line → (number : ℕ) → lines_with c.take_locals.new.self.locals number ≡ lines_with old.locals number
     at None is stood number = c.take_locals.ensures.behind (not-false c.is_none.result (sym is)) number ∙ put.locals.behind (omega (arith, stood)) number
     at (Some line) is stood number = c.take_locals.ensures.within (not-true c.is_none.result (sym is)) number ∙ put.locals.within stood.0 number
