@@ -77,7 +77,7 @@ pub no-high : (given : Environment) (here : ℕ) (t : Option Tree) → is_some t
 no-high given here None none = refl
 no-high given here (Some e) none = absurd (true≢false none)
 
-some-high : (t : Option Tree) → is_some t ≡ true → one_if_some t ≡ 1
+pub some-high : (t : Option Tree) → is_some t ≡ true → one_if_some t ≡ 1
 some-high None some = absurd (true≢false (sym some))
 some-high (Some e) some = refl
 

@@ -18,3 +18,4 @@ pub mod RenewalRuns
 pub mod StayingItems
 pub mod ValidLines
 pub mod ValueLaws
+pub mod WholeTexts

@@ -2,6 +2,7 @@ pub mod Changes
 pub mod Codes
 pub mod Constants
 pub mod Counted
+pub mod CountedTexts
 pub mod Definitions
 pub mod Edits
 pub mod Jumps

@@ -29,5 +29,6 @@ pub mod SurveyWork
 pub mod TextLines
 pub mod UsedConstants
 pub mod UsedValues
+pub mod WholeWork
 pub mod WorkLaws
 pub mod WorkSums

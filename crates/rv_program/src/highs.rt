@@ -14,7 +14,7 @@ ghost use Rattle.rv_program.specs.Program.{body_at};
 ghost use Rattle.rv_program.specs.internal.Rows.{own_high_of, AreOwnHighs, AreHighs};
 ghost use Rattle.rv_program.specs.internal.SymbolRows.{AreSymbolRows};
 ghost use Rattle.rv_program.specs.internal.TextRows.{AreTextRows, AreEquValuesIn, program_in};
-ghost use Rattle.rv_program.specs.internal.Work.{high_operands, work};
+ghost use Rattle.rv_program.specs.internal.Work.{high_operands, operands_through, work};
 
 use crate::before::Before;
 use crate::groups::{Groups, Kind};
@@ -260,5 +260,90 @@ pub fn highs<C: Count>(
         return Ok(row);
     }
     pair_highs(after.text.places, &mut row);
+    Ok(row)
+}
+
+// The high half on a line of a text, if it has bytes. It is looked at only if it has one.
+fn own_high<C: Count>(rows: &SymbolRows<'_>, line: u32, counter: &mut C) -> Entry
+    requires rows { AreSymbolRows rows.now }
+    requires first { 1 ≤ line }
+    requires last { line ≤ length rows.now.text.lines.now }
+    requires few { length rows.now.text.lines.now ≤ MAX_LINES }
+    requires valued { C.valued_count counter.old < 2 ^ 64 - 1 }
+    ensures value { result ≡ own_high_of rows.now.text.base (program_in rows.now.text) line }
+    ensures least { C.valued_count counter.old ≤ C.valued_count counter.new }
+    ensures most { C.valued_count counter.new ≤ C.valued_count counter.old + high_operands (body_at (program_in rows.now.text) line) }
+    ensures one { C.valued_count counter.new ≤ C.valued_count counter.old + 1 }
+    ensures parsed { C.parsed_count counter.new ≡ C.parsed_count counter.old }
+    ensures encoded { C.encoded_count counter.new ≡ C.encoded_count counter.old }
+{
+    if !has_pcrel_high(&rows.text, line) {
+        return Err(ValueFault::NoPartner);
+    }
+    if place_on(&rows.text, line).size == 0 {
+        return Err(ValueFault::NoPartner);
+    }
+    high_on(&rows.text, rows.equ_values, line, counter)
+}
+
+// The high half on each line of a text that has bytes. Lines without `%pcrel_hi` are gone past; where there are no others, the row is empty.
+fn all_own_highs<C: Count>(
+    alloc: Global,
+    rows: &SymbolRows<'_>,
+    groups: &[Groups],
+    counter: &mut C,
+) -> Result<Vec<Entry>, AllocError>
+    requires rows { AreSymbolRows rows.now }
+    requires groups { groups.now ≡ map groups_on rows.now.text.lines.now }
+    requires few { length rows.now.text.lines.now ≤ MAX_LINES }
+    requires valued { C.valued_count counter.old + length rows.now.text.lines.now < 2 ^ 64 }
+    ensures highs { IfOk result (λ row. AreOwnHighs rows.now.text.base (program_in rows.now.text) row.items) }
+    ensures many { IfOk result (λ row. (length row.items ≡ 0) ⊎ (length row.items ≡ length rows.now.text.lines.now)) }
+    ensures least { C.valued_count counter.old ≤ C.valued_count counter.new }
+    ensures operands { C.valued_count counter.new ≤ C.valued_count counter.old + operands_through high_operands (program_in rows.now.text) (length rows.now.text.lines.now) }
+    ensures parsed { C.parsed_count counter.new ≡ C.parsed_count counter.old }
+    ensures encoded { C.encoded_count counter.new ≡ C.encoded_count counter.old }
+{
+    let mut i = lines_up_to(groups, 0, Kind::PcrelHigh);
+    if i >= groups.len() {
+        return Ok(Vec::new(alloc));
+    }
+    let mut row = row_of(alloc, Err(ValueFault::NoPartner), groups.len())?;
+    while i < groups.len() {
+        row[i] = own_high(rows, i as u32 + 1, counter);
+        i = lines_up_to(groups, i + 1, Kind::PcrelHigh);
+    }
+    Ok(row)
+}
+
+/// What `%pcrel_lo` of a label on each line of a text takes, the lines of which have these groups. Where no line has a high half, the row is
+/// empty.
+///
+/// The counter's number of expressions computed rises by at most the high halves, whatever the outcome.
+///
+/// # Errors
+///
+/// Fails only where there is no memory.
+pub fn all_highs<C: Count>(
+    alloc: Global,
+    rows: &SymbolRows<'_>,
+    groups: &[Groups],
+    counter: &mut C,
+) -> Result<Vec<Entry>, AllocError>
+    requires rows { AreSymbolRows rows.now }
+    requires groups { groups.now ≡ map groups_on rows.now.text.lines.now }
+    requires few { length rows.now.text.lines.now ≤ MAX_LINES }
+    requires valued { C.valued_count counter.old + length rows.now.text.lines.now < 2 ^ 64 }
+    ensures highs { IfOk result (λ row. AreHighs rows.now.text.base (program_in rows.now.text) row.items) }
+    ensures least { C.valued_count counter.old ≤ C.valued_count counter.new }
+    ensures operands { C.valued_count counter.new ≤ C.valued_count counter.old + operands_through high_operands (program_in rows.now.text) (length rows.now.text.lines.now) }
+    ensures parsed { C.parsed_count counter.new ≡ C.parsed_count counter.old }
+    ensures encoded { C.encoded_count counter.new ≡ C.encoded_count counter.old }
+{
+    let mut row = all_own_highs(alloc, rows, groups, counter)?;
+    if row.is_empty() {
+        return Ok(row);
+    }
+    pair_highs(rows.text.places, &mut row);
     Ok(row)
 }

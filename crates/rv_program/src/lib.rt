@@ -47,6 +47,7 @@ mod text_rows;
 mod used_names;
 mod uses;
 mod value_rows;
+mod whole_text;
 
 pub use before::Before;
 pub use constants::{LineConstants, settle_constant};
@@ -77,3 +78,4 @@ pub use text_lines::operands_are_few_on;
 pub use text_rows::{TextRows, address_in};
 pub use uses::{NameTest, any_name, uses_local_label};
 pub use value_rows::{ValueRows, shape_on};
+pub use whole_text::{definitions_of, locals_of};

@@ -120,8 +120,8 @@ pub fn keep_places(
     }
 }
 
-// Writes what a line defines into a row of what the others define. Its names get numbers.
-fn define_with_numbers(
+/// Writes what a line defines into a row of what the others define. Its names get numbers.
+pub fn define_with_numbers(
     alloc: Global,
     line: &Line,
     number: u32,

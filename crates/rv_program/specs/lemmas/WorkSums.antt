@@ -78,7 +78,7 @@ compared-few (body.Equ d) few = omega arith
 compared-few b few = omega (arith, few)
 
 -- a line computes each operand at most twice
-twice : (b : Body) → survey_operands b + compared_operands b + value_operands b ≤ 2 * length (operands_of b)
+pub twice : (b : Body) → survey_operands b + compared_operands b + value_operands b ≤ 2 * length (operands_of b)
 twice (body.Instr i) = let few = sized_or_local i.op i.operands in omega (arith, few)
 twice (body.Pseudo i) = let few = sized_or_local Add i.operands in omega (arith, few)
 twice (body.Fill d) = let few = among d.operands in omega (arith, few)
