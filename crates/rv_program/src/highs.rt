@@ -308,7 +308,8 @@ fn all_own_highs<C: Count>(
     if i >= groups.len() {
         return Ok(Vec::new(alloc));
     }
-    let mut row = row_of(alloc, Err(ValueFault::NoPartner), groups.len())?;
+    let none = Err(ValueFault::NoPartner);
+    let mut row = row_of(alloc, none, groups.len())?;
     while i < groups.len() {
         row[i] = own_high(rows, i as u32 + 1, counter);
         i = lines_up_to(groups, i + 1, Kind::PcrelHigh);
