@@ -5,6 +5,7 @@ mod code_calls;
 mod dis_calls;
 mod edited_call;
 mod list_call;
+mod load_call;
 mod statement_calls;
 mod text_calls;
 mod tree_call;
@@ -14,6 +15,7 @@ use code_calls::{code, line_alone, line_read, line_with_names, payload_bytes, va
 use dis_calls::{rows, text_of_instruction};
 use edited_call::edited;
 use list_call::bytes_of_section;
+use load_call::load;
 use statement_calls::{directive, expression, instruction, name};
 use std::alloc::Global;
 use text_calls::{items, sink, tokens_of_line};
@@ -39,6 +41,7 @@ fn make(alloc: Global, call: Call) -> Answer {
         Call::SectionBytes => bytes_of_section(alloc),
         Call::Tree(call) => call.make(alloc),
         Call::Edited => edited(alloc),
+        Call::Load => load(alloc),
     }
 }
 

@@ -8,8 +8,9 @@
 //! - `spelled EDIT`: an edit whose LINE is spelled by strings of the language, as in `"a" 3 * "b"`.
 //! - `repeat N LINE`: LINE is put behind the others N times; the answer is how many lines there are then.
 //! - `chain N`: `.equ n0, 1`, `.equ n1, n0 + 1` and so on, N lines, are put behind the others; the answer is that of `repeat`.
+//! - `loaded`: the same text, loaded at once, is put in its place, for the rows that follow; the answer is that of `repeat`.
 //! - `again`: the last edit once more, where it found no memory.
-//! - `counts P V E`: whether the last edit read P lines, and computed at most V values and encoded at most E lines; a refused
+//! - `counts P V E`: whether the last edit, or `loaded`, read P lines, and computed at most V values and encoded at most E lines; a refused
 //!   one may have read none.
 //! - `length`: how many lines there are.
 //! - `line K`, `tokens K`: the bytes of line K as the language spells them in a string, and how many tokens it has.

@@ -3,6 +3,7 @@
 mod answers;
 mod both_faults;
 mod edits;
+mod loaded;
 mod text;
 
 pub use text::Text;

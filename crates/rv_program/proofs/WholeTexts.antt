@@ -1,5 +1,5 @@
 -- The rows of a whole text, with one line more.
-use Rattle.std.proofs.Common.{◌≡◌, ℕ, suc, ◌+◌, ◌<◌, Bool, true, false, List, [], ◌∷◌, ◌++◌, length, take, get_or, if◌then◌else◌, arith, ap, sym, ◌∙◌, refl}
+use Rattle.std.proofs.Common.{◌≡◌, ℕ, suc, ◌+◌, ◌<◌, Bool, true, false, [], ◌∷◌, ◌++◌, length, take, get_or, if◌then◌else◌, arith, ap, sym, ◌∙◌}
 use Rattle.std.proofs.Math.Path.{fun_ext}
 use Rattle.std.proofs.Math.Seq.{take-suc}
 use Rattle.std.proofs.lemmas.List.{append-nil, length-take-le}
@@ -7,8 +7,8 @@ use Rattle.rv_stmt.specs.declared.statement.Stmt.{Stmt}
 use Rattle.rv_list.specs.declared.view.DefinitionPlace.{DefinitionPlace}
 use Rattle.rv_list.specs.declared.view.DefinitionPlace.TheVariants.{Nowhere, Label as ByLabel, Equ}
 use Rattle.rv_program.specs.internal.Defining.{or_here, also_on}
-use Rattle.rv_program.specs.internal.Locals.{with_last, lines_below}
-use Rattle.rv_program.specs.Definitions.{or_place, place_in_statement, first_place, definition_of}
+use Rattle.rv_program.specs.internal.Locals.{with_last}
+use Rattle.rv_program.specs.Definitions.{or_place, place_in_statement, definition_of}
 use Rattle.rv_program.specs.Program.{Program, lines_that}
 use Rattle.rv_program.specs.lemmas.DefinitionLaws.{IsWithin, definition-within}
 use Rattle.rv_program.specs.lemmas.DefinitionRows.{or_place-nowhere, here-kept, within-up}

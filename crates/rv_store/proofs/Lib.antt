@@ -6,6 +6,7 @@ pub mod AppendLaws
 pub mod ApartLines
 pub mod Columns
 pub mod CountedEdits
+pub mod Drafts
 pub mod EditExamples
 pub mod EditRefusals
 pub mod EndBases

@@ -5,6 +5,7 @@ pub mod Appended
 pub mod Assembled
 pub mod Column
 pub mod ConstantPairs
+pub mod Drafts
 pub mod EditedRows
 pub mod Ends
 pub mod Forgetting

@@ -6,12 +6,14 @@ mod apart;
 mod assembly;
 mod changed;
 mod column;
+mod draft;
 mod edited_row;
 mod ending;
 mod ends;
 mod forgetting;
 mod last_definitions;
 mod last_line;
+mod loading;
 mod new_shape;
 mod places;
 mod renewal;
@@ -22,6 +24,7 @@ mod survey;
 mod symbols;
 
 pub use changed::{Changed, LineNumbers};
+pub use draft::Draft;
 pub use rv_layout::base_ok;
 pub use rv_program::{
     EditError, LineEdit, MAX_LINES, constants_are_values, only_invalidated_lines_change,

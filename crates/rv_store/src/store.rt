@@ -20,6 +20,7 @@ ghost use Rattle.rv_store.specs.internal.StillLines.{IsStillLine, IsLastLine};
 ghost use Rattle.rv_store.specs.Symbols.{symbol_of};
 ghost use Rattle.rv_program.specs.Text.{is_line, at_line, Insert, Delete, Replace, refusal_of, lines_after, text_after, Edits};
 
+mod drafts;
 mod names;
 mod shown;
 

@@ -23,10 +23,11 @@ pub enum Call {
     SectionBytes,
     Tree(TreeCall),
     Edited,
+    Load,
 }
 
 /// The calls, by the names that the input gives them.
-pub const CALLS: [(&str, Call); 21] = [
+pub const CALLS: [(&str, Call); 22] = [
     ("tokens", Call::Tokens),
     ("sink", Call::Sink),
     ("items", Call::Items),
@@ -48,6 +49,7 @@ pub const CALLS: [(&str, Call); 21] = [
     ("tree_replace", Call::Tree(TreeCall::Replace)),
     ("tree_rewrite", Call::Tree(TreeCall::Rewrite)),
     ("edited", Call::Edited),
+    ("load", Call::Load),
 ];
 
 /// What a call answered.

@@ -9,6 +9,7 @@ use crate::texts::answers::{
 };
 use crate::texts::both_faults::compare_faults;
 use crate::texts::edits::{Edit, EditKind};
+use crate::texts::loaded::loaded;
 use rv_list::{ListError, write_faults, write_image, write_listing, write_symbols};
 use rv_store::{EditError, Store};
 use rv_text::{StdSink, Tally};
@@ -19,6 +20,7 @@ use std::test::Fail;
 /// A text, what its last edit counted, and that edit where it found no memory.
 #[derive(Drop)]
 pub struct Text<'a> {
+    base: u32,
     store: Store,
     tally: Tally,
     without_memory: Option<Edit<'a>>,
@@ -96,6 +98,7 @@ impl<'a> Text<'a> {
     pub fn new(alloc: Global, base: u32) -> Result<Text<'a>, EditError> {
         let store = Store::new(alloc, base)?;
         Ok(Text {
+            base,
             store,
             tally: Tally::new(),
             without_memory: None,
@@ -165,6 +168,16 @@ impl<'a> Text<'a> {
             let line = chain_line(rt.alloc(), place)?;
             append(&mut self.store, line.as_str())?;
         }
+        compare_faults(&self.store)?;
+        println!(rt; "{row} => lines {}", self.store.len())?;
+        Ok(())
+    }
+
+    // Puts the same text, loaded at once, in the place of the text, and prints how many lines there are.
+    fn load(&mut self, rt: &HostRuntime, row: &str) -> Result<(), Fail> {
+        let (store, tally) = loaded(rt.alloc(), self.base, &self.store)?;
+        self.store = store;
+        self.tally = tally;
         compare_faults(&self.store)?;
         println!(rt; "{row} => lines {}", self.store.len())?;
         Ok(())
@@ -259,6 +272,7 @@ impl<'a> Text<'a> {
             "spelled" => self.edit_spelled(rt, row, rest),
             "repeat" => self.repeat(rt, row, rest),
             "chain" => self.chain(rt, row, rest),
+            "loaded" => self.load(rt, row),
             "again" => self.edit_again(rt, row),
             "show" => show(rt, &self.store),
             "faults" => show_faults(rt, &self.store),
