@@ -1,15 +1,16 @@
 -- Which lines are due after an edit, and the row of those lines.
-use Rattle.std.proofs.Common.{◌≡◌, ℕ, ℤ, ◌≤◌, Bool, true, false, not, ◌&&◌, ◌||◌, List, [], ◌∷◌, length, map, if◌then◌else◌, Option, Some, None, is_some, Ok, ap, sym, ◌∙◌, refl}
+use Rattle.std.proofs.Common.{◌≡◌, ℕ, ℤ, ◌≤◌, Bool, true, false, not, ◌&&◌, ◌||◌, List, [], ◌∷◌, length, map, if◌then◌else◌, Option, Some, None, is_some, Ok, Err, ap, sym, ◌∙◌, refl}
 use Rattle.std.specs.List.{list_any}
-use Rattle.std.proofs.lemmas.Bool.{not_from_true, or_right, or_from}
+use Rattle.std.proofs.lemmas.Bool.{not_from_true, or_left, or_right, or_from}
 use Rattle.rv_stmt.specs.declared.directive.Definition.{Definition}
+use Rattle.rv_expr.specs.declared.tree.LabelReference.TheVariants as reference
 use Rattle.rv_expr.specs.Tree as Tree
 use Rattle.rv_expr.specs.Value.{Environment, value_of}
 use Rattle.rv_stmt.specs.declared.operand.Operand.{Operand}
 use Rattle.rv_stmt.specs.declared.operand.OperandValue.{OperandValue}
-use Rattle.rv_stmt.specs.declared.operand.OperandValue.TheVariants.{Plain}
+use Rattle.rv_stmt.specs.declared.operand.OperandValue.TheVariants.{Plain, PcrelLow}
 use Rattle.rv_stmt.specs.declared.operand.Role.{Role}
-use Rattle.rv_stmt.specs.declared.operand.Role.TheVariants.{Target, PairTarget}
+use Rattle.rv_stmt.specs.declared.operand.Role.TheVariants.{Immediate, Target, PairTarget}
 use Rattle.rv_stmt.specs.declared.statement.Body.{Body}
 use Rattle.rv_stmt.specs.declared.statement.Body.TheVariants as body
 use Rattle.rv_stmt.specs.declared.statement.Body.TheVariants.{Equ}
@@ -27,7 +28,7 @@ use Rattle.rv_program.specs.Constants.{constant_of}
 use Rattle.rv_program.specs.Edits.{line_before_edit}
 use Rattle.rv_program.specs.Jumps.{label_in, target_in, target_among, target_of, distance}
 use Rattle.rv_program.specs.Layout.{shape_at, address_at}
-use Rattle.rv_program.specs.Pairs.{names_at}
+use Rattle.rv_program.specs.Pairs.{names_at, low_symbol_in, low_symbol_among, low_symbol_of, low_of_symbol}
 use Rattle.rv_program.specs.Program.{Program, program_of, body_at}
 use Rattle.rv_program.specs.Sameness.{same_entry, same_values}
 use Rattle.rv_program.specs.Text.{Edit, refusal_of, lines_after}
@@ -154,6 +155,68 @@ pub jump-open : (b : Body) (target : Tree.Tree) → target_of b ≡ Some target 
 jump-open (Equ d) target h = none≢some h
 jump-open b target h = refl
 
+-- Lines of which `%pcrel_lo` of a symbol is the only operand
+
+all-of : (x : Entry) → and_then x (λ v. Ok v) ≡ x
+all-of (Ok v) = refl
+all-of (Err fault) = refl
+
+low-entry : (base : ℕ) (program : Program) (k here : ℕ) (value : OperandValue) (role : Role) (name : List ℕ) → low_symbol_in value role ≡ Some name → and_then (operand_value (given_to role (names_at base program k)) here value) (λ v. Ok (counted_from here role v)) ≡ low_of_symbol base program name
+low-entry base program k here (PcrelLow (reference.Symbol n)) Immediate name h =
+    all-of (low_of_symbol base program n) ∙ ap (low_of_symbol base program) (let same : Some n ≡ Some name = h in let is : n ≡ name = cc in is)
+low-entry base program k here value role name h = none≢some h
+
+low-entries : (base : ℕ) (program : Program) (k here : ℕ) (os : List Operand) (name : List ℕ) → low_symbol_among os ≡ Some name → map (entry_of (names_at base program k) here) os ≡ low_of_symbol base program name ∷ []
+low-entries base program k here [] name h = none≢some h
+low-entries base program k here (o ∷ []) name h = ap (λ e. e ∷ []) (low-entry base program k here o.value o.role name h)
+low-entries base program k here (o ∷ p ∷ os) name h = none≢some h
+
+low-values : (base : ℕ) (program : Program) (k : ℕ) (b : Body) (name : List ℕ) → low_symbol_of b ≡ Some name → values_of_body base program k b ≡ Operands (low_of_symbol base program name ∷ [])
+low-values base program k (body.Instr i) name h = ap Operands (low-entries base program k (address_at base program k) i.operands name h)
+low-values base program k b name h = none≢some h
+
+low-unsized : (value : OperandValue) (role : Role) (name : List ℕ) → low_symbol_in value role ≡ Some name → is_size role ≡ false
+low-unsized (PcrelLow (reference.Symbol n)) Immediate name h = refl
+low-unsized value role name h = none≢some h
+
+lows-unsized : (os : List Operand) (name : List ℕ) → low_symbol_among os ≡ Some name → list_any (λ o. is_size o.role) os ≡ false
+lows-unsized [] name h = none≢some h
+lows-unsized (o ∷ []) name h = or_from (is_size o.role) false (low-unsized o.value o.role name h) refl
+lows-unsized (o ∷ p ∷ os) name h = none≢some h
+
+low-shape : (b : Body) (name : List ℕ) → low_symbol_of b ≡ Some name → (n : ℕ) × ((f : List ℕ → Option ℤ) → shape_of f b ≡ Bytes n)
+low-shape (body.Instr i) name h = (_, λ f. ap (shape_of_instructions (constants f) i) (no-size_operand i.operands (lows-unsized i.operands name h)))
+low-shape b name h = none≢some h
+
+low-values_at : (base : ℕ) (program : Program) (k : ℕ) (b : Body) (name : List ℕ) → body_at program k ≡ b → low_symbol_of b ≡ Some name → values_at base program k ≡ Operands (low_of_symbol base program name ∷ [])
+low-values_at base program k b name is h =
+    let shape : shape_at program k ≡ Bytes (low-shape b name h).0 = ap (shape_of (constant_of program k)) is ∙ (low-shape b name h).1 (constant_of program k) in
+    let values = ap (values_of_body base program k) is ∙ low-values base program k b name h in
+    λ i. values_by_shape (shape i) (values i)
+
+low-differs : (base : ℕ) (before after : Program) (k j : ℕ) (b : Body) (name : List ℕ) → body_at after k ≡ b → body_at before j ≡ b → low_symbol_of b ≡ Some name → not (same_entry (low_of_symbol base after name) (low_of_symbol base before name)) ≡ differs_in_values base before after k j
+low-differs base before after k j b name here there h =
+    let x = low_of_symbol base after name in
+    let y = low_of_symbol base before name in
+    let values = not (same_values (values_at base after k) (values_at base before j)) in
+    let n = low-shape b name h in
+    let shape : shape_at after k ≡ shape_at before j =
+    ap (shape_of (constant_of after k)) here ∙ n.1 (constant_of after k) ∙ sym (ap (shape_of (constant_of before j)) there ∙ n.1 (constant_of before j)) in
+    let same = not_from_true _ ((same_shape-Decides _ _).1 shape) in
+    ap not (sym (and_no_more (same_entry x y)))
+    ∙ (λ i. not (same_values (sym (low-values_at base after k b name here h) i) (sym (low-values_at base before j b name there h) i)))
+    ∙ sym (no_more values)
+    ∙ ap (λ b. values || b) (sym same)
+
+-- one that stood somewhere is reencoded where that gives something else
+pub reencoded-by_low : (before : Before) (after : TextRows) (line stood : ℕ) (name : List ℕ) → IsAfter before after → line_before_edit (edit_on before) line ≡ Some stood → low_symbol_of (body_at (program_in after) line) ≡ Some name → body_at (program_in before.symbols.text) stood ≡ body_at (program_in after) line → not (same_entry (low_of_symbol after.base (program_in after) name) (low_of_symbol (base_before before) (program_in before.symbols.text) name)) ≡ is_reencoded (base_before before) (lines_before before) (edit_on before) line
+reencoded-by_low before after line stood name is_after stands is_low there =
+    let edited = ap program_of is_after.lines in
+    let b = body_at (program_in after) line in
+    (λ i. not (same_entry (low_of_symbol (is_after.base i) (edited i) name) (low_of_symbol (base_before before) (program_in before.symbols.text) name)))
+    ∙ low-differs (base_before before) (program_of (lines_before before)) (program_after (lines_before before) (edit_on before)) line stood b name (sym (ap (λ p. body_at p line) edited)) there is_low
+    ∙ sym (ap (is_new_or (differs_in_values (base_before before) (program_of (lines_before before)) (program_after (lines_before before) (edit_on before)) line)) stands)
+
 -- Whether a line is due
 
 module _ (base : ℕ) (lines : List (List ℕ)) (edit : Edit) (k : ℕ) where
@@ -162,7 +225,19 @@ module _ (base : ℕ) (lines : List (List ℕ)) (edit : Edit) (k : ℕ) where
 
   pub due-jump : (target : Tree.Tree) → target_of (body_at (program_after lines edit) k) ≡ Some target → is_reencoded base lines edit k ≡ is_due base lines edit k
   unfolding due-by
-  due-jump target goes = sym (ap due-by (or_right (is_equ (body_at (program_after lines edit) k)) (is_some (target_of (body_at (program_after lines edit) k))) (ap is_some goes)))
+  due-jump target goes =
+      let b = body_at (program_after lines edit) k in
+      sym (ap due-by (or_left (is_equ b || is_some (target_of b)) (is_some (low_symbol_of b)) (or_right (is_equ b) (is_some (target_of b)) (ap is_some goes))))
+
+  pub due-low : (name : List ℕ) → low_symbol_of (body_at (program_after lines edit) k) ≡ Some name → is_reencoded base lines edit k ≡ is_due base lines edit k
+  unfolding due-by
+  due-low name goes =
+      let b = body_at (program_after lines edit) k in
+      sym (ap due-by (or_right (is_equ b || is_some (target_of b)) (is_some (low_symbol_of b)) (ap is_some goes)))
+
+  pub due-other : is_equ (body_at (program_after lines edit) k) ≡ false → target_of (body_at (program_after lines edit) k) ≡ None → low_symbol_of (body_at (program_after lines edit) k) ≡ None → is_invalidated base lines edit k ≡ is_due base lines edit k
+  unfolding due-by
+  due-other equ goes low = sym (λ i. due-by (equ i || is_some (goes i) || is_some (low i)))
 
   -- a line that is not invalidated is not due
   pub due-valid : refusal_of lines edit ≡ None → 1 ≤ k → k ≤ length (lines_after lines edit) → is_invalidated base lines edit k ≡ false → false ≡ is_due base lines edit k

@@ -1,22 +1,27 @@
 -- The high halves that `%pcrel_lo` belongs to. (docs/LANGUAGE.md, Pairs of halves)
-use Rattle.std.specs.Prelude.{ℕ, ◌-◌, ◌==◌, Bool, not, ◌&&◌, List, ◌∷◌, length, Option, Some, None, Ok, Err}
+use Rattle.std.specs.Prelude.{ℕ, ◌-◌, ◌==◌, Bool, not, ◌&&◌, List, [], ◌∷◌, length, Option, Some, None, Ok, Err}
 use Rattle.rv_expr.specs.declared.faults.ValueFault.TheVariants.{NoPartner}
+use Rattle.rv_expr.specs.declared.tree.LabelReference.TheVariants as reference
 use Rattle.rv_expr.specs.Tree.{Tree}
 use Rattle.rv_expr.specs.Value.{Environment, value_of}
 use Rattle.rv_ops.specs.declared.op.Op.{Op}
 use Rattle.rv_ops.specs.declared.op.Op.TheVariants.{Auipc}
 use Rattle.rv_stmt.specs.declared.operand.Operand.{Operand}
 use Rattle.rv_stmt.specs.declared.operand.OperandValue.{OperandValue}
-use Rattle.rv_stmt.specs.declared.operand.OperandValue.TheVariants.{PcrelHigh}
+use Rattle.rv_stmt.specs.declared.operand.OperandValue.TheVariants.{PcrelHigh, PcrelLow}
+use Rattle.rv_stmt.specs.declared.operand.Role.{Role}
+use Rattle.rv_stmt.specs.declared.operand.Role.TheVariants.{Immediate}
 use Rattle.rv_stmt.specs.declared.statement.Body.{Body}
 use Rattle.rv_stmt.specs.declared.statement.Body.TheVariants.{Instr}
 use Rattle.rv_stmt.specs.Readings.{and_then}
+use Rattle.rv_stmt.specs.ValueParts.{low_part}
 use Rattle.rv_layout.specs.Sections.{section_number}
 use Rattle.rv_fix.specs.Displacements.{displacement}
 use Rattle.rv_fix.specs.Values.{Entry}
+use Rattle.rv_program.specs.Definitions.{definition_of}
 use Rattle.rv_program.specs.Layout.{section_at, address_at, size_at}
 use Rattle.rv_program.specs.Program.{Program, body_at, first_line}
-use Rattle.rv_program.specs.References.{names_on, reference_of, references_at}
+use Rattle.rv_program.specs.References.{line_of_place, names_on, reference_of, references_at}
 
 abbrev pub pcrel_high_value : OperandValue → Option Tree
 pcrel_high_value (PcrelHigh e) = Some e
@@ -59,3 +64,25 @@ paired_high_of base program i =
 -- what names give on line i
 abbrev pub names_at : (base : ℕ) → Program → (i : ℕ) → Environment
 names_at base program i = names_on base program i (reference_of base program i) (paired_high_of base program)
+
+-- Lines of which `%pcrel_lo` of a symbol is the only operand
+
+abbrev pub low_symbol_in : OperandValue → Role → Option (List ℕ)
+low_symbol_in (PcrelLow (reference.Symbol name)) Immediate = Some name
+low_symbol_in value role = None
+
+abbrev pub low_symbol_among : List Operand → Option (List ℕ)
+low_symbol_among (o ∷ []) = low_symbol_in o.value o.role
+low_symbol_among os = None
+
+-- the symbol, if a line is one
+abbrev pub low_symbol_of : Body → Option (List ℕ)
+low_symbol_of (Instr i) = low_symbol_among i.operands
+low_symbol_of body = None
+
+abbrev pub low_by : (high : Entry) → Entry
+low_by high = and_then high (λ v. Ok (low_part v))
+
+-- what `%pcrel_lo` of a symbol gives
+abbrev pub low_of_symbol : (base : ℕ) → Program → (name : List ℕ) → Entry
+low_of_symbol base program name = low_by (and_then (line_of_place (definition_of program name)) (paired_high_of base program))

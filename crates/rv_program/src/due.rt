@@ -1,6 +1,6 @@
 //! Which lines are due after an edit: what is kept of them is made anew.
 
-ghost use Rattle.std.specs.Prelude.{◌≡◌, ◌≤◌, ◌<◌, ◌+◌, ◌-◌, ◌^◌, ℕ, not, true, false, Some, length, map, IfOk, IsTrue};
+ghost use Rattle.std.specs.Prelude.{◌≡◌, ◌≤◌, ◌<◌, ◌+◌, ◌-◌, ◌^◌, ℕ, not, true, false, Some, None, length, map, IfOk, IsTrue};
 ghost use Rattle.rv_stmt.specs.declared.statement.Body.TheVariants.{Equ as EquBody};
 ghost use Rattle.rv_program.specs.internal.Before.{IsBefore, IsAfter, AreStill, base_before, lines_before, edit_on};
 ghost use Rattle.rv_program.specs.internal.Briefs.{brief_of, groups_on};
@@ -11,11 +11,13 @@ ghost use Rattle.rv_program.specs.Counted.{counts_of};
 ghost use Rattle.rv_program.specs.internal.Differing.{HasDiffering, HasDueGroups};
 ghost use Rattle.rv_program.specs.internal.LinesWithout.{AreOthers};
 ghost use Rattle.rv_program.specs.Jumps.{target_of};
+ghost use Rattle.rv_program.specs.Pairs.{low_symbol_of};
 ghost use Rattle.rv_program.specs.Program.{statement_at, body_at};
 ghost use Rattle.rv_program.specs.Sameness.{same_values};
 ghost use Rattle.rv_program.specs.internal.Revisions.{edited_before, AreDue};
 ghost use Rattle.rv_program.specs.internal.SymbolRows.{AreSymbolRows};
-ghost use Rattle.rv_program.specs.internal.TextRows.{program_in};
+ghost use Rattle.rv_program.specs.internal.TextRows.{AreHighsIn, program_in};
+ghost use Rattle.rv_program.specs.Uses.{is_equ};
 
 use crate::before::Before;
 use crate::brief::Brief;
@@ -25,10 +27,12 @@ use crate::jumps::{differs_in_distance, differs_in_local_distance, rise};
 use crate::line::Line;
 use crate::line_values::symbol_value;
 use crate::lines_of_kind::lines_up_to_groups;
+use crate::lows::differs_in_low;
 use crate::name_set::NameSet;
 use crate::symbol_rows::SymbolRows;
-use crate::text_lines::{equ_on, target_on};
+use crate::text_lines::{equ_on, low_symbol_on, target_on};
 use rv_expr::{Expr, Node};
+use rv_fix::Entry;
 use rv_stmt::Definition;
 use rv_text::Count;
 use std::alloc::{AllocError, Global};
@@ -116,10 +120,59 @@ fn is_jump_due<C: Count>(
     }
 }
 
+// Whether a line of which `%pcrel_lo` of a symbol is the only operand is due: it is new, or that gives something else than it gave.
+fn is_low_due(
+    before: &Before<'_, '_>,
+    after: &SymbolRows<'_>,
+    highs: &[Entry],
+    name: &[u8],
+    line: u32,
+) -> bool
+    requires before { IsBefore before.now }
+    requires rows { AreSymbolRows after.now }
+    requires after { IsAfter before.now after.now.text }
+    requires highs { AreHighsIn after.now.text highs.now }
+    requires first { 1 ≤ line }
+    requires last { line ≤ length after.now.text.lines.now }
+    requires low { low_symbol_of (body_at (program_in after.now.text) line) ≡ Some name.now }
+    ensures { result ≡ is_reencoded (base_before before.now) (lines_before before.now) (edit_on before.now) line }
+{
+    let Some(_stood) = before.edit.line_before(line) else {
+        return true;
+    };
+    differs_in_low(&before.symbols, before.highs, after, highs, name)
+}
+
+// Whether a line that is no `.equ` and no jump is due.
+fn is_other_due(
+    before: &Before<'_, '_>,
+    after: &SymbolRows<'_>,
+    highs: &[Entry],
+    differing: &NameSet,
+    line: u32,
+) -> bool
+    requires before { IsBefore before.now }
+    requires rows { AreSymbolRows after.now }
+    requires after { IsAfter before.now after.now.text }
+    requires highs { AreHighsIn after.now.text highs.now }
+    requires differing { HasDiffering (base_before before.now) (lines_before before.now) (edit_on before.now) differing.now }
+    requires first { 1 ≤ line }
+    requires last { line ≤ length after.now.text.lines.now }
+    requires equ { is_equ (body_at (program_in after.now.text) line) ≡ false }
+    requires jump { target_of (body_at (program_in after.now.text) line) ≡ None }
+    ensures { result ≡ is_due (base_before before.now) (lines_before before.now) (edit_on before.now) line }
+{
+    match low_symbol_on(&after.text, line) {
+        Some(name) => is_low_due(before, after, highs, name, line),
+        None => is_invalidated(before, after, differing, line),
+    }
+}
+
 // Whether a line of the text after an edit is due. `differing` has each symbol that differs on one of the lines.
 fn is_due<C: Count>(
     before: &Before<'_, '_>,
     after: &SymbolRows<'_>,
+    highs: &[Entry],
     differing: &NameSet,
     line: u32,
     counter: &mut C,
@@ -127,6 +180,7 @@ fn is_due<C: Count>(
     requires before { IsBefore before.now }
     requires rows { AreSymbolRows after.now }
     requires after { IsAfter before.now after.now.text }
+    requires highs { AreHighsIn after.now.text highs.now }
     requires differing { HasDiffering (base_before before.now) (lines_before before.now) (edit_on before.now) differing.now }
     requires first { 1 ≤ line }
     requires last { line ≤ length after.now.text.lines.now }
@@ -139,7 +193,7 @@ fn is_due<C: Count>(
     }
     match target_on(&after.text, line) {
         Some(target) => is_jump_due(before, after, target, line, counter),
-        None => is_invalidated(before, after, differing, line),
+        None => is_other_due(before, after, highs, differing, line),
     }
 }
 
@@ -176,6 +230,7 @@ fn is_carried(
 fn is_due_by_brief<C: Count>(
     before: &Before<'_, '_>,
     after: &SymbolRows<'_>,
+    highs: &[Entry],
     differing: &NameSet,
     brief: Brief,
     line: u32,
@@ -184,6 +239,7 @@ fn is_due_by_brief<C: Count>(
     requires before { IsBefore before.now }
     requires rows { AreSymbolRows after.now }
     requires after { IsAfter before.now after.now.text }
+    requires highs { AreHighsIn after.now.text highs.now }
     requires differing { HasDiffering (base_before before.now) (lines_before before.now) (edit_on before.now) differing.now }
     requires brief { brief ≡ brief_of (statement_at (program_in after.now.text) line) }
     requires first { 1 ≤ line }
@@ -196,7 +252,7 @@ fn is_due_by_brief<C: Count>(
         return false;
     }
     !is_carried(before, after, differing, brief, line)
-        && is_due(before, after, differing, line, counter)
+        && is_due(before, after, highs, differing, line, counter)
 }
 
 // The groups of the lines that may be due, but for a new one: those that use a symbol of a set, or what is not compared, or their own
@@ -224,7 +280,7 @@ fn lines_up_to_due(groups: &[Groups], i: usize, wanted: Groups, place: u32) -> u
 }
 
 /// The lines of the text after an edit that are due, rising: the edit invalidates each of them, and all others keep their values and their
-/// shape. The text has these lines, of these groups; `differing` has each symbol that differs on one of them, and `still` is only true where
+/// shape. The text has these lines, of these groups; `highs` has what `%pcrel_lo` takes, `differing` has each symbol that differs on one of them, and `still` is only true where
 /// each line is where it was. Lines whose groups say that they are not due are gone past.
 ///
 /// The counter's number of expressions computed rises by one for each jump to a local label that stood in the text before: the distance of
@@ -237,6 +293,7 @@ pub fn due_lines<C: Count>(
     alloc: Global,
     before: &Before<'_, '_>,
     after: &SymbolRows<'_>,
+    highs: &[Entry],
     differing: &NameSet,
     lines: &[Line],
     groups: &[Groups],
@@ -246,6 +303,7 @@ pub fn due_lines<C: Count>(
     requires before { IsBefore before.now }
     requires rows { AreSymbolRows after.now }
     requires after { IsAfter before.now after.now.text }
+    requires highs { AreHighsIn after.now.text highs.now }
     requires differing { HasDiffering (base_before before.now) (lines_before before.now) (edit_on before.now) differing.now }
     requires column { lines.now ≡ after.now.text.lines.now }
     requires groups { groups.now ≡ map groups_on lines.now }
@@ -260,7 +318,15 @@ pub fn due_lines<C: Count>(
     let mut i = lines_up_to_due(groups, 0, wanted, place);
     'lines: while i < lines.len() {
         let line = i as u32 + 1;
-        if is_due_by_brief(before, after, differing, lines[i].brief(), line, counter) {
+        if is_due_by_brief(
+            before,
+            after,
+            highs,
+            differing,
+            lines[i].brief(),
+            line,
+            counter,
+        ) {
             row.push(line)?;
         }
         i = lines_up_to_due(groups, i + 1, wanted, place);

@@ -32,6 +32,7 @@ pub mod lines_of_kind;
 mod local_row;
 mod locals;
 pub mod locals_after;
+mod lows;
 mod moved_definitions;
 mod name_set;
 mod names;

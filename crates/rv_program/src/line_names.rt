@@ -77,7 +77,7 @@ impl LineNames<'_> {
 }
 
 // The line of the label that a name is.
-fn line_of_place(place: DefinitionPlace) -> Result<u32, ValueFault>
+pub(crate) fn line_of_place(place: DefinitionPlace) -> Result<u32, ValueFault>
     ensures { result ≡ line_of_place place }
 {
     match place {

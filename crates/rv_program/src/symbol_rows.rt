@@ -27,8 +27,8 @@ pub struct SymbolRows<'a> {
 }
 
 impl SymbolRows<'_> {
-    // Where the symbol of this number is defined; a name that has no number is nowhere.
-    fn definition_of(&self, number: Option<usize>) -> DefinitionPlace
+    /// Where the symbol of this number is defined; a name that has no number is nowhere.
+    pub fn definition_of(&self, number: Option<usize>) -> DefinitionPlace
         requires { AreTextRows self.now.text }
         ensures { (name : List ℕ) → number_of self.now.text.names.now name ≡ number → result ≡ definition_of (program_in self.now.text) name }
     {

@@ -7,12 +7,14 @@ ghost use Rattle.rv_program.specs.Jumps.{target_of};
 ghost use Rattle.rv_program.specs.Layout.{place_at};
 ghost use Rattle.rv_stmt.specs.declared.statement.Body.TheVariants.{Equ as EquBody};
 ghost use Rattle.rv_stmt.specs.Statement.{operands_of};
+ghost use Rattle.rv_program.specs.Pairs.{low_symbol_of};
 ghost use Rattle.rv_program.specs.Program.{statement_at, body_at};
 ghost use Rattle.rv_program.specs.internal.TextRows.{AreTextRows, program_in};
 ghost use Rattle.rv_program.specs.Uses.{is_equ};
 
 use crate::brief::Brief;
 use crate::jumps::target;
+use crate::lows::low_symbol;
 use crate::text_rows::TextRows;
 use rv_expr::Expr;
 use rv_list::LinePlace;
@@ -66,6 +68,19 @@ pub fn target_on<'a>(text: &TextRows<'a>, line: u32) -> Option<&'a Expr>
         return None;
     }
     target(&statement_on(text, line).body)
+}
+
+/// The symbol of a line of which `%pcrel_lo` of it is the only operand. Other lines are mostly gone past without a look at their statements.
+#[tactic(auto, using(crate::specs::lemmas::TextLines::no_low_symbol))]
+pub fn low_symbol_on<'a>(text: &TextRows<'a>, line: u32) -> Option<&'a [u8]>
+    requires first { 1 ≤ line }
+    requires last { line ≤ length text.now.lines.now }
+    ensures { option_map (λ n. n.now) result ≡ low_symbol_of (body_at (program_in text.now) line) }
+{
+    if !brief_on(text, line).uncompared {
+        return None;
+    }
+    low_symbol(&statement_on(text, line).body)
 }
 
 /// A line has at most 1,000 operands.

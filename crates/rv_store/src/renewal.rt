@@ -136,6 +136,7 @@ pub fn items_edited<'a, C: Count>(
         alloc,
         &before,
         &rows.symbols,
+        rows.highs,
         differing,
         lines,
         groups,

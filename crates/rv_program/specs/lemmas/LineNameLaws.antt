@@ -66,7 +66,7 @@ local_line-is program i number Forward l = first_line-is (has_local program numb
 
 -- High halves that `%pcrel_lo` takes
 
-paired-is : (base : ℕ) (program : Program) (highs : List Entry) (line : ℕ) → AreHighs base program highs → 1 ≤ line → line ≤ length program → high_in highs line ≡ paired_high_of base program line
+pub paired-is : (base : ℕ) (program : Program) (highs : List Entry) (line : ℕ) → AreHighs base program highs → 1 ≤ line → line ≤ length program → high_in highs line ≡ paired_high_of base program line
 paired-is base program highs line held first last =
     held.each (line - 1) (omega (arith, first, last)) ∙ ap (paired_high_of base program) (let e : suc (line - 1) ≡ line = omega (arith, first) in e)
 

@@ -1,22 +1,27 @@
 -- Lines of a text, by their numbers.
-use Rattle.std.proofs.Common.{◌≡◌, Bool, true, false, not, ◌&&◌, ◌==◌, nat_le, ℕ, ◌-◌, ◌<◌, ◌≤◌, List, length, get_or, Option, Some, None, true≢false, arith, ap, sym, ◌∙◌, refl}
+use Rattle.std.proofs.Common.{◌≡◌, Bool, true, false, not, ◌&&◌, ◌||◌, ◌==◌, nat_le, ℕ, ◌-◌, ◌<◌, ◌≤◌, List, [], ◌∷◌, length, get_or, Option, Some, None, true≢false, arith, ap, sym, ◌∙◌, refl}
 use Rattle.std.specs.List.{list_any}
 use Rattle.std.specs.Option.{is_some}
-use Rattle.std.proofs.lemmas.Bool.{leb-true}
+use Rattle.std.proofs.lemmas.Bool.{leb-true, or_parts}
 use Rattle.std.proofs.lemmas.List.{get_or-map}
 use Rattle.rv_expr.specs.Tree.{Tree}
 use Rattle.rv_stmt.specs.declared.directive.Definition.{Definition}
+use Rattle.rv_stmt.specs.declared.operand.Operand.{Operand}
+use Rattle.rv_stmt.specs.declared.operand.OperandValue.{OperandValue}
+use Rattle.rv_stmt.specs.declared.operand.OperandValue.TheVariants.{PcrelLow}
+use Rattle.rv_stmt.specs.declared.operand.Role.{Role}
 use Rattle.rv_stmt.specs.declared.statement.Body.{Body}
-use Rattle.rv_stmt.specs.declared.statement.Body.TheVariants.{Equ}
+use Rattle.rv_stmt.specs.declared.statement.Body.TheVariants.{Equ, Instr}
 use Rattle.rv_stmt.specs.Statement.{statement_of, operands_of}
 use Rattle.rv_list.specs.declared.view.LinePlace.{LinePlace}
 use Rattle.rv_layout.specs.declared.measured.Measured.{Measured}
 use Rattle.rv_program.specs.Jumps.{target_of}
 use Rattle.rv_program.specs.Layout.{shape_at, place_at}
+use Rattle.rv_program.specs.Pairs.{low_symbol_in, low_symbol_among, low_symbol_of}
 use Rattle.rv_program.specs.Program.{program_of, no_statement, statement_at, body_at}
 use Rattle.rv_program.specs.internal.Rows.{AreShapes, ArePlaces}
 use Rattle.rv_program.specs.Text.{is_line}
-use Rattle.rv_program.specs.Uses.{is_equ}
+use Rattle.rv_program.specs.Uses.{is_pcrel_low, uses_local_label, uses_paired_high, is_equ}
 use Rattle.rv_program.specs.lemmas.Programs.{at-line, length-for_lines, length-program}
 
 few_bytes : (line : List ℕ) → is_line line ≡ true → length line ≤ 1000
@@ -74,3 +79,17 @@ no_target b none = at (target_of b) none
     at : (o : Option Tree) → is_some o ≡ false → None ≡ o
     at None h = refl
     at (Some target) h = absurd (true≢false h)
+
+-- a line that is compared with nothing has no `%pcrel_lo` of a symbol as its only operand
+pub no_low_symbol : (b : Body) → (uses_local_label b || uses_paired_high b || is_equ b) ≡ false → None ≡ low_symbol_of b
+no_low_symbol (Instr i) none = at i.operands (or_parts (uses_local_label (Instr i)) (uses_paired_high (Instr i)) (or_parts (uses_local_label (Instr i) || uses_paired_high (Instr i)) (is_equ (Instr i)) none).0).1
+  where
+    given : (value : OperandValue) (role : Role) → is_pcrel_low value ≡ false → None ≡ low_symbol_in value role
+    given (PcrelLow label) role h = absurd (true≢false h)
+    given value role h = refl
+
+    at : (os : List Operand) → list_any (λ o. is_pcrel_low o.value) os ≡ false → None ≡ low_symbol_among os
+    at [] h = refl
+    at (o ∷ []) h = given o.value o.role (or_parts (is_pcrel_low o.value) false h).0
+    at (o ∷ p ∷ os) h = refl
+no_low_symbol b none = refl

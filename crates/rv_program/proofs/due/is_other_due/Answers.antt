@@ -1,0 +1,29 @@
+use Rattle.std.proofs.Common.{◌≡◌, Some, None, ap, sym, ◌∙◌}
+use Rattle.std.specs.Option.{option_map}
+use Rattle.rv_program.specs.internal.Before.{base_before, lines_before, edit_on}
+use Rattle.rv_program.specs.Changes.{program_after}
+use Rattle.rv_program.specs.Jumps.{target_of}
+use Rattle.rv_program.specs.Pairs.{low_symbol_of}
+use Rattle.rv_program.specs.Program.{program_of, body_at}
+use Rattle.rv_program.specs.Uses.{is_equ}
+use Rattle.rv_program.proofs.DueLines.{due-low, due-other}
+use Rattle.rv_program.proofs.due.is_other_due.Goals as goal
+
+pub returns-in-Some : goal.returns-in-Some
+returns-in-Some c =
+    let before = c.args.before.now in
+    let low = sym c.low_symbol_on.ensures ∙ ap (option_map (λ n. n.now)) c.in-Some.is in
+    c.is_low_due.ensures
+    ∙ due-low (base_before before) (lines_before before) (edit_on before) c.args.line c.in-Some.name.now
+    (ap (λ lines. low_symbol_of (body_at (program_of lines) c.args.line)) (sym c.requires.after.lines) ∙ low)
+
+pub returns-in-None : goal.returns-in-None
+returns-in-None c =
+    let before = c.args.before.now in
+    let edited = ap program_of (sym c.requires.after.lines) in
+    let low = sym c.low_symbol_on.ensures ∙ ap (option_map (λ n. n.now)) c.in-None.is in
+    c.is_invalidated.ensures
+    ∙ due-other (base_before before) (lines_before before) (edit_on before) c.args.line
+    (ap (λ p. is_equ (body_at p c.args.line)) edited ∙ c.requires.equ)
+    (ap (λ p. target_of (body_at p c.args.line)) edited ∙ c.requires.jump)
+    (ap (λ p. low_symbol_of (body_at p c.args.line)) edited ∙ low)
