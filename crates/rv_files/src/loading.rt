@@ -9,34 +9,32 @@ ghost use Rattle.rv_files.specs.declared.limits.LoadError.TheVariants.{Memory};
 
 use crate::limits::{LoadError, check_limits};
 use crate::lines::Lines;
-use rv_store::{EditError, MAX_LINES, Store};
+use rv_store::{Draft, EditError, MAX_LINES, Store};
 use rv_text::Tally;
 use std::alloc::Global;
 
 // Puts a line at the end of a text. Where there is no memory for that, the text stays.
-fn append(store: &mut Store, line: &[u8]) -> Result<(), LoadError>
-    requires few { length store.old.lines < MAX_LINES }
+fn append(draft: &mut Draft, line: &[u8]) -> Result<(), LoadError>
+    requires few { length draft.old.lines < MAX_LINES }
     requires line { is_line line.now ≡ true }
-    ensures ok { OnOk result (store.new ≡ record { base = store.old.base; lines = store.old.lines ++ line.now ∷ [] }) }
+    ensures ok { OnOk result (draft.new ≡ record { base = draft.old.base; lines = draft.old.lines ++ line.now ∷ [] }) }
     ensures memory { IfErr result (λ e. e ≡ Memory) }
 {
-    let mut counter = Tally::new();
-    let number = store.len() as u32 + 1;
-    match store.insert(number, line, &mut counter) {
-        Ok(_) => Ok(()),
+    match draft.push(line, &mut Tally::new()) {
+        Ok(()) => Ok(()),
         Err(EditError::Memory) => Err(LoadError::Memory),
         Err(_) => unreachable!(),
     }
 }
 
 // Puts lines at the end of a text, none of which is past a limit.
-fn append_all(store: &mut Store, mut lines: Lines<'_>) -> Result<(), LoadError>
-    requires { refusal_from (length store.old.lines + 1) lines ≡ None }
-    ensures ok { OnOk result (store.new ≡ record { base = store.old.base; lines = store.old.lines ++ lines.entry }) }
+fn append_all(draft: &mut Draft, mut lines: Lines<'_>) -> Result<(), LoadError>
+    requires { refusal_from (length draft.old.lines + 1) lines ≡ None }
+    ensures ok { OnOk result (draft.new ≡ record { base = draft.old.base; lines = draft.old.lines ++ lines.entry }) }
     ensures memory { IfErr result (λ e. e ≡ Memory) }
 {
     'lines: while let Some(line) = lines.next_line() {
-        append(store, line)?;
+        append(draft, line)?;
     }
     Ok(())
 }
@@ -54,9 +52,12 @@ pub fn load(alloc: Global, base: u32, file: &[u8]) -> Result<Store, LoadError>
     ensures err { IfErr result (λ e. e ≡ unwrap_or (load_refusal file.now) Memory) }
 {
     check_limits(file)?;
-    let Ok(mut store) = Store::new(alloc, base) else {
+    let Ok(mut draft) = Draft::new(alloc, base) else {
         unreachable!()
     };
-    append_all(&mut store, Lines::new(file))?;
-    Ok(store)
+    append_all(&mut draft, Lines::new(file))?;
+    match Store::of_draft(draft, &mut Tally::new()) {
+        Ok(store) => Ok(store),
+        Err(_) => Err(LoadError::Memory),
+    }
 }

@@ -5,9 +5,9 @@ use Rattle.rv_files.proofs.loading.append_all.Given as goal
 -- the lines so far are in the text, and none of the others is past a limit
 abbrev pub invariant-lines : goal.invariant-lines
 invariant-lines l = record {
-  base : l.store.base ≡ l.fn.store.base;
-  whole : l.store.lines ++ l.lines ≡ l.fn.store.lines ++ l.initial.lines;
-  left : refusal_from (length l.store.lines + 1) l.lines ≡ None;
+  base : l.draft.base ≡ l.fn.draft.base;
+  whole : l.draft.lines ++ l.lines ≡ l.fn.draft.lines ++ l.initial.lines;
+  left : refusal_from (length l.draft.lines + 1) l.lines ≡ None;
 }
 
 abbrev pub decreases-lines : goal.decreases-lines
