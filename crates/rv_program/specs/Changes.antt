@@ -9,7 +9,7 @@ use Rattle.rv_program.specs.Constants.{constant_of}
 use Rattle.rv_program.specs.Edits.{line_before_edit}
 use Rattle.rv_program.specs.Jumps.{target_of}
 use Rattle.rv_program.specs.Layout.{shape_at, section_at, address_at}
-use Rattle.rv_program.specs.Pairs.{low_symbol_of}
+use Rattle.rv_program.specs.Pairs.{low_symbol_of, is_high_alone}
 use Rattle.rv_program.specs.Program.{Program, program_of, body_at, lines_that}
 use Rattle.rv_program.specs.References.{reference_of}
 use Rattle.rv_program.specs.Sameness.{same_section, same_shape, same_constant, same_entry, same_values, same_code}
@@ -91,9 +91,9 @@ reencoded_lines base lines edit = lines_that (is_reencoded base lines edit) (len
 -- Due lines: what is kept of them may be other than it was, so it is made anew
 
 -- the values of such a line are compared before they are computed: an `.equ` has that of its symbol, a jump the distance of
--- its target, and a line with `%pcrel_lo` of a symbol alone what that gives
+-- its target, and a line with `%pcrel_hi`, or `%pcrel_lo` of a symbol, alone what that gives
 abbrev pub is_compared : Body → Bool
-is_compared body = is_equ body || is_some (target_of body) || is_some (low_symbol_of body)
+is_compared body = is_equ body || is_some (target_of body) || is_some (low_symbol_of body) || is_high_alone body
 
 -- a line that is compared is due only where its values differ
 abbrev pub is_due : (base : ℕ) → (lines : List (List ℕ)) → Edit → (k : ℕ) → Bool

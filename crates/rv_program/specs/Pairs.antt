@@ -1,5 +1,5 @@
 -- The high halves that `%pcrel_lo` belongs to. (docs/LANGUAGE.md, Pairs of halves)
-use Rattle.std.specs.Prelude.{ℕ, ◌-◌, ◌==◌, Bool, not, ◌&&◌, List, [], ◌∷◌, length, Option, Some, None, Ok, Err}
+use Rattle.std.specs.Prelude.{ℕ, ◌-◌, ◌==◌, Bool, true, false, not, ◌&&◌, List, [], ◌∷◌, length, Option, Some, None, Ok, Err}
 use Rattle.rv_expr.specs.declared.faults.ValueFault.TheVariants.{NoPartner}
 use Rattle.rv_expr.specs.declared.tree.LabelReference.TheVariants as reference
 use Rattle.rv_expr.specs.Tree.{Tree}
@@ -14,7 +14,7 @@ use Rattle.rv_stmt.specs.declared.operand.Role.TheVariants.{Immediate}
 use Rattle.rv_stmt.specs.declared.statement.Body.{Body}
 use Rattle.rv_stmt.specs.declared.statement.Body.TheVariants.{Instr}
 use Rattle.rv_stmt.specs.Readings.{and_then}
-use Rattle.rv_stmt.specs.ValueParts.{low_part}
+use Rattle.rv_stmt.specs.ValueParts.{high_part, low_part}
 use Rattle.rv_layout.specs.Sections.{section_number}
 use Rattle.rv_fix.specs.Displacements.{displacement}
 use Rattle.rv_fix.specs.Values.{Entry}
@@ -64,6 +64,25 @@ paired_high_of base program i =
 -- what names give on line i
 abbrev pub names_at : (base : ℕ) → Program → (i : ℕ) → Environment
 names_at base program i = names_on base program i (reference_of base program i) (paired_high_of base program)
+
+-- Lines of which `%pcrel_hi` is the only operand
+
+abbrev pub is_high_in : OperandValue → Role → Bool
+is_high_in (PcrelHigh e) Immediate = true
+is_high_in value role = false
+
+abbrev pub is_high_among : Op → List Operand → Bool
+is_high_among Auipc (o ∷ []) = is_high_in o.value o.role
+is_high_among op os = false
+
+-- a line is one
+abbrev pub is_high_alone : Body → Bool
+is_high_alone (Instr i) = is_high_among i.op i.operands
+is_high_alone body = false
+
+-- what `%pcrel_hi` gives, by its high half
+abbrev pub upper_by : (high : Entry) → Entry
+upper_by high = and_then high (λ v. Ok (high_part v))
 
 -- Lines of which `%pcrel_lo` of a symbol is the only operand
 

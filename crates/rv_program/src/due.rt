@@ -11,7 +11,7 @@ ghost use Rattle.rv_program.specs.Counted.{counts_of};
 ghost use Rattle.rv_program.specs.internal.Differing.{HasDiffering, HasDueGroups};
 ghost use Rattle.rv_program.specs.internal.LinesWithout.{AreOthers};
 ghost use Rattle.rv_program.specs.Jumps.{target_of};
-ghost use Rattle.rv_program.specs.Pairs.{low_symbol_of};
+ghost use Rattle.rv_program.specs.Pairs.{low_symbol_of, is_high_alone};
 ghost use Rattle.rv_program.specs.Program.{statement_at, body_at};
 ghost use Rattle.rv_program.specs.Sameness.{same_values};
 ghost use Rattle.rv_program.specs.internal.Revisions.{edited_before, AreDue};
@@ -22,6 +22,7 @@ ghost use Rattle.rv_program.specs.Uses.{is_equ};
 use crate::before::Before;
 use crate::brief::Brief;
 use crate::groups::{Groups, Kind};
+use crate::highs::upper_by;
 use crate::invalidation::{is_invalidated, may_be_invalidated};
 use crate::jumps::{differs_in_distance, differs_in_local_distance, rise};
 use crate::line::Line;
@@ -29,10 +30,11 @@ use crate::line_values::symbol_value;
 use crate::lines_of_kind::lines_up_to_groups;
 use crate::lows::differs_in_low;
 use crate::name_set::NameSet;
+use crate::pairs::high_in;
 use crate::symbol_rows::SymbolRows;
-use crate::text_lines::{equ_on, low_symbol_on, target_on};
+use crate::text_lines::{equ_on, is_high_alone_on, low_symbol_on, target_on};
 use rv_expr::{Expr, Node};
-use rv_fix::Entry;
+use rv_fix::{Entry, is_same_entry};
 use rv_stmt::Definition;
 use rv_text::Count;
 use std::alloc::{AllocError, Global};
@@ -143,6 +145,23 @@ fn is_low_due(
     differs_in_low(&before.symbols, before.highs, after, highs, name)
 }
 
+// Whether a line of which `%pcrel_hi` is the only operand is due: it is new, or that gives something else than it gave.
+fn is_high_due(before: &Before<'_, '_>, after: &SymbolRows<'_>, highs: &[Entry], line: u32) -> bool
+    requires before { IsBefore before.now }
+    requires after { IsAfter before.now after.now.text }
+    requires highs { AreHighsIn after.now.text highs.now }
+    requires first { 1 ≤ line }
+    requires last { line ≤ length after.now.text.lines.now }
+    requires high { is_high_alone (body_at (program_in after.now.text) line) ≡ true }
+    ensures { result ≡ is_reencoded (base_before before.now) (lines_before before.now) (edit_on before.now) line }
+{
+    let Some(stood) = before.edit.line_before(line) else {
+        return true;
+    };
+    let upper = upper_by(high_in(highs, line as usize));
+    !is_same_entry(upper, upper_by(high_in(before.highs, stood as usize)))
+}
+
 // Whether a line that is no `.equ` and no jump is due.
 fn is_other_due(
     before: &Before<'_, '_>,
@@ -162,10 +181,13 @@ fn is_other_due(
     requires jump { target_of (body_at (program_in after.now.text) line) ≡ None }
     ensures { result ≡ is_due (base_before before.now) (lines_before before.now) (edit_on before.now) line }
 {
-    match low_symbol_on(&after.text, line) {
-        Some(name) => is_low_due(before, after, highs, name, line),
-        None => is_invalidated(before, after, differing, line),
+    if let Some(name) = low_symbol_on(&after.text, line) {
+        return is_low_due(before, after, highs, name, line);
     }
+    if is_high_alone_on(&after.text, line) {
+        return is_high_due(before, after, highs, line);
+    }
+    is_invalidated(before, after, differing, line)
 }
 
 // Whether a line of the text after an edit is due. `differing` has each symbol that differs on one of the lines.

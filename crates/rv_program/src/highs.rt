@@ -9,7 +9,8 @@ ghost use Rattle.rv_program.specs.internal.Before.{IsBefore, IsAfter, base_befor
 ghost use Rattle.rv_program.specs.Changes.{is_invalidated};
 ghost use Rattle.rv_program.specs.internal.Differing.{HasDiffering};
 ghost use Rattle.rv_program.specs.Layout.{size_at};
-ghost use Rattle.rv_program.specs.Pairs.{pcrel_high_of, high_by, high_at};
+ghost use Rattle.rv_ops.specs.declared.op.Op.TheVariants.{Auipc};
+ghost use Rattle.rv_program.specs.Pairs.{is_high_among, is_high_alone, upper_by, pcrel_high_of, high_by, high_at};
 ghost use Rattle.rv_program.specs.Program.{body_at};
 ghost use Rattle.rv_program.specs.internal.Rows.{own_high_of, AreOwnHighs, AreHighs};
 ghost use Rattle.rv_program.specs.internal.SymbolRows.{AreSymbolRows};
@@ -30,7 +31,7 @@ use crate::text_rows::TextRows;
 use rv_expr::{Expr, Names, ValueFault, value};
 use rv_fix::{Entry, displacement};
 use rv_ops::Op;
-use rv_stmt::{Body, OperandValue};
+use rv_stmt::{Body, Operand, OperandValue, Role, high_part};
 use rv_text::Count;
 use std::alloc::{AllocError, Global};
 
@@ -51,6 +52,37 @@ pub fn pcrel_high(body: &Body) -> Option<&Expr>
         OperandValue::PcrelHigh(expression) => Some(expression),
         _ => None,
     }
+}
+
+/// Whether `%pcrel_hi` is the only operand of an `auipc`.
+pub fn is_high_alone(body: &Body) -> bool
+    ensures { result ≡ is_high_alone body.now }
+{
+    let Body::Instr(instruction) = body else {
+        return false;
+    };
+    instruction.op == Op::Auipc && is_high_among(instruction.operands.as_slice())
+}
+
+// Whether there is one operand, which is `%pcrel_hi`.
+fn is_high_among(operands: &[Operand]) -> bool
+    ensures { result ≡ is_high_among Auipc operands.now }
+{
+    let [operand] = operands else {
+        return false;
+    };
+    let Role::Immediate = operand.role else {
+        return false;
+    };
+    matches!(&operand.value, OperandValue::PcrelHigh(_))
+}
+
+/// What `%pcrel_hi` gives, by its high half.
+pub fn upper_by(high: Entry) -> Entry
+    ensures { result ≡ upper_by high }
+{
+    let high = high?;
+    Ok(i64::from(high_part(high)))
 }
 
 // The value of that expression less the address of its line.

@@ -7,12 +7,13 @@ ghost use Rattle.rv_program.specs.Jumps.{target_of};
 ghost use Rattle.rv_program.specs.Layout.{place_at};
 ghost use Rattle.rv_stmt.specs.declared.statement.Body.TheVariants.{Equ as EquBody};
 ghost use Rattle.rv_stmt.specs.Statement.{operands_of};
-ghost use Rattle.rv_program.specs.Pairs.{low_symbol_of};
+ghost use Rattle.rv_program.specs.Pairs.{low_symbol_of, is_high_alone};
 ghost use Rattle.rv_program.specs.Program.{statement_at, body_at};
 ghost use Rattle.rv_program.specs.internal.TextRows.{AreTextRows, program_in};
 ghost use Rattle.rv_program.specs.Uses.{is_equ};
 
 use crate::brief::Brief;
+use crate::highs::is_high_alone;
 use crate::jumps::target;
 use crate::lows::low_symbol;
 use crate::text_rows::TextRows;
@@ -81,6 +82,19 @@ pub fn low_symbol_on<'a>(text: &TextRows<'a>, line: u32) -> Option<&'a [u8]>
         return None;
     }
     low_symbol(&statement_on(text, line).body)
+}
+
+/// Whether `%pcrel_hi` is the only operand of a line. Other lines are gone past without a look at their statements.
+#[tactic(auto, using(crate::specs::lemmas::TextLines::not_alone))]
+pub fn is_high_alone_on(text: &TextRows<'_>, line: u32) -> bool
+    requires first { 1 ≤ line }
+    requires last { line ≤ length text.now.lines.now }
+    ensures { result ≡ is_high_alone (body_at (program_in text.now) line) }
+{
+    if !brief_on(text, line).pcrel_high {
+        return false;
+    }
+    is_high_alone(&statement_on(text, line).body)
 }
 
 /// A line has at most 1,000 operands.

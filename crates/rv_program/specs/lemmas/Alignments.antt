@@ -50,7 +50,7 @@ size-follows base end end' zero x y m limited same = ap (λ n. size_at n m) (ome
 size-follows base end end' (suc t) x y m limited same =
     size-in_section (base_from base end (suc t)) (base_from base end' (suc t)) x y m limited (base_from-whole base end t) (base_from-whole base end' t) same
 
-shape-in_row : (program : Program) (i : ℕ) → 1 ≤ i → i ≤ length program → get_or (shapes_of program) (i - 1) Nothing ≡ shape_at program i
+pub shape-in_row : (program : Program) (i : ℕ) → 1 ≤ i → i ≤ length program → get_or (shapes_of program) (i - 1) Nothing ≡ shape_at program i
 shape-in_row program i first last =
     let next : suc (i - 1) ≡ i = omega (arith, first) in
     at-for_lines (shape_at program) (length program) (i - 1) Nothing (omega (arith, first, last)) ∙ ap (shape_at program) next

@@ -5,10 +5,12 @@ use Rattle.std.specs.Option.{is_some}
 use Rattle.std.proofs.lemmas.Bool.{leb-true, or_parts}
 use Rattle.std.proofs.lemmas.List.{get_or-map}
 use Rattle.rv_expr.specs.Tree.{Tree}
+use Rattle.rv_ops.specs.declared.op.Op.{Op}
+use Rattle.rv_ops.specs.declared.op.Op.TheVariants.{Auipc}
 use Rattle.rv_stmt.specs.declared.directive.Definition.{Definition}
 use Rattle.rv_stmt.specs.declared.operand.Operand.{Operand}
 use Rattle.rv_stmt.specs.declared.operand.OperandValue.{OperandValue}
-use Rattle.rv_stmt.specs.declared.operand.OperandValue.TheVariants.{PcrelLow}
+use Rattle.rv_stmt.specs.declared.operand.OperandValue.TheVariants.{PcrelHigh, PcrelLow}
 use Rattle.rv_stmt.specs.declared.operand.Role.{Role}
 use Rattle.rv_stmt.specs.declared.statement.Body.{Body}
 use Rattle.rv_stmt.specs.declared.statement.Body.TheVariants.{Equ, Instr}
@@ -17,7 +19,7 @@ use Rattle.rv_list.specs.declared.view.LinePlace.{LinePlace}
 use Rattle.rv_layout.specs.declared.measured.Measured.{Measured}
 use Rattle.rv_program.specs.Jumps.{target_of}
 use Rattle.rv_program.specs.Layout.{shape_at, place_at}
-use Rattle.rv_program.specs.Pairs.{low_symbol_in, low_symbol_among, low_symbol_of}
+use Rattle.rv_program.specs.Pairs.{pcrel_high_value, pcrel_high_operand, pcrel_high_of, is_high_in, is_high_among, is_high_alone, low_symbol_in, low_symbol_among, low_symbol_of}
 use Rattle.rv_program.specs.Program.{program_of, no_statement, statement_at, body_at}
 use Rattle.rv_program.specs.internal.Rows.{AreShapes, ArePlaces}
 use Rattle.rv_program.specs.Text.{is_line}
@@ -93,3 +95,16 @@ no_low_symbol (Instr i) none = at i.operands (or_parts (uses_local_label (Instr 
     at (o ∷ []) h = given o.value o.role (or_parts (is_pcrel_low o.value) false h).0
     at (o ∷ p ∷ os) h = refl
 no_low_symbol b none = refl
+
+-- a line that is no `auipc` with `%pcrel_hi` is none
+pub not_alone : (b : Body) → is_some (pcrel_high_of b) ≡ false → false ≡ is_high_alone b
+not_alone (Instr i) none = at i.op i.operands none
+  where
+    given : (value : OperandValue) (role : Role) → is_some (pcrel_high_value value) ≡ false → false ≡ is_high_in value role
+    given (PcrelHigh e) role h = absurd (true≢false h)
+    given value role h = refl
+
+    at : (op : Op) (os : List Operand) → is_some (pcrel_high_operand op os) ≡ false → false ≡ is_high_among op os
+    at Auipc (o ∷ []) h = given o.value o.role h
+    at op os h = refl
+not_alone b none = refl
