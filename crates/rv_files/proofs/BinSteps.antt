@@ -1,19 +1,12 @@
 -- The bytes of segments, one after another.
 use Rattle.std.proofs.Common.{◌≡◌, ℕ, ◌+◌, ◌-◌, ◌<◌, ◌≤◌, List, ◌++◌, length, take, drop, get_or, ap, sym, ◌∙◌, arith}
-use Rattle.std.specs.Prelude.{Option, Result, replicate}
-use Rattle.std.proofs.lemmas.List.{replicate-append-replicate}
+use Rattle.std.specs.Prelude.{Option, Result}
 use Rattle.rv_text.specs.Streams.{Writes}
 use Rattle.rv_text.specs.StreamLaws.{writes_then}
 use Rattle.rv_files.specs.Bin.{bin_bytes, bytes_up_to, end_of}
 use Rattle.rv_files.specs.Segments.{Segment}
 use Rattle.rv_files.proofs.Partly.{Partly}
 use Rattle.rv_text.specs.SliceLaws.{first_and_rest}
-
--- sixty-four zeros, and the others
-pub next_zeros : (left : ℕ) → 64 < left → replicate {A = ℕ} left 0 ≡ replicate {A = ℕ} 64 0 ++ replicate (left - 64) 0
-next_zeros left more =
-    let count : 64 + (left - 64) ≡ left = omega (arith, more) in
-    sym (replicate-append-replicate {A = ℕ} 64 (left - 64) 0 ∙ ap (λ n. replicate {A = ℕ} n 0) count)
 
 -- the first segment, and the others
 pub next_bin : (at : ℕ) (ss : List Segment) (s : Segment) → 1 ≤ length ss → s ≡ get_or ss 0 s → bin_bytes at ss ≡ bytes_up_to at s ++ bin_bytes (end_of at s) (take (length ss - 1) (drop 1 ss))

@@ -1,5 +1,5 @@
 -- The rows of segments, one after another.
-use Rattle.std.proofs.Common.{◌≡◌, ℕ, suc, ◌+◌, ◌-◌, ◌%◌, ◌^◌, ◌<◌, ◌≤◌, List, [], ◌∷◌, ◌++◌, length, take, drop, get_or, refl, ap, sym, ◌∙◌, arith, append_assoc}
+use Rattle.std.proofs.Common.{◌≡◌, ℕ, zero, suc, ◌+◌, ◌-◌, ◌%◌, ◌^◌, ◌<◌, ◌≤◌, List, [], ◌∷◌, ◌++◌, length, take, drop, get_or, refl, ap, sym, ◌∙◌, arith, append_assoc}
 use Rattle.std.proofs.lemmas.List.{append-nil, length-drop}
 use Rattle.std.proofs.lemmas.Grind.{flat_map-append}
 use Rattle.std.specs.List.{flat_map}
@@ -8,10 +8,11 @@ use Rattle.rv_text.specs.SliceLaws.{first_and_rest}
 use Rattle.rv_files.specs.Hex.{Stretch, record_text, upper_of, upper_records, upper_after, data_records, data_record, start_record, end_record, stretches, stretches_of, row_count, hex_text}
 
 -- one more stretch of sixteen bytes
-pub next_stretch : (address : ℕ) (bytes : List ℕ) → 0 < length bytes → stretches address bytes (row_count (length bytes)) ≡ record { address = address; bytes = take 16 bytes } ∷ stretches ((address + 16) % 2 ^ 32) (drop 16 bytes) (row_count (length (drop 16 bytes)))
-next_stretch address bytes some =
-    let count : row_count (length bytes) ≡ suc (row_count (length (drop 16 bytes))) = omega (arith, some, length-drop 16 bytes) in
-    rw count refl
+pub next_stretch : (address : ℕ) (bytes : List ℕ) (count : ℕ) → 0 < count → stretches address bytes count ≡ record { address = address; bytes = take 16 bytes } ∷ stretches ((address + 16) % 2 ^ 32) (drop 16 bytes) (count - 1)
+next_stretch address bytes zero some = absurd (omega arith)
+next_stretch address bytes (suc count) some =
+    let fewer : count ≡ suc count - 1 = omega arith in
+    ap (λ n. record { address = address; bytes = take 16 bytes } ∷ stretches ((address + 16) % 2 ^ 32) (drop 16 bytes) n) fewer
 
 -- the records of some stretches, and of others after them
 pub records_then : (upper : ℕ) (xs ys : List Stretch) → data_records upper (xs ++ ys) ≡ data_records upper xs ++ data_records (upper_after upper xs) ys
@@ -36,10 +37,10 @@ stretch_rows upper s =
     ∙ ap (λ l. flat_map record_text (upper_records upper (upper_of s.address)) ++ l) (append-nil (record_text (data_record s)))
 
 -- the rows of the next stretch, and of the others
-pub next_rows : (upper address : ℕ) (bytes : List ℕ) → 0 < length bytes → rows_of upper (stretches address bytes (row_count (length bytes))) ≡ rows_of upper (record { address = address; bytes = take 16 bytes } ∷ []) ++ rows_of (upper_of address) (stretches ((address + 16) % 2 ^ 32) (drop 16 bytes) (row_count (length (drop 16 bytes))))
-next_rows upper address bytes some =
-    ap (rows_of upper) (next_stretch address bytes some)
-    ∙ rows_then upper (record { address = address; bytes = take 16 bytes } ∷ []) (stretches ((address + 16) % 2 ^ 32) (drop 16 bytes) (row_count (length (drop 16 bytes))))
+pub next_rows : (upper address : ℕ) (bytes : List ℕ) (count : ℕ) → 0 < count → rows_of upper (stretches address bytes count) ≡ rows_of upper (record { address = address; bytes = take 16 bytes } ∷ []) ++ rows_of (upper_of address) (stretches ((address + 16) % 2 ^ 32) (drop 16 bytes) (count - 1))
+next_rows upper address bytes count some =
+    ap (rows_of upper) (next_stretch address bytes count some)
+    ∙ rows_then upper (record { address = address; bytes = take 16 bytes } ∷ []) (stretches ((address + 16) % 2 ^ 32) (drop 16 bytes) (count - 1))
 
 -- the rows of the next segment, and of the others
 pub next_segment : (upper : ℕ) (ss : List Segment) (s : Segment) → 1 ≤ length ss → s ≡ get_or ss 0 s → rows_of upper (flat_map stretches_of ss) ≡ rows_of upper (stretches_of s) ++ rows_of (upper_after upper (stretches_of s)) (flat_map stretches_of (take (length ss - 1) (drop 1 ss)))

@@ -11,6 +11,7 @@ pub mod LineLaw
 pub mod LoadedCells
 pub mod OddAddresses
 pub mod Partly
+pub mod PieceLists
 pub mod BinLaw
 pub mod BinSteps
 pub mod Reports

@@ -8,6 +8,7 @@ pub mod LineMarks
 pub mod Lines
 pub mod Loading
 pub mod OddAddresses
+pub mod Pieces
 pub mod Segments
 pub mod Symbols
 pub mod TextLimits

@@ -4,26 +4,9 @@ ghost use Rattle.std.specs.Prelude.{◌≡◌, ◌+◌, ◌-◌, ◌^◌, ◌<�
 ghost use Rattle.rv_text.specs.Streams.{failures_after, Writes};
 ghost use Rattle.rv_files.specs.Bin.{bin_bytes, bytes_up_to, end_of};
 
+use crate::repeated::write_repeated;
 use crate::segment::Segment;
-use rv_text::{Failed, Sink, write_all};
-
-// As many zeros as one call writes.
-const ZEROS: [u8; 64] = [0; 64];
-
-// Writes zeros.
-fn write_zeros<W: Sink>(sink: &mut W, count: u64) -> Result<(), Failed>
-    requires { W.failures sink.old < 2 ^ 64 - 1 }
-    ensures text { Writes (W.taken sink.old) (replicate count 0) result (W.taken sink.new) }
-    ensures count { W.failures sink.new ≡ failures_after (W.failures sink.old) result }
-{
-    let mut left = count;
-    'zeros: while left > 64 {
-        write_all(sink, &ZEROS)?;
-        left -= 64;
-    }
-    let (zeros, _) = ZEROS.split_at(left as usize);
-    write_all(sink, zeros)
-}
+use rv_text::{Failed, Sink};
 
 // Writes zeros from an address up to a segment, and then its bytes. Says at which address they end.
 fn write_bytes<W: Sink>(sink: &mut W, at: u64, segment: &Segment) -> Result<u64, Failed>
@@ -34,8 +17,8 @@ fn write_bytes<W: Sink>(sink: &mut W, at: u64, segment: &Segment) -> Result<u64,
 {
     let address = u64::from(segment.address());
     let bytes = segment.bytes();
-    write_zeros(sink, address.saturating_sub(at))?;
-    write_all(sink, bytes)?;
+    write_repeated(sink, 0, address.saturating_sub(at))?;
+    bytes.write(sink)?;
     Ok(address + bytes.len() as u64)
 }
 

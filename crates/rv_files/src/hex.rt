@@ -126,13 +126,15 @@ fn push_segment<W: Sink>(
 {
     let mut upper = before;
     let mut address = segment.address();
-    let mut rest = segment.bytes();
-    'stretches: while !rest.is_empty() {
-        let (stretch, later) = rest.split_at(rest.len().min(16));
-        push_stretch(block, sink, upper, address, stretch)?;
+    let bytes = segment.bytes();
+    let mut left = bytes.left();
+    let mut rows = (bytes.len() + 15) / 16;
+    'stretches: while rows > 0 {
+        let stretch = left.next_row();
+        push_stretch(block, sink, upper, address, stretch.as_slice())?;
         upper = (address >> 16) as u16;
         address = address.wrapping_add(16);
-        rest = later;
+        rows -= 1;
     }
     Ok(upper)
 }

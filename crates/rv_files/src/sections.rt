@@ -5,8 +5,9 @@ ghost use Rattle.rv_layout.specs.Sections.{sections};
 ghost use Rattle.rv_files.specs.Segments.{AreBytes, HoldBytes, segment_at, segments_of, unless_empty};
 
 use crate::segment::Segment;
+use crate::segment_bytes::SegmentBytes;
 use rv_layout::{SECTIONS, section_number};
-use rv_list::{View, section_bytes};
+use rv_list::View;
 use rv_stmt::Sect;
 use std::alloc::{AllocError, Global};
 
@@ -18,10 +19,10 @@ fn segment_at<V: View>(alloc: Global, view: &V, section: usize) -> Result<Segmen
 {
     let place = view.section(section);
     if section == section_number(Sect::Bss) {
-        let none = Vec::new(alloc);
+        let none = SegmentBytes::new(alloc);
         return Ok(Segment::new(section, place.base, none, place.size));
     }
-    let bytes = section_bytes(alloc, view, section)?;
+    let bytes = SegmentBytes::of_section(alloc, view, section)?;
     Ok(Segment::new(section, place.base, bytes, 0))
 }
 

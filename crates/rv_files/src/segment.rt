@@ -3,6 +3,7 @@
 ghost use Rattle.std.specs.Prelude.{◌≡◌, ◌+◌, ◌==◌, length};
 ghost use Rattle.rv_files.specs.Segments.{AreBytes};
 
+use crate::segment_bytes::SegmentBytes;
 use std::marker::Model;
 
 /// What is loaded of a section: its number, its address, its bytes, and how many zeros come after them. Contracts see all of it.
@@ -10,7 +11,7 @@ use std::marker::Model;
 pub struct Segment {
     section: usize,
     address: u32,
-    bytes: Vec<u8>,
+    bytes: SegmentBytes,
     zeros: u32,
 }
 
@@ -19,13 +20,13 @@ impl Model for Segment {
 
     ghost Value = { Segment };
 
-    ghost view = { λ s. record { section = s.section; address = s.address; bytes = s.bytes.items; zeros = s.zeros } };
+    ghost view = { λ s. record { section = s.section; address = s.address; bytes = s.bytes; zeros = s.zeros } };
 }
 
 impl Segment {
     /// These bytes of a section, from this address on, and after them so many zeros.
-    pub fn new(section: usize, address: u32, bytes: Vec<u8>, zeros: u32) -> Segment
-        ensures value { result ≡ record { section = section; address = address; bytes = bytes.items; zeros = zeros } }
+    pub fn new(section: usize, address: u32, bytes: SegmentBytes, zeros: u32) -> Segment
+        ensures value { result ≡ record { section = section; address = address; bytes = bytes; zeros = zeros } }
         ensures bytes { AreBytes result.bytes }
     {
         Segment {
@@ -51,10 +52,10 @@ impl Segment {
     }
 
     /// The bytes.
-    pub fn bytes(&self) -> &[u8]
+    pub fn bytes(&self) -> &SegmentBytes
         ensures { result.now ≡ self.now.bytes }
     {
-        self.bytes.as_slice()
+        &self.bytes
     }
 
     /// How many zeros come after the bytes.
