@@ -18,7 +18,7 @@ use list_call::bytes_of_section;
 use load_call::load;
 use statement_calls::{directive, expression, instruction, name};
 use std::alloc::Global;
-use text_calls::{items, sink, tokens_of_line};
+use text_calls::{items, room, sink, tokens_of_line};
 
 // Makes a call.
 fn make(alloc: Global, call: Call) -> Answer {
@@ -26,6 +26,7 @@ fn make(alloc: Global, call: Call) -> Answer {
         Call::Tokens => tokens_of_line(alloc),
         Call::Sink => sink(alloc),
         Call::Items => items(alloc),
+        Call::Room => room(alloc),
         Call::Name => name(alloc),
         Call::Expression => expression(alloc),
         Call::Instruction => instruction(alloc),

@@ -1,3 +1,4 @@
+pub mod Names
 pub mod Tree
 pub mod TreeCode
 pub mod Nodes

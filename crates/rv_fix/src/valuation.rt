@@ -153,7 +153,7 @@ fn entries<N: Names, C: Count>(
     ensures parsed { C.parsed_count counter.new ≡ C.parsed_count counter.old }
     ensures encoded { C.encoded_count counter.new ≡ C.encoded_count counter.old }
 {
-    let mut entries = Sequence::new(alloc);
+    let mut entries = Sequence::with_room(alloc, operands.len())?;
     while let [operand, rest @ ..] = operands {
         entries.push(entry(operand, names, here, counter))?;
         operands = rest;

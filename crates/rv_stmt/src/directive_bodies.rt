@@ -48,7 +48,7 @@ fn operand_in_role(alloc: Global, role: Role, run: &Run<'_>) -> Outcome<Operand>
 fn operands(alloc: Global, mut role: Role, mut runs: &[Run<'_>]) -> Outcome<Sequence<Operand>>
     ensures { IfOk result (λ r. r ≡ with_operands role runs.entry.now []) }
 {
-    let mut operands = Sequence::new(alloc);
+    let mut operands = Sequence::with_room(alloc, runs.len())?;
     while let [run, rest @ ..] = runs {
         match operand_in_role(alloc, role, run)? {
             Ok(operand) => operands.push(operand)?,

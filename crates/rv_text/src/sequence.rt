@@ -1,6 +1,6 @@
 //! Lists of values that a statement, a report or a table holds.
 
-ghost use Rattle.std.specs.Prelude.{◌≡◌, [], ◌∷◌, ◌++◌, take, OnOk, OnErr};
+ghost use Rattle.std.specs.Prelude.{◌≡◌, [], ◌∷◌, ◌++◌, take, IfOk, OnOk, OnErr};
 
 use std::alloc::{AllocError, Global};
 use std::marker::Model;
@@ -29,7 +29,19 @@ impl<T: Drop> Sequence<T> {
         }
     }
 
-    /// Appends a value.
+    /// An empty list with room for so many values.
+    ///
+    /// # Errors
+    ///
+    /// `AllocError` if there is no memory for them.
+    pub fn with_room(alloc: Global, count: usize) -> Result<Self, AllocError>
+        ensures { IfOk result (λ s. s ≡ []) }
+    {
+        let items = Vec::with_capacity(alloc, count)?;
+        Ok(Sequence { items })
+    }
+
+    /// Appends a value. Most lists have one value: the first takes no more room than it needs.
     ///
     /// # Errors
     ///
@@ -38,6 +50,9 @@ impl<T: Drop> Sequence<T> {
         ensures pushed { OnOk result (self.new ≡ self.old ++ item ∷ []) }
         ensures refused { OnErr result (self.new ≡ self.old) }
     {
+        if self.items.is_empty() {
+            self.items.reserve_exact(1)?;
+        }
         self.items.push(item)?;
         Ok(())
     }

@@ -8,6 +8,7 @@ pub enum Call {
     Tokens,
     Sink,
     Items,
+    Room,
     Name,
     Expression,
     Instruction,
@@ -27,10 +28,11 @@ pub enum Call {
 }
 
 /// The calls, by the names that the input gives them.
-pub const CALLS: [(&str, Call); 22] = [
+pub const CALLS: [(&str, Call); 23] = [
     ("tokens", Call::Tokens),
     ("sink", Call::Sink),
     ("items", Call::Items),
+    ("room", Call::Room),
     ("name", Call::Name),
     ("expression", Call::Expression),
     ("instruction", Call::Instruction),

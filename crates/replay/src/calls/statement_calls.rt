@@ -7,12 +7,25 @@ use rv_stmt::{
     read_line,
 };
 use rv_text::{Span, Tally, tokens};
-use std::alloc::Global;
+use std::alloc::{AllocError, Global};
 
-/// `Name::of` some bytes.
+// The longest name that is kept in place, and one that is longer.
+const NAMES: [&[u8]; 2] = [b"fourteen_bytes", b"fifteen_bytes__"];
+
+// `Name::of` some bytes.
+fn has_bytes(alloc: Global, bytes: &[u8]) -> Result<bool, AllocError> {
+    let name = Name::of(alloc, bytes)?;
+    Ok(name.bytes() == bytes)
+}
+
+/// `Name::of` a name that is kept in place, and of one that is not.
 pub fn name(alloc: Global) -> Answer {
-    match Name::of(alloc, b"symbol") {
-        Ok(name) => Answer::of(name.bytes() == b"symbol".as_slice()),
+    let [short, long] = NAMES;
+    let Ok(is_short) = has_bytes(alloc, short) else {
+        return Answer::Refused;
+    };
+    match has_bytes(alloc, long) {
+        Ok(is_long) => Answer::of(is_short && is_long),
         Err(_) => Answer::Refused,
     }
 }

@@ -31,6 +31,17 @@ fn push(list: &mut Sequence<u32>, item: u32, before: &[u32]) -> Answer {
     Answer::after_refusal(list.as_slice() == before && list.push(item).is_ok())
 }
 
+/// `Sequence::with_room`, and an item in that room.
+pub fn room(alloc: Global) -> Answer {
+    match Sequence::with_room(alloc, 2) {
+        Ok(mut list) => {
+            let is_pushed = list.push(7).is_ok();
+            Answer::of(is_pushed && list.as_slice() == [7].as_slice())
+        }
+        Err(_) => Answer::Refused,
+    }
+}
+
 /// `Sequence::push` of some items.
 pub fn items(alloc: Global) -> Answer {
     let mut list = Sequence::new(alloc);
