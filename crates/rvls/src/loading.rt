@@ -7,34 +7,33 @@ ghost use Rattle.rv_changes.specs.Assembled.{assembled, assembled_line};
 use crate::base::Base;
 use rv_changes::assembled_line;
 use rv_doc::Lines;
-use rv_store::{MAX_LINES, Store};
+use rv_store::{Draft, MAX_LINES, Store};
 use rv_text::Tally;
 use std::alloc::{AllocError, Global};
 
 // Puts a line at the end of a text.
-fn append(store: &mut Store, line: &[u8]) -> Result<(), AllocError>
-    requires few { length store.old.lines < MAX_LINES }
+fn append(draft: &mut Draft, line: &[u8]) -> Result<(), AllocError>
+    requires few { length draft.old.lines < MAX_LINES }
     requires unbroken { list_any (λ b. b == 10) line.now ≡ false }
-    ensures { OnOk result (store.new ≡ record { base = store.old.base; lines = store.old.lines ++ assembled_line line.now ∷ [] }) }
+    ensures { OnOk result (draft.new ≡ record { base = draft.old.base; lines = draft.old.lines ++ assembled_line line.now ∷ [] }) }
 {
-    let number = store.len() as u32 + 1;
-    match store.insert(number, assembled_line(line), &mut Tally::new()) {
-        Ok(_) => Ok(()),
+    match draft.push(assembled_line(line), &mut Tally::new()) {
+        Ok(()) => Ok(()),
         Err(_) => Err(AllocError),
     }
 }
 
 // Puts the first lines of a document at the end of a text, at most so many.
-fn append_first(store: &mut Store, mut lines: Lines<'_>, most: usize) -> Result<(), AllocError>
-    requires { length store.old.lines + most ≤ MAX_LINES }
-    ensures { OnOk result (store.new ≡ record { base = store.old.base; lines = store.old.lines ++ map assembled_line (take most lines.entry) }) }
+fn append_first(draft: &mut Draft, mut lines: Lines<'_>, most: usize) -> Result<(), AllocError>
+    requires { length draft.old.lines + most ≤ MAX_LINES }
+    ensures { OnOk result (draft.new ≡ record { base = draft.old.base; lines = draft.old.lines ++ map assembled_line (take most lines.entry) }) }
 {
     let mut left = most;
     'lines: while left > 0 {
         let Some(line) = lines.next_line() else {
             return Ok(());
         };
-        append(store, line)?;
+        append(draft, line)?;
         left -= 1;
     }
     Ok(())
@@ -48,9 +47,12 @@ fn append_first(store: &mut Store, mut lines: Lines<'_>, most: usize) -> Result<
 pub fn load(alloc: Global, base: Base, document: &[u8]) -> Result<Store, AllocError>
     ensures { IfOk result (λ store. store ≡ assembled base document.now) }
 {
-    let Ok(mut store) = Store::new(alloc, base.address()) else {
+    let Ok(mut draft) = Draft::new(alloc, base.address()) else {
         unreachable!()
     };
-    append_first(&mut store, Lines::new(document), MAX_LINES)?;
-    Ok(store)
+    append_first(&mut draft, Lines::new(document), MAX_LINES)?;
+    match Store::of_draft(draft, &mut Tally::new()) {
+        Ok(store) => Ok(store),
+        Err(_) => Err(AllocError),
+    }
 }

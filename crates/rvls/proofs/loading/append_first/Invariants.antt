@@ -6,9 +6,9 @@ use Rattle.rvls.proofs.loading.append_first.Given as goal
 -- the lines so far are in the text, and so many of the others belong there
 abbrev pub invariant-lines : goal.invariant-lines
 invariant-lines l = record {
-  base : l.store.base ≡ l.fn.store.base;
-  whole : l.store.lines ++ map assembled_line (take l.left l.lines) ≡ l.fn.store.lines ++ map assembled_line (take l.most l.initial.lines);
-  room : length l.store.lines + l.left ≤ MAX_LINES;
+  base : l.draft.base ≡ l.fn.draft.base;
+  whole : l.draft.lines ++ map assembled_line (take l.left l.lines) ≡ l.fn.draft.lines ++ map assembled_line (take l.most l.initial.lines);
+  room : length l.draft.lines + l.left ≤ MAX_LINES;
 }
 
 abbrev pub decreases-lines : goal.decreases-lines
