@@ -76,7 +76,7 @@ same-distance shift here there (Err fault) rises = refl
 
 -- The line
 
-moves-by : (base : ℕ) (lines : List (List ℕ)) (edit : Edit) (name : List ℕ) (shift : ℤ) (mark : Mark) → HasMoved mark → Tells base lines edit shift mark name → MovesBy base lines edit shift name
+pub moves-by : (base : ℕ) (lines : List (List ℕ)) (edit : Edit) (name : List ℕ) (shift : ℤ) (mark : Mark) → HasMoved mark → Tells base lines edit shift mark name → MovesBy base lines edit shift name
 moves-by base lines edit name shift Unknown moved tells = tells.1
 moves-by base lines edit name shift Same moved tells = absurd moved
 moves-by base lines edit name shift Moved moved tells = tells

@@ -7,6 +7,7 @@ pub mod DueLines
 pub mod FittingValues
 pub mod HighLaws
 pub mod HighRows
+pub mod KeptLows
 pub mod LinePairLaws
 pub mod LinesWithout
 pub mod ListedLines

@@ -1,5 +1,5 @@
 -- Lines that an edit does not invalidate, by their briefs.
-use Rattle.std.proofs.Common.{◌≡◌, ℕ, ◌+◌, ◌-◌, ◌%◌, ◌<◌, ◌≤◌, Bool, true, false, ◌&&◌, ◌||◌, List, [], length, map, get_or, Option, Some, None, arith, ap, sym, subst, ◌∙◌, refl}
+use Rattle.std.proofs.Common.{◌≡◌, ℕ, ◌+◌, ◌-◌, ◌%◌, ◌<◌, ◌≤◌, inr, Bool, true, false, not, ◌&&◌, ◌||◌, List, [], length, map, get_or, Option, Some, None, arith, ap, sym, subst, ◌∙◌, refl}
 use Rattle.std.specs.List.{list_any}
 use Rattle.std.proofs.lemmas.Bool.{and_right, or_parts}
 use Rattle.std.proofs.lemmas.List.{get_or_default, get_or-map}
@@ -14,9 +14,9 @@ use Rattle.rv_program.specs.declared.text_rows.TextRows.{TextRows}
 use Rattle.rv_program.specs.internal.Before.{IsBefore, IsAfter, AreStill, base_before, lines_before, edit_on}
 use Rattle.rv_program.specs.internal.Briefs.{brief_of, groups_on}
 use Rattle.rv_program.specs.Changes.{differs_in_name, differs_in_place, is_invalidated, is_due}
-use Rattle.rv_program.specs.internal.Differing.{HasDiffering, HasDueGroups}
+use Rattle.rv_program.specs.internal.Differing.{HasDiffering, HasLows, HaveSameLows, HasDueGroups}
 use Rattle.rv_program.specs.Edits.{line_before_edit, place_of_edit}
-use Rattle.rv_program.specs.internal.Groups.{no_groups, kind_bit, has_kind, SharesNone}
+use Rattle.rv_program.specs.internal.Groups.{no_groups, has_group, kind_bit, has_kind, SharesNone}
 use Rattle.rv_program.specs.internal.LinesWithout.{is_of_kind, AreOthers}
 use Rattle.rv_program.specs.internal.NameSets.{Marks, brief_of_names, has_bucket, may_have, IsOutside}
 use Rattle.rv_program.specs.Program.{Program, program_of, statement_at, body_at}
@@ -24,10 +24,12 @@ use Rattle.rv_program.specs.internal.TextRows.{program_in}
 use Rattle.rv_program.specs.Uses.{names_used, uses_address, uses_local_label, uses_paired_high, is_equ}
 use Rattle.rv_program.proofs.DifferingNames.{differing-on}
 use Rattle.rv_program.proofs.DueLines.{due-valid}
+use Rattle.rv_program.proofs.KeptLows.{kept-low}
 use Rattle.rv_program.proofs.LinePairLaws.{same-by_brief, invalidated-by_uses}
 use Rattle.rv_program.specs.lemmas.GroupLaws.{kind-below}
 use Rattle.rv_program.specs.lemmas.LineGroups.{count-groups, kind-on, unused-group}
 use Rattle.rv_program.specs.lemmas.LocalLines.{statement-of-line}
+use Rattle.rv_program.specs.lemmas.LowLines.{nothing-left}
 use Rattle.rv_program.specs.lemmas.NameSetLaws.{none-passes}
 use Rattle.rv_program.specs.lemmas.NewShapeLaws.{new-place}
 
@@ -65,14 +67,14 @@ module _ (before : Before) (after : TextRows) (line : ℕ) (is : IsBefore before
           ∙ same-by_brief (base_before before) old new line stood body names unmoved compared_body
 
   -- a line that stayed, and is in none of the groups of those that may be due
-  pub valid-by_groups : (text : List ℕ) → statement_at (program_in after) line ≡ statement_of text → (still : Bool) (wanted : Groups) → HasDueGroups set still wanted → SharesNone wanted (groups_on text) → (still ≡ true → AreStill before after) → (line_before_edit (edit_on before) line ≡ None → ⊥) → is_invalidated (base_before before) (lines_before before) (edit_on before) line ≡ false
-  valid-by_groups text statement still wanted due apart unmoved stays =
-      valid-by_brief stays (ap (λ b. b.uncompared) is_brief ∙ without Uncompared due.uncompared)
-      (λ bucket has. ap (λ b. may_have b.names bucket) is_brief ∙ unused-group text bucket (apart (bucket % 59) (omega arith) (due.names bucket has)))
-      (at still refl)
+  pub not_due-by_groups : (lows : Option Marks) → HasLows before after lows → (text : List ℕ) → statement_at (program_in after) line ≡ statement_of text → (still : Bool) (wanted : Groups) → HasDueGroups set lows still wanted → SharesNone wanted (groups_on text) → (still ≡ true → AreStill before after) → (line_before_edit (edit_on before) line ≡ None → ⊥) → is_due (base_before before) (lines_before before) (edit_on before) line ≡ false
+  not_due-by_groups lows has_lows text statement still wanted due apart unmoved stays = by_low brief.low refl
     where
       is_brief : brief ≡ brief_of (statement_of text)
       is_brief = of_line ∙ ap brief_of statement
+
+      unused : (names : Marks) → ((bucket : ℕ) → has_bucket names bucket ≡ true → has_group wanted bucket ≡ true) → IsOutside brief.names names
+      unused names groups bucket has = ap (λ b. may_have b.names bucket) is_brief ∙ unused-group text bucket (apart (bucket % 59) (omega arith) (groups bucket has))
 
       without : (kind : Kind) → has_kind wanted kind ≡ true → is_of_kind kind (statement_of text).body ≡ false
       without kind is = sym (kind-on text kind) ∙ apart (kind_bit kind) (kind-below kind) is
@@ -83,9 +85,22 @@ module _ (before : Before) (after : TextRows) (line : ℕ) (is : IsBefore before
           (ap (λ b. b.address) is_brief ∙ without Addressed (due.addressed moved))
       at true same stood stands = and_right brief.address _ (unmoved same line stood first last stands)
 
+      -- one that is found by its symbol, or by nothing of other lines
+      by_low : (low : Bool) → brief.low ≡ low → is_due (base_before before) (lines_before before) (edit_on before) line ≡ false
+      by_low true is_low = kept-low before after line is is_after first last set has lows has_lows brief of_line stays is_low (same lows refl)
+        where
+          same : (o : Option Marks) → lows ≡ o → HaveSameLows brief.names set o
+          same None e = inr (unused set due.names)
+          same (Some others) e = unused others (due.of_lows others e)
+      by_low false no_low =
+          let compared : brief.uncompared ≡ false =
+          nothing-left brief.uncompared brief.low (ap (λ b. b.uncompared && not b.low) is_brief ∙ without Uncompared due.uncompared) no_low in
+          let valid = valid-by_brief stays compared (unused set due.names) (at still refl) in
+          sym (due-valid (base_before before) (lines_before before) (edit_on before) line is.allowed first (subst (λ ls. line ≤ length ls) is_after.lines last) valid)
+
 -- Lines in none of the groups of those that may be due
 
-module _ (before : Before) (after : TextRows) (lines : List (List ℕ)) (groups : List Groups) (still : Bool) (wanted : Groups) (set : Marks) (is : IsBefore before) (is_after : IsAfter before after) (column : lines ≡ after.lines.now) (are : groups ≡ map groups_on lines) (unmoved : still ≡ true → AreStill before after) (has : HasDiffering (base_before before) (lines_before before) (edit_on before) set) (due : HasDueGroups set still wanted) where
+module _ (before : Before) (after : TextRows) (lines : List (List ℕ)) (groups : List Groups) (still : Bool) (wanted : Groups) (set : Marks) (lows : Option Marks) (is : IsBefore before) (is_after : IsAfter before after) (column : lines ≡ after.lines.now) (are : groups ≡ map groups_on lines) (unmoved : still ≡ true → AreStill before after) (has : HasDiffering (base_before before) (lines_before before) (edit_on before) set) (has_lows : HasLows before after lows) (due : HasDueGroups set lows still wanted) where
   -- none of them is due, but for the one that the edit puts in
   pub due-apart : (i j : ℕ) → j ≤ length groups → AreOthers groups wanted i j → ((k : ℕ) → i ≤ k → k < j → k + 1 ≡ place_of_edit (edit_on before) → ⊥) → (line : ℕ) → i < line → line ≤ j → is_due (base_before before) (lines_before before) (edit_on before) line ≡ false
   due-apart i j last others apart line past within =
@@ -100,7 +115,6 @@ module _ (before : Before) (after : TextRows) (lines : List (List ℕ)) (groups 
       ∙ ap (statement_at (program_of lines)) (sym next)
       ∙ statement-of-line lines k text few (get_or_default lines k [] text few) in
       let there : get_or groups k no_groups ≡ groups_on text = ap (λ gs. get_or gs k no_groups) are ∙ get_or-map groups_on lines k [] no_groups few in
-      let valid = valid-by_groups before after line is is_after first inside set has (brief_of (statement_at (program_in after) line)) refl text statement still wanted due
+      not_due-by_groups before after line is is_after first inside set has (brief_of (statement_at (program_in after) line)) refl lows has_lows text statement still wanted due
       (subst (SharesNone wanted) there (others k (omega (arith, past)) (omega (arith, past, within)))) unmoved
-      (λ new. apart k (omega (arith, past)) (omega (arith, past, within)) (next ∙ new-place (edit_on before) line new)) in
-      sym (due-valid (base_before before) (lines_before before) (edit_on before) line is.allowed first (subst (λ ls. line ≤ length ls) is_after.lines inside) valid)
+      (λ new. apart k (omega (arith, past)) (omega (arith, past, within)) (next ∙ new-place (edit_on before) line new))

@@ -18,6 +18,7 @@ pub mod LineNameLaws
 pub mod LineRows
 pub mod Lists
 pub mod LocalLines
+pub mod LowLines
 pub mod MovedDefinitionLaws
 pub mod NameRows
 pub mod NameSetLaws

@@ -1,6 +1,6 @@
 //! What lines have to do with other lines, in brief.
 
-ghost use Rattle.std.specs.Prelude.{◌≡◌, ◌&&◌, ◌||◌};
+ghost use Rattle.std.specs.Prelude.{◌≡◌, ◌&&◌, ◌||◌, not};
 ghost use Rattle.rv_program.specs.internal.Briefs.{brief_of, groups_of_brief};
 ghost use Rattle.rv_program.specs.Uses.{uses_local_label, uses_paired_high, is_equ};
 
@@ -8,6 +8,7 @@ use crate::groups::{Groups, Kind};
 use crate::highs::pcrel_high;
 use crate::jumps::target;
 use crate::locals::has_local_labels;
+use crate::lows::low_symbol;
 use crate::used_names::UsedNames;
 use crate::uses::{
     brief_names, is_equ, is_sized, uses_address, uses_local_label, uses_paired_high, uses_symbols,
@@ -38,6 +39,8 @@ pub struct Brief {
     pub jump: bool,
     /// It uses a local label or `%pcrel_lo`, or is an `.equ`: such a line counts as invalidated whatever these give.
     pub uncompared: bool,
+    /// It uses `%pcrel_lo` of one symbol, and nothing else.
+    pub low: bool,
 }
 
 impl Brief {
@@ -49,6 +52,7 @@ impl Brief {
         let symbols = uses_symbols(body);
         let address = uses_address(body);
         let uncompared = is_uncompared(body);
+        let low = low_symbol(body).is_some();
         Brief {
             labels: !stmt.labels.is_empty(),
             local_labels: has_local_labels(stmt.labels.as_slice()),
@@ -60,6 +64,7 @@ impl Brief {
             address,
             jump: target(body).is_some(),
             uncompared,
+            low,
         }
     }
 
@@ -68,6 +73,13 @@ impl Brief {
         ensures { result ≡ ((self.now.sized && self.now.symbols) || self.now.equ) }
     {
         (self.sized && self.symbols) || self.equ
+    }
+
+    // Whether each edit invalidates the line, and it is not found by its symbol.
+    fn is_left_uncompared(&self) -> bool
+        ensures { result ≡ (self.now.uncompared && not self.now.low) }
+    {
+        self.uncompared && !self.low
     }
 
     /// The groups that the line is in.
@@ -80,7 +92,7 @@ impl Brief {
             .with_kind(Kind::PcrelHigh, self.pcrel_high)
             .with_kind(Kind::Shaped, self.is_shaped())
             .with_kind(Kind::Addressed, self.address)
-            .with_kind(Kind::Uncompared, self.uncompared)
+            .with_kind(Kind::Uncompared, self.is_left_uncompared())
     }
 }
 

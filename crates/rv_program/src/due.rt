@@ -8,7 +8,7 @@ ghost use Rattle.rv_program.specs.Changes.{is_reencoded, is_due};
 ghost use Rattle.rv_program.specs.Codes.{values_of_body};
 ghost use Rattle.rv_program.specs.internal.Compared.{IsCompared, AreCompared};
 ghost use Rattle.rv_program.specs.Counted.{counts_of};
-ghost use Rattle.rv_program.specs.internal.Differing.{HasDiffering, HasDueGroups};
+ghost use Rattle.rv_program.specs.internal.Differing.{HasDiffering, HasLows, HaveSameLows, HasDueGroups};
 ghost use Rattle.rv_program.specs.internal.LinesWithout.{AreOthers};
 ghost use Rattle.rv_program.specs.Jumps.{target_of};
 ghost use Rattle.rv_program.specs.Pairs.{low_symbol_of, is_high_alone};
@@ -28,11 +28,12 @@ use crate::jumps::{differs_in_distance, differs_in_local_distance, rise};
 use crate::line::Line;
 use crate::line_values::symbol_value;
 use crate::lines_of_kind::lines_up_to_groups;
-use crate::lows::differs_in_low;
+use crate::lows::{differing_lows, differs_in_low};
 use crate::name_set::NameSet;
 use crate::pairs::high_in;
 use crate::symbol_rows::SymbolRows;
 use crate::text_lines::{equ_on, is_high_alone_on, low_symbol_on, target_on};
+use crate::used_names::UsedNames;
 use rv_expr::{Expr, Node};
 use rv_fix::{Entry, is_same_entry};
 use rv_stmt::Definition;
@@ -142,7 +143,8 @@ fn is_low_due(
     let Some(_stood) = before.edit.line_before(line) else {
         return true;
     };
-    differs_in_low(&before.symbols, before.highs, after, highs, name)
+    let number = after.text.names.number(name);
+    differs_in_low(&before.symbols, before.highs, after, highs, number)
 }
 
 // Whether a line of which `%pcrel_hi` is the only operand is due: it is new, or that gives something else than it gave.
@@ -247,13 +249,25 @@ fn is_carried(
     }
 }
 
-// Like `is_due`, but usually decides from the line's brief alone.
+// Whether `%pcrel_lo` of each of the names that a line uses gives what it gave. `lows` has those for which it does not, or is `None`: then
+// `differing` has each that is defined in one of the texts alone, and that is no label that moved.
+fn have_same_lows(differing: &NameSet, lows: &Option<NameSet>, names: UsedNames) -> bool
+    ensures { IsTrue result → HaveSameLows names differing.now lows.now }
+{
+    match lows {
+        Some(lows) => !names.meets(lows),
+        None => names.has_moved(differing) || !names.meets(differing),
+    }
+}
+
+// Like `is_due`, but usually decides from the line's brief alone. `lows` tells of the symbols of which `%pcrel_lo` gives something else.
 #[inline(always)]
 fn is_due_by_brief<C: Count>(
     before: &Before<'_, '_>,
     after: &SymbolRows<'_>,
     highs: &[Entry],
     differing: &NameSet,
+    lows: &Option<NameSet>,
     brief: Brief,
     line: u32,
     counter: &mut C,
@@ -263,6 +277,7 @@ fn is_due_by_brief<C: Count>(
     requires after { IsAfter before.now after.now.text }
     requires highs { AreHighsIn after.now.text highs.now }
     requires differing { HasDiffering (base_before before.now) (lines_before before.now) (edit_on before.now) differing.now }
+    requires lows { HasLows before.now after.now.text lows.now }
     requires brief { brief ≡ brief_of (statement_at (program_in after.now.text) line) }
     requires first { 1 ≤ line }
     requires last { line ≤ length after.now.text.lines.now }
@@ -270,20 +285,25 @@ fn is_due_by_brief<C: Count>(
     ensures due { result ≡ is_due (base_before before.now) (lines_before before.now) (edit_on before.now) line }
     ensures compared { IsCompared (edited_before before.now) line (counts_of C.parsed_count C.valued_count C.encoded_count counter.old) (counts_of C.parsed_count C.valued_count C.encoded_count counter.new) }
 {
-    if !may_be_invalidated(before, after, differing, brief, line) {
+    let stays = line != before.edit.place();
+    let keeps_low = stays && brief.low && have_same_lows(differing, lows, brief.names);
+    if keeps_low || !may_be_invalidated(before, after, differing, brief, line) {
         return false;
     }
     !is_carried(before, after, differing, brief, line)
         && is_due(before, after, highs, differing, line, counter)
 }
 
-// The groups of the lines that may be due, but for a new one: those that use a symbol of a set, or what is not compared, or their own
-// address, but that only where lines moved.
-fn due_groups(differing: &NameSet, still: bool) -> Groups
-    ensures { HasDueGroups differing.now still result }
+// The groups of the lines that may be due, but for a new one: those that use a symbol of one of the sets, or what is not compared, or their
+// own address, but that only where lines moved.
+fn due_groups(differing: &NameSet, lows: &Option<NameSet>, still: bool) -> Groups
+    ensures { HasDueGroups differing.now lows.now still result }
 {
-    differing
-        .groups()
+    let lows = match lows {
+        Some(lows) => lows.groups(),
+        None => Groups::none(),
+    };
+    Groups::together(&[differing.groups(), lows])
         .with_kind(Kind::Uncompared, true)
         .with_kind(Kind::Addressed, !still)
 }
@@ -334,7 +354,9 @@ pub fn due_lines<C: Count>(
     ensures due { IfOk result (λ row. AreDue (edited_before before.now) (length after.now.text.lines.now) row.items) }
     ensures compared { AreCompared (edited_before before.now) (length after.now.text.lines.now) (counts_of C.parsed_count C.valued_count C.encoded_count counter.old) (counts_of C.parsed_count C.valued_count C.encoded_count counter.new) }
 {
-    let wanted = due_groups(differing, still);
+    let lows = differing_lows(alloc, before, after, highs)?;
+    let lows = &lows;
+    let wanted = due_groups(differing, lows, still);
     let place = before.edit.place();
     let mut row = Vec::new(alloc);
     let mut i = lines_up_to_due(groups, 0, wanted, place);
@@ -345,6 +367,7 @@ pub fn due_lines<C: Count>(
             after,
             highs,
             differing,
+            lows,
             lines[i].brief(),
             line,
             counter,

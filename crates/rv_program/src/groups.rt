@@ -1,7 +1,7 @@
 //! What a line has to do with other lines, in a few bits: a loop over the lines goes past blocks of them by these alone.
 
 ghost use Rattle.std.specs.Prelude.{◌≡◌, ◌%◌, ◌<◌, IsTrue};
-ghost use Rattle.rv_program.specs.internal.Groups.{bits_of, groups_of, no_groups, every_group, with_bit, has_bit, with_group, has_group, kind_bit, with_kind, of_kind, groups_together, share_group};
+ghost use Rattle.rv_program.specs.internal.Groups.{bits_of, groups_of, no_groups, with_bit, has_bit, with_group, has_group, kind_bit, with_kind, of_kind, groups_together, share_group};
 
 /// What a loop over the lines looks for.
 #[derive(Clone, Copy)]
@@ -14,7 +14,8 @@ pub enum Kind {
     Shaped,
     /// A line that uses its own address.
     Addressed,
-    /// A line that uses a local label or `%pcrel_lo`, or is an `.equ`: each edit invalidates it.
+    /// A line that uses a local label or `%pcrel_lo`, or is an `.equ`: each edit invalidates it. But one of which `%pcrel_lo` of a symbol is
+    /// the only operand is found by that symbol.
     Uncompared,
 }
 
@@ -79,16 +80,6 @@ impl Groups {
         ensures { IsTrue result → self ≡ no_groups }
     {
         self.low == 0 && self.high == 0
-    }
-
-    /// All groups.
-    pub fn every() -> Groups
-        ensures { result ≡ every_group }
-    {
-        Groups {
-            low: u32::MAX,
-            high: u32::MAX,
-        }
     }
 
     // The bits of both halves.

@@ -1,7 +1,7 @@
 //! Sets of names by their buckets, which may also have names that do not differ.
 
 ghost use Rattle.std.specs.Prelude.{◌≡◌, ◌<◌, ℕ, IfOk, IsTrue, true, false};
-ghost use Rattle.rv_program.specs.declared.name_set.Mark.TheVariants.{Unknown, Changed};
+ghost use Rattle.rv_program.specs.declared.name_set.Mark.TheVariants.{Unknown};
 ghost use Rattle.rv_program.specs.internal.NameSets.{bucket_of, differs, IsBelow, HasMoved, mark_of, has_bucket};
 ghost use Rattle.rv_program.specs.internal.Groups.{has_group};
 
@@ -82,13 +82,13 @@ impl Mark {
 }
 
 /// What an edit did to the symbols, by the buckets of their names: the set has all names of a bucket of which one may differ. Contracts
-/// see a mark for each bucket, or none where the set has every name, and how far the lines behind the edit moved.
+/// see a mark for each bucket, and how far the lines behind the edit moved.
 pub struct NameSet {
     // How far the lines behind the edit moved.
     shift: i64,
     // The groups of the buckets of which a name may differ, and maybe others.
     groups: Groups,
-    marks: Option<Vec<Mark>>,
+    marks: Vec<Mark>,
 }
 
 // What a derive would do, but proved once, and not at each way out of a function that has a set.
@@ -103,14 +103,13 @@ impl Drop for NameSet {
 }
 
 impl Model for NameSet {
-    ghost use Rattle.std.specs.Option.{option_map};
     ghost use Rattle.rv_program.specs.internal.NameSets.{Marks, IsSized, AreGrouped};
 
     ghost Value = { Marks };
 
-    ghost view = { λ s. record { shift = s.shift; marks = option_map (λ m. m.items) s.marks } };
+    ghost view = { λ s. record { shift = s.shift; marks = s.marks.items } };
 
-    ghost invariant = { λ s. IsSized (option_map (λ m. m.items) s.marks) × AreGrouped (option_map (λ m. m.items) s.marks) s.groups };
+    ghost invariant = { λ s. IsSized s.marks.items × AreGrouped s.marks.items s.groups };
 }
 
 impl NameSet {
@@ -123,19 +122,8 @@ impl NameSet {
         Ok(NameSet {
             shift,
             groups: Groups::none(),
-            marks: Some(marks),
+            marks,
         })
-    }
-
-    /// The set of all names, which takes no memory.
-    pub fn every() -> NameSet
-        ensures { (bucket : ℕ) → mark_of result bucket ≡ Changed }
-    {
-        NameSet {
-            shift: 0,
-            groups: Groups::every(),
-            marks: None,
-        }
     }
 
     /// How far the lines behind the edit moved.
@@ -152,13 +140,11 @@ impl NameSet {
         ensures added { IsBelow mark (mark_of self.new bucket) }
         ensures shift { self.new.shift ≡ self.old.shift }
     {
-        if let Some(marks) = &mut self.marks {
-            let place = usize::from(bucket);
-            let mark = marks[place].with(mark);
-            marks[place] = mark;
-            if mark.differs() {
-                self.groups = self.groups.with(bucket);
-            }
+        let place = usize::from(bucket);
+        let mark = self.marks[place].with(mark);
+        self.marks[place] = mark;
+        if mark.differs() {
+            self.groups = self.groups.with(bucket);
         }
     }
 
@@ -167,13 +153,10 @@ impl NameSet {
     fn mark(&self, bucket: u16) -> Mark
         ensures { result ≡ mark_of self.now bucket }
     {
-        match &self.marks {
-            Some(marks) => marks
-                .get(usize::from(bucket))
-                .copied()
-                .unwrap_or(Mark::Unknown),
-            None => Mark::Changed,
-        }
+        self.marks
+            .get(usize::from(bucket))
+            .copied()
+            .unwrap_or(Mark::Unknown)
     }
 
     /// Whether it has the names of a bucket.

@@ -71,14 +71,14 @@ pub fn target_on<'a>(text: &TextRows<'a>, line: u32) -> Option<&'a Expr>
     target(&statement_on(text, line).body)
 }
 
-/// The symbol of a line of which `%pcrel_lo` of it is the only operand. Other lines are mostly gone past without a look at their statements.
+/// The symbol of a line of which `%pcrel_lo` of it is the only operand. Other lines are gone past without a look at their statements.
 #[tactic(auto, using(crate::specs::lemmas::TextLines::no_low_symbol))]
 pub fn low_symbol_on<'a>(text: &TextRows<'a>, line: u32) -> Option<&'a [u8]>
     requires first { 1 ≤ line }
     requires last { line ≤ length text.now.lines.now }
     ensures { option_map (λ n. n.now) result ≡ low_symbol_of (body_at (program_in text.now) line) }
 {
-    if !brief_on(text, line).uncompared {
+    if !brief_on(text, line).low {
         return None;
     }
     low_symbol(&statement_on(text, line).body)

@@ -2,7 +2,7 @@
 use Rattle.std.proofs.Common.{◌≡◌, ℕ, suc, ◌+◌, ◌-◌, ◌%◌, ◌<◌, ◌≤◌, ◌==◌, ◌⊎◌, inl, inr, Bool, true, false, not, ◌&&◌, ◌||◌, List, [], ◌∷◌, ◌++◌, length, bytes_eq, map, get_or, nat_le, if◌then◌else◌, true≢false, arith, ap, sym, subst, ◌∙◌, refl}
 use Rattle.std.specs.List.{list_any}
 use Rattle.std.proofs.Math.Path.{fun_ext}
-use Rattle.std.proofs.lemmas.Bool.{cases_lt, lt-ltb, le-ltb, lt-leb, eqb-true, eq-eqb, and_parts, and_left, or_parts, or_from, or_cases}
+use Rattle.std.proofs.lemmas.Bool.{cases_lt, lt-ltb, le-ltb, lt-leb, eqb-true, eq-eqb, and_parts, and_left, or_from, or_cases}
 use Rattle.std.proofs.lemmas.List.{get_or-map, get_or_default}
 use Rattle.std.proofs.lemmas.Slice.Eq.{bytes_eq-Decides}
 use Rattle.rv_stmt.specs.declared.directive.Definition.{Definition}
@@ -27,12 +27,13 @@ use Rattle.rv_program.specs.internal.LinesWithout.{is_of_kind}
 use Rattle.rv_program.specs.internal.NameSets.{bucket_of, brief_of_names, may_have}
 use Rattle.rv_program.specs.Program.{Program, program_of, no_statement, statement_at, body_at}
 use Rattle.rv_program.specs.internal.Rows.{in_row, AreDefinitions}
-use Rattle.rv_program.specs.Uses.{names_used, uses_local_label, uses_paired_high, is_equ}
+use Rattle.rv_program.specs.Uses.{names_used, uses_local_label, is_equ}
 use Rattle.rv_store.specs.internal.Still.{Touched, uses_any}
 use Rattle.rv_store.proofs.LongerTexts.{definitions-longer}
 use Rattle.rv_program.specs.lemmas.DefinitionLaws.{IsWithin, within-on, statement-within, definition-within}
 use Rattle.rv_program.specs.lemmas.GroupLaws.{kind-below}
 use Rattle.rv_program.specs.lemmas.LineGroups.{count-groups, kind-on, unused-group}
+use Rattle.rv_program.specs.lemmas.LowLines.{kind-local}
 use Rattle.rv_program.specs.lemmas.LocalLines.{statement-of-line}
 use Rattle.rv_program.specs.lemmas.NameSetLaws.{none-passes}
 use Rattle.rv_program.specs.lemmas.Programs.{length-program}
@@ -84,7 +85,7 @@ module _ (lines : List (List ℕ)) (behind : LineBehind) (groups : List Groups) 
   no_local-by_groups wanted has apart =
       let b = (statement_of text).body in
       let none : is_of_kind Uncompared b ≡ false = sym (kind-on text Uncompared) ∙ apart-on wanted apart (kind_bit Uncompared) (kind-below Uncompared) has in
-      ap (λ s. uses_local_label s.body) statement ∙ (or_parts (uses_local_label b) (uses_paired_high b) (or_parts (uses_local_label b || uses_paired_high b) (is_equ b) none).0).0
+      ap (λ s. uses_local_label s.body) statement ∙ kind-local b none
 
 -- Names that a statement defines
 

@@ -10,7 +10,7 @@ use Rattle.rv_program.specs.internal.Groups.{with_kind}
 use Rattle.rv_program.specs.internal.NameSets.{brief_of_names, groups_used}
 use Rattle.rv_program.specs.Jumps.{target_of}
 use Rattle.rv_program.specs.internal.Locals.{has_local_labels}
-use Rattle.rv_program.specs.Pairs.{pcrel_high_of}
+use Rattle.rv_program.specs.Pairs.{pcrel_high_of, low_symbol_of}
 use Rattle.rv_program.specs.Uses.{names_used, is_sized, uses_symbols, uses_address, uses_local_label, uses_paired_high, is_equ}
 
 abbrev pub brief_of : Stmt → Brief
@@ -25,6 +25,7 @@ brief_of s = record {
   address = uses_address s.body;
   jump = is_some (target_of s.body);
   uncompared = uses_local_label s.body || uses_paired_high s.body || is_equ s.body;
+  low = is_some (low_symbol_of s.body);
 }
 
 -- the groups of a line
@@ -36,7 +37,7 @@ groups_of_brief b =
     Addressed
     b.address)
     Uncompared
-    b.uncompared
+    (b.uncompared && not b.low)
 
 abbrev pub groups_on : List ℕ → Groups
 groups_on line = groups_of_brief (brief_of (statement_of line))

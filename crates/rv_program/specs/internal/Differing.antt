@@ -1,16 +1,23 @@
 -- Which symbols an edit changes, by a set that has all of them.
-use Rattle.std.specs.Prelude.{◌≡◌, ℕ, ℤ, pos, ◌+ℤ◌, Bool, true, false, List, Some, Ok}
+use Rattle.std.specs.Prelude.{◌≡◌, ℕ, ℤ, pos, ◌+ℤ◌, ◌⊎◌, Bool, true, false, List, Option, Some, None, Ok}
 use Rattle.rv_stmt.specs.Readings.{and_then}
 use Rattle.rv_fix.specs.Values.{Entry}
+use Rattle.rv_program.specs.declared.before.Before.{Before}
 use Rattle.rv_program.specs.declared.name_set.Mark.{Mark}
 use Rattle.rv_program.specs.declared.name_set.Mark.TheVariants.{Unknown, Same, Moved, Changed}
+use Rattle.rv_program.specs.declared.text_rows.TextRows.{TextRows}
+use Rattle.rv_program.specs.declared.used_names.UsedNames.{UsedNames}
+use Rattle.rv_program.specs.internal.Before.{base_before}
 use Rattle.rv_program.specs.Changes.{program_after, differs_in_name}
 use Rattle.rv_program.specs.Constants.{constant_of}
+use Rattle.rv_program.specs.Definitions.{definition_of, is_defined}
 use Rattle.rv_program.specs.Edits.{line_before_edit}
 use Rattle.rv_program.specs.declared.groups.Groups.{Groups}
 use Rattle.rv_program.specs.declared.groups.Kind.TheVariants.{Addressed, Uncompared}
 use Rattle.rv_program.specs.internal.Groups.{has_group, has_kind}
-use Rattle.rv_program.specs.internal.NameSets.{bucket_of, Marks, mark_of, has_bucket}
+use Rattle.rv_program.specs.internal.NameSets.{bucket_of, Marks, mark_of, has_bucket, IsOutside, IsMoved}
+use Rattle.rv_program.specs.internal.TextRows.{program_in}
+use Rattle.rv_program.specs.Pairs.{low_of_symbol}
 use Rattle.rv_program.specs.Program.{program_of, body_at}
 use Rattle.rv_program.specs.References.{reference_of}
 use Rattle.rv_program.specs.Text.{Edit}
@@ -55,9 +62,28 @@ Tells base lines edit shift Changed name = Unit {0}
 abbrev pub HasDiffering : (base : ℕ) → (lines : List (List ℕ)) → Edit → Marks → Type 0
 HasDiffering base lines edit set = (name : List ℕ) → Tells base lines edit set.shift (mark_of set (bucket_of name)) name
 
--- a line in none of these groups is not due unless it is new: it uses no name of the set, nor what is not compared, nor its own address,
+-- `%pcrel_lo` of a symbol gives what it gave
+abbrev pub IsSameLow : Before → (after : TextRows) → (name : List ℕ) → Type 0
+IsSameLow before after name =
+    low_of_symbol after.base (program_in after) name ≡ low_of_symbol (base_before before) (program_in before.symbols.text) name
+
+-- it does so for each symbol that a set does not have. Without a set it does so where the symbol is defined before and after, or neither
+-- before nor after.
+abbrev pub HasLows : Before → (after : TextRows) → Option Marks → Type 0
+HasLows before after (Some set) = (name : List ℕ) → has_bucket set (bucket_of name) ≡ false → IsSameLow before after name
+HasLows before after None =
+    (name : List ℕ) → is_defined (definition_of (program_in after) name) ≡ is_defined (definition_of (program_in before.symbols.text) name) → IsSameLow before after name
+
+-- so it does for the names that a line uses: they are not in that set, or without one, in that of the symbols that differ, or it is one that
+-- moved
+abbrev pub HaveSameLows : UsedNames → (differing : Marks) → (lows : Option Marks) → Type 0
+HaveSameLows used differing (Some lows) = IsOutside used lows
+HaveSameLows used differing None = IsMoved used differing ⊎ IsOutside used differing
+
+-- a line in none of these groups is not due unless it is new: it uses no name of the sets, nor what is not compared, nor its own address,
 -- but that where no line moved
-pub record HasDueGroups (set : Marks) (still : Bool) (wanted : Groups) : Type 0 where
+pub record HasDueGroups (set : Marks) (lows : Option Marks) (still : Bool) (wanted : Groups) : Type 0 where
   pub names : (bucket : ℕ) → has_bucket set bucket ≡ true → has_group wanted bucket ≡ true
+  pub of_lows : (others : Marks) → lows ≡ Some others → (bucket : ℕ) → has_bucket others bucket ≡ true → has_group wanted bucket ≡ true
   pub uncompared : has_kind wanted Uncompared ≡ true
   pub addressed : still ≡ false → has_kind wanted Addressed ≡ true

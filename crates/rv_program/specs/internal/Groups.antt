@@ -1,6 +1,6 @@
 -- Groups of lines: what a line has to do with other lines, in 64 bits. The first 59 are for the buckets of the names that it uses, the others
 -- for the kinds of line that a loop looks for.
-use Rattle.std.specs.Prelude.{◌≡◌, ℕ, ◌<◌, ◌+◌, ◌-◌, ◌*◌, ◌/◌, ◌%◌, ◌^◌, ◌==◌, Bool, true, false, not, List, if◌then◌else◌}
+use Rattle.std.specs.Prelude.{◌≡◌, ℕ, ◌<◌, ◌+◌, ◌*◌, ◌/◌, ◌%◌, ◌^◌, ◌==◌, Bool, true, false, not, List, if◌then◌else◌}
 use Rattle.std.specs.Int.{bit_at}
 use Rattle.std.specs.Int.Bits.{bit_and, bit_or}
 use Rattle.std.specs.List.{fold}
@@ -16,9 +16,6 @@ groups_of bits = record { low = bits % 2 ^ 32; high = bits / 2 ^ 32 % 2 ^ 32 }
 
 abbrev pub no_groups : Groups
 no_groups = record { low = 0; high = 0 }
-
-abbrev pub every_group : Groups
-every_group = record { low = 2 ^ 32 - 1; high = 2 ^ 32 - 1 }
 
 abbrev pub with_bit : Groups → (bit : ℕ) → Groups
 with_bit groups bit = groups_of (bit_or (bits_of groups) (2 ^ bit))

@@ -40,26 +40,23 @@ HasMoved Unknown = Unit {0}
 HasMoved Moved = Unit {0}
 HasMoved mark = ⊥
 
--- Sets of any number of names: a mark for each bucket, or none where the set has every name, and how far the lines behind the edit
--- moved
+-- Sets of any number of names: a mark for each bucket, and how far the lines behind the edit moved
 
 pub record Marks : Type 0 where
   pub shift : ℤ
-  pub marks : Option (List Mark)
+  pub marks : List Mark
 
-abbrev pub IsSized : Option (List Mark) → Type 0
-IsSized None = Unit {0}
-IsSized (Some marks) = length marks ≡ 16384
+abbrev pub IsSized : List Mark → Type 0
+IsSized marks = length marks ≡ 16384
 
-abbrev pub mark_among : Option (List Mark) → (bucket : ℕ) → Mark
-mark_among None bucket = Changed
-mark_among (Some marks) bucket = get_or marks bucket Unknown
+abbrev pub mark_among : List Mark → (bucket : ℕ) → Mark
+mark_among marks bucket = get_or marks bucket Unknown
 
 abbrev pub mark_of : Marks → (bucket : ℕ) → Mark
 mark_of set bucket = mark_among set.marks bucket
 
 -- each bucket of which a name may differ is in one of these groups
-abbrev pub AreGrouped : Option (List Mark) → Groups → Type 0
+abbrev pub AreGrouped : List Mark → Groups → Type 0
 AreGrouped marks groups = (bucket : ℕ) → differs (mark_among marks bucket) ≡ true → has_group groups bucket ≡ true
 
 abbrev pub has_bucket : Marks → (bucket : ℕ) → Bool

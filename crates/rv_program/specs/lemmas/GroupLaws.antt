@@ -5,11 +5,11 @@ use Rattle.std.specs.Int.Bits.{bit_and, bit_or}
 use Rattle.std.specs.List.{fold}
 use Rattle.std.proofs.lemmas.Bool.{eqb-true, eq-eqb, not-false, false_from_ne_true}
 use Rattle.std.proofs.lemmas.List.{get_or-take, get_or-drop, length-take-le, length-drop}
-use Rattle.std.proofs.lemmas.Nat.Bits.{bit_at-lt, bit_at-zero, bit_at-pow_same, bit_at-pow_other, bit_at_ones, bit_at_and, bit_at_or, bit_at_cat_low}
+use Rattle.std.proofs.lemmas.Nat.Bits.{bit_at-lt, bit_at-zero, bit_at-pow_same, bit_at-pow_other, bit_at_and, bit_at_or, bit_at_cat_low}
 use Rattle.rv_program.specs.declared.groups.Groups.{Groups}
 use Rattle.rv_program.specs.declared.groups.Kind.{Kind}
 use Rattle.rv_program.specs.declared.groups.Kind.TheVariants.{Equ}
-use Rattle.rv_program.specs.internal.Groups.{bits_of, groups_of, no_groups, every_group, with_bit, has_bit, with_group, has_group, kind_bit, with_kind, has_kind, with_groups, groups_together, share_group}
+use Rattle.rv_program.specs.internal.Groups.{bits_of, groups_of, no_groups, with_bit, has_bit, with_group, has_group, kind_bit, with_kind, has_kind, with_groups, groups_together, share_group}
 
 bits-kept : (bits group : ℕ) → group < 64 → bit_at (bits_of (groups_of bits)) group ≡ bit_at bits group
 bits-kept bits group below =
@@ -45,22 +45,19 @@ bit-added groups bit below =
 pub no-bit : (bit : ℕ) → has_bit no_groups bit ≡ false
 no-bit bit = ap (λ n. n == 1) (bit_at-zero bit)
 
-pub bit-of-every : (bit : ℕ) → bit < 64 → has_bit every_group bit ≡ true
-bit-of-every bit below = eq-eqb (bit_at (2 ^ 64 - 1) bit) 1 (bit_at_ones 64 bit below)
-
 -- Those of some lines together
 
 module _ (groups others : Groups) (bit : ℕ) (below : bit < 64) where
   joined-bits : bit_at (bits_of (with_groups groups others)) bit ≡ max (bit_at (bits_of groups) bit) (bit_at (bits_of others) bit)
   joined-bits = bits-kept (bit_or (bits_of groups) (bits_of others)) bit below ∙ bit_at_or (bits_of groups) (bits_of others) bit
 
-  bit-in-first : has_bit groups bit ≡ true → has_bit (with_groups groups others) bit ≡ true
+  pub bit-in-first : has_bit groups bit ≡ true → has_bit (with_groups groups others) bit ≡ true
   bit-in-first has =
       let one = eqb-true (bit_at (bits_of groups) bit) 1 has in
       let low = bit_at-lt (bits_of others) bit in
       eq-eqb (bit_at (bits_of (with_groups groups others)) bit) 1 (omega (arith, one, low, joined-bits))
 
-  bit-in-second : has_bit others bit ≡ true → has_bit (with_groups groups others) bit ≡ true
+  pub bit-in-second : has_bit others bit ≡ true → has_bit (with_groups groups others) bit ≡ true
   bit-in-second has =
       let one = eqb-true (bit_at (bits_of others) bit) 1 has in
       let low = bit_at-lt (bits_of groups) bit in

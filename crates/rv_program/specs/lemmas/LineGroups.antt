@@ -52,29 +52,29 @@ module _ (line : List ℕ) where
   -- it is in the group of a kind if it is of it
   pub kind-on : (kind : Kind) → has_kind (groups_on line) kind ≡ is_of_kind kind s.body
   kind-on Equ =
-      leave with_address Uncompared Equ b.uncompared (λ e. omega (arith, e))
+      leave with_address Uncompared Equ (is_of_kind Uncompared s.body) (λ e. omega (arith, e))
       ∙ leave with_shaped Addressed Equ b.address (λ e. omega (arith, e))
       ∙ leave with_high Shaped Equ (is_of_kind Shaped s.body) (λ e. omega (arith, e))
       ∙ leave with_equ PcrelHigh Equ b.pcrel_high (λ e. omega (arith, e))
       ∙ kind-is names Equ b.equ (nameless Equ)
   kind-on PcrelHigh =
-      leave with_address Uncompared PcrelHigh b.uncompared (λ e. omega (arith, e))
+      leave with_address Uncompared PcrelHigh (is_of_kind Uncompared s.body) (λ e. omega (arith, e))
       ∙ leave with_shaped Addressed PcrelHigh b.address (λ e. omega (arith, e))
       ∙ leave with_high Shaped PcrelHigh (is_of_kind Shaped s.body) (λ e. omega (arith, e))
       ∙ kind-is with_equ PcrelHigh b.pcrel_high (leave names Equ PcrelHigh b.equ (λ e. omega (arith, e)) ∙ nameless PcrelHigh)
   kind-on Shaped =
-      leave with_address Uncompared Shaped b.uncompared (λ e. omega (arith, e))
+      leave with_address Uncompared Shaped (is_of_kind Uncompared s.body) (λ e. omega (arith, e))
       ∙ leave with_shaped Addressed Shaped b.address (λ e. omega (arith, e))
       ∙ kind-is with_high Shaped (is_of_kind Shaped s.body) (leave with_equ PcrelHigh Shaped b.pcrel_high (λ e. omega (arith, e)) ∙ leave names Equ Shaped b.equ (λ e. omega (arith, e)) ∙ nameless Shaped)
   kind-on Addressed =
-      leave with_address Uncompared Addressed b.uncompared (λ e. omega (arith, e))
+      leave with_address Uncompared Addressed (is_of_kind Uncompared s.body) (λ e. omega (arith, e))
       ∙ kind-is with_shaped Addressed b.address (leave with_high Shaped Addressed (is_of_kind Shaped s.body) (λ e. omega (arith, e)) ∙ leave with_equ PcrelHigh Addressed b.pcrel_high (λ e. omega (arith, e)) ∙ leave names Equ Addressed b.equ (λ e. omega (arith, e)) ∙ nameless Addressed)
   kind-on Uncompared =
-      kind-is with_address Uncompared b.uncompared (leave with_shaped Addressed Uncompared b.address (λ e. omega (arith, e)) ∙ leave with_high Shaped Uncompared (is_of_kind Shaped s.body) (λ e. omega (arith, e)) ∙ leave with_equ PcrelHigh Uncompared b.pcrel_high (λ e. omega (arith, e)) ∙ leave names Equ Uncompared b.equ (λ e. omega (arith, e)) ∙ nameless Uncompared)
+      kind-is with_address Uncompared (is_of_kind Uncompared s.body) (leave with_shaped Addressed Uncompared b.address (λ e. omega (arith, e)) ∙ leave with_high Shaped Uncompared (is_of_kind Shaped s.body) (λ e. omega (arith, e)) ∙ leave with_equ PcrelHigh Uncompared b.pcrel_high (λ e. omega (arith, e)) ∙ leave names Equ Uncompared b.equ (λ e. omega (arith, e)) ∙ nameless Uncompared)
 
   group-on : (bucket : ℕ) → may_have b.names bucket ≡ true → has_group (groups_on line) bucket ≡ true
   group-on bucket has =
-      kind-kept with_address Uncompared b.uncompared (bucket % 59) (omega arith)
+      kind-kept with_address Uncompared (is_of_kind Uncompared s.body) (bucket % 59) (omega arith)
       (kind-kept with_shaped Addressed b.address (bucket % 59) (omega arith)
       (kind-kept with_high Shaped (is_of_kind Shaped s.body) (bucket % 59) (omega arith)
       (kind-kept with_equ PcrelHigh b.pcrel_high (bucket % 59) (omega arith)

@@ -22,18 +22,18 @@ bucket-below name = bucket-after 0 name (omega arith)
 
 -- The marks of a set
 
-pub none-grouped : (n : ℕ) (groups : Groups) → AreGrouped (Some (replicate n Unknown)) groups
+pub none-grouped : (n : ℕ) (groups : Groups) → AreGrouped (replicate n Unknown) groups
 none-grouped n groups bucket has = absurd (true≢false (sym has ∙ ap differs (get_or-same n bucket Unknown)))
 
-module _ (marks : List Mark) (groups : Groups) (place : ℕ) (mark : Mark) (within : place < length marks) (grouped : AreGrouped (Some marks) groups) where
-  pub grouped-with : AreGrouped (Some (slice_set marks place mark)) (with_group groups place)
+module _ (marks : List Mark) (groups : Groups) (place : ℕ) (mark : Mark) (within : place < length marks) (grouped : AreGrouped marks groups) where
+  pub grouped-with : AreGrouped (slice_set marks place mark) (with_group groups place)
   grouped-with bucket has = at (cases_eq bucket place)
     where
       at : (bucket ≡ place) ⊎ (bucket ≡ place → ⊥) → has_group (with_group groups place) bucket ≡ true
       at (inl same) = ap (has_group (with_group groups place)) same ∙ group-added groups place
       at (inr other) = group-kept groups place bucket (grouped bucket (sym (ap differs (get_or-set_other marks place bucket mark Unknown other)) ∙ has))
 
-below-itself : (mark : Mark) → IsBelow mark mark
+pub below-itself : (mark : Mark) → IsBelow mark mark
 below-itself Unknown = tt
 below-itself Same = tt
 below-itself Moved = tt
@@ -51,7 +51,7 @@ below-put marks place mark within below other = at (cases_eq other place)
 
 -- The names of a line
 
-bucket-added : (used : UsedNames) (bucket : ℕ) → may_have (with_bucket used bucket) bucket ≡ true
+pub bucket-added : (used : UsedNames) (bucket : ℕ) → may_have (with_bucket used bucket) bucket ≡ true
 bucket-added (Few None second) bucket = or_left (bucket == bucket) (is_bucket second bucket) (eq-eqb bucket bucket refl)
 bucket-added (Few (Some first) None) bucket = or_right (first == bucket) (bucket == bucket) (eq-eqb bucket bucket refl)
 bucket-added (Few (Some first) (Some second)) bucket = group-added (with_group (with_group no_groups first) second) bucket

@@ -1,8 +1,8 @@
 -- Lines of a text, by their numbers.
-use Rattle.std.proofs.Common.{◌≡◌, Bool, true, false, not, ◌&&◌, ◌||◌, ◌==◌, nat_le, ℕ, ◌-◌, ◌<◌, ◌≤◌, List, [], ◌∷◌, length, get_or, Option, Some, None, true≢false, arith, ap, sym, ◌∙◌, refl}
+use Rattle.std.proofs.Common.{◌≡◌, Bool, true, false, not, ◌&&◌, ◌==◌, nat_le, ℕ, ◌-◌, ◌<◌, ◌≤◌, List, [], ◌∷◌, length, get_or, Option, Some, None, true≢false, arith, ap, sym, ◌∙◌, refl}
 use Rattle.std.specs.List.{list_any}
 use Rattle.std.specs.Option.{is_some}
-use Rattle.std.proofs.lemmas.Bool.{leb-true, or_parts}
+use Rattle.std.proofs.lemmas.Bool.{leb-true}
 use Rattle.std.proofs.lemmas.List.{get_or-map}
 use Rattle.rv_expr.specs.Tree.{Tree}
 use Rattle.rv_ops.specs.declared.op.Op.{Op}
@@ -10,7 +10,7 @@ use Rattle.rv_ops.specs.declared.op.Op.TheVariants.{Auipc}
 use Rattle.rv_stmt.specs.declared.directive.Definition.{Definition}
 use Rattle.rv_stmt.specs.declared.operand.Operand.{Operand}
 use Rattle.rv_stmt.specs.declared.operand.OperandValue.{OperandValue}
-use Rattle.rv_stmt.specs.declared.operand.OperandValue.TheVariants.{PcrelHigh, PcrelLow}
+use Rattle.rv_stmt.specs.declared.operand.OperandValue.TheVariants.{PcrelHigh}
 use Rattle.rv_stmt.specs.declared.operand.Role.{Role}
 use Rattle.rv_stmt.specs.declared.statement.Body.{Body}
 use Rattle.rv_stmt.specs.declared.statement.Body.TheVariants.{Equ, Instr}
@@ -19,11 +19,11 @@ use Rattle.rv_list.specs.declared.view.LinePlace.{LinePlace}
 use Rattle.rv_layout.specs.declared.measured.Measured.{Measured}
 use Rattle.rv_program.specs.Jumps.{target_of}
 use Rattle.rv_program.specs.Layout.{shape_at, place_at}
-use Rattle.rv_program.specs.Pairs.{pcrel_high_value, pcrel_high_operand, pcrel_high_of, is_high_in, is_high_among, is_high_alone, low_symbol_in, low_symbol_among, low_symbol_of}
+use Rattle.rv_program.specs.Pairs.{pcrel_high_value, pcrel_high_operand, pcrel_high_of, is_high_in, is_high_among, is_high_alone, low_symbol_of}
 use Rattle.rv_program.specs.Program.{program_of, no_statement, statement_at, body_at}
 use Rattle.rv_program.specs.internal.Rows.{AreShapes, ArePlaces}
 use Rattle.rv_program.specs.Text.{is_line}
-use Rattle.rv_program.specs.Uses.{is_pcrel_low, uses_local_label, uses_paired_high, is_equ}
+use Rattle.rv_program.specs.Uses.{is_equ}
 use Rattle.rv_program.specs.lemmas.Programs.{at-line, length-for_lines, length-program}
 
 few_bytes : (line : List ℕ) → is_line line ≡ true → length line ≤ 1000
@@ -82,19 +82,13 @@ no_target b none = at (target_of b) none
     at None h = refl
     at (Some target) h = absurd (true≢false h)
 
--- a line that is compared with nothing has no `%pcrel_lo` of a symbol as its only operand
-pub no_low_symbol : (b : Body) → (uses_local_label b || uses_paired_high b || is_equ b) ≡ false → None ≡ low_symbol_of b
-no_low_symbol (Instr i) none = at i.operands (or_parts (uses_local_label (Instr i)) (uses_paired_high (Instr i)) (or_parts (uses_local_label (Instr i) || uses_paired_high (Instr i)) (is_equ (Instr i)) none).0).1
+-- a line that does not use `%pcrel_lo` of one symbol alone
+pub no_low_symbol : (b : Body) → is_some (low_symbol_of b) ≡ false → None ≡ low_symbol_of b
+no_low_symbol b none = at (low_symbol_of b) none
   where
-    given : (value : OperandValue) (role : Role) → is_pcrel_low value ≡ false → None ≡ low_symbol_in value role
-    given (PcrelLow label) role h = absurd (true≢false h)
-    given value role h = refl
-
-    at : (os : List Operand) → list_any (λ o. is_pcrel_low o.value) os ≡ false → None ≡ low_symbol_among os
-    at [] h = refl
-    at (o ∷ []) h = given o.value o.role (or_parts (is_pcrel_low o.value) false h).0
-    at (o ∷ p ∷ os) h = refl
-no_low_symbol b none = refl
+    at : (o : Option (List ℕ)) → is_some o ≡ false → None ≡ o
+    at None h = refl
+    at (Some name) h = absurd (true≢false h)
 
 -- a line that is no `auipc` with `%pcrel_hi` is none
 pub not_alone : (b : Body) → is_some (pcrel_high_of b) ≡ false → false ≡ is_high_alone b

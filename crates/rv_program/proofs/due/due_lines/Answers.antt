@@ -32,7 +32,7 @@ lines-init g c =
       within = omega (arith, up.within, count);
       row = c.new-row.ensures.items
           ∙ row-through (is_due (base_before before) (lines_before before) (edit_on before)) 0 next up.up
-          (due-apart before c.args.after.now.text c.args.lines.now c.args.groups.now c.args.still c.due_groups-wanted.result c.args.differing.now c.requires.before c.requires.after c.requires.column c.requires.groups c.requires.still c.requires.differing c.due_groups-wanted.ensures 0 next up.within up.passed
+          (due-apart before c.args.after.now.text c.args.lines.now c.args.groups.now c.args.still c.due_groups-wanted.result c.args.differing.now c.in_ok-lows.lows c.requires.before c.requires.after c.requires.column c.requires.groups c.requires.still c.requires.differing c.in_ok-lows.ensures c.due_groups-wanted.ensures 0 next up.within up.passed
           (λ k first last at. up.apart k first last (at ∙ sym c.place-place.ensures.value)));
       compared = more-compared before 0 next counts counts up.up (none-compared before counts);
     }
@@ -48,7 +48,7 @@ lines-preserved g c =
     let up = c.lines_up_to_due-i-in-lines.ensures in
     let count = count-groups c.args.lines.now c.args.groups.now c.requires.groups in
     let apart = row-through test (n + 1) next up.up
-    (due-apart before c.args.after.now.text c.args.lines.now c.args.groups.now c.args.still c.due_groups-wanted.result c.args.differing.now c.requires.before c.requires.after c.requires.column c.requires.groups c.requires.still c.requires.differing c.due_groups-wanted.ensures (n + 1) next up.within up.passed
+    (due-apart before c.args.after.now.text c.args.lines.now c.args.groups.now c.args.still c.due_groups-wanted.result c.args.differing.now c.in_ok-lows.lows c.requires.before c.requires.after c.requires.column c.requires.groups c.requires.still c.requires.differing c.in_ok-lows.ensures c.due_groups-wanted.ensures (n + 1) next up.within up.passed
     (λ k first last at. up.apart k first last (at ∙ sym c.place-place.ensures.value))) in
     record {
       within = omega (arith, up.within, count);

@@ -12,5 +12,5 @@ returns c =
     let stood = c.in-Some._stood in
     let stands : line_before_edit (edit_on before) c.args.line ≡ Some stood = sym c.line_before.ensures ∙ c.in-Some.is in
     let same = body-before before after c.args.line stood c.requires.before c.requires.after c.requires.first c.requires.last stands in
-    c.differs_in_low.ensures
+    c.differs_in_low.ensures c.args.name.now (sym c.number-number.ensures.number)
     ∙ reencoded-by_low before after c.args.line stood c.args.name.now c.requires.after stands c.requires.low (sym same)

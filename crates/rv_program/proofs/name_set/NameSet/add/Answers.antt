@@ -1,7 +1,7 @@
-use Rattle.std.proofs.Common.{◌≡◌, ◌<◌, length, slice_set, Some, option_map, rules, ap, sym, subst, ◌∙◌, ℕ, get_or}
+use Rattle.std.proofs.Common.{◌≡◌, ◌<◌, length, slice_set, rules, ap, sym, subst, ◌∙◌, ℕ, get_or}
 use Rattle.std.proofs.lemmas.List.{length-set, get_or_default}
 use Rattle.rv_program.specs.declared.name_set.Mark.TheVariants.{Unknown}
-use Rattle.rv_program.specs.internal.NameSets.{IsBelow, AreGrouped, mark_among, mark_of}
+use Rattle.rv_program.specs.internal.NameSets.{IsBelow, AreGrouped, mark_of}
 use Rattle.rv_program.specs.internal.Groups.{with_group}
 use Rattle.rv_program.specs.lemmas.NameSetLaws.{below-put, grouped-with}
 use Rattle.rv_program.proofs.name_set.NameSet.add.Goals.{After-differs}
@@ -9,24 +9,22 @@ use Rattle.rv_program.proofs.name_set.NameSet.add.Goals as goal
 
 pub invariant_of-self : goal.invariant_of-self
 invariant_of-self c =
-    let marks = c.in-Some.marks.items in
+    let marks = c.self.inside.marks.items in
     let place = c.from-place.result in
     let at : place ≡ c.args.bucket = search rules in
     let within : place < length marks = search rules in
-    let sized : length marks ≡ 16384 = search rules in
-    let grouped : AreGrouped (Some marks) c.self.inside.groups = subst (λ m. AreGrouped (option_map (λ v. v.items) m) c.self.inside.groups) c.in-Some.is c.self.invariant.1 in (
+    let sized : length marks ≡ 16384 = c.self.invariant.0 in (
       length-set marks place c.with-mark.result ∙ sized,
-      subst (λ groups. AreGrouped (Some (slice_set marks place c.with-mark.result)) groups) (ap (with_group c.self.inside.groups) at ∙ sym c.with-self-inside.ensures)
-          (grouped-with marks c.self.inside.groups place c.with-mark.result within grouped),
+      subst (λ groups. AreGrouped (slice_set marks place c.with-mark.result) groups) (ap (with_group c.self.inside.groups) at ∙ sym c.with-self-inside.ensures)
+          (grouped-with marks c.self.inside.groups place c.with-mark.result within c.self.invariant.1),
     )
 
-kept : (c : After-differs) (other : ℕ) → IsBelow (mark_of c.args.self.now other) (get_or (slice_set c.in-Some.marks.items c.from-place.result c.with-mark.result) other Unknown)
+kept : (c : After-differs) (other : ℕ) → IsBelow (mark_of c.args.self.now other) (get_or (slice_set c.self.inside.marks.items c.from-place.result c.with-mark.result) other Unknown)
 kept c other =
-    let marks = c.in-Some.marks.items in
+    let marks = c.self.inside.marks.items in
     let place = c.from-place.result in
     let within : place < length marks = search rules in
-    let old : mark_of c.args.self.now other ≡ get_or marks other Unknown =
-    ap (λ s. mark_of s other) (sym c.self.view_is) ∙ ap (λ m. mark_among (option_map (λ v. v.items) m) other) c.in-Some.is in
+    let old : mark_of c.args.self.now other ≡ get_or marks other Unknown = ap (λ s. mark_of s other) (sym c.self.view_is) in
     let here : c.index.result.now ≡ get_or marks place Unknown = c.index.ensures ∙ get_or_default marks place c.index.result.now Unknown within in
     subst (λ mark. IsBelow mark (get_or (slice_set marks place c.with-mark.result) other Unknown)) (sym old)
     (below-put marks place c.with-mark.result within (subst (λ mark. IsBelow mark c.with-mark.result) here c.with-mark.ensures.first) other)
