@@ -41,7 +41,7 @@ pub record IsInOrder (k j l d : ℕ) : Type 0 where
   pub below : k < l → j < d
   pub above : k ≤ l → j ≤ d
 
-in-order : (edit : Edit) (k j l d : ℕ) → line_before_edit edit k ≡ Some j → line_before_edit edit l ≡ Some d → IsInOrder k j l d
+pub in-order : (edit : Edit) (k j l d : ℕ) → line_before_edit edit k ≡ Some j → line_before_edit edit l ≡ Some d → IsInOrder k j l d
 in-order (Insert place line) k j l d e f = record { below = λ h. grind (arith, nat_tests, common_steps); above = λ h. grind (arith, nat_tests, common_steps) }
 in-order _ k j l d e f = record { below = λ h. grind (arith, nat_tests, common_steps); above = λ h. grind (arith, nat_tests, common_steps) }
 

@@ -5,8 +5,10 @@ pub mod ConstantValues
 pub mod DifferingNames
 pub mod DueLines
 pub mod FittingValues
+pub mod FormerEqus
 pub mod HighLaws
 pub mod HighRows
+pub mod KeptEqus
 pub mod KeptLows
 pub mod LinePairLaws
 pub mod LinesWithout

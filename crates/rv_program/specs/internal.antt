@@ -10,6 +10,7 @@ pub mod Fits
 pub mod Former
 pub mod Groups
 pub mod Items
+pub mod KeptEqus
 pub mod LineConstants
 pub mod LineNames
 pub mod LinePairs

@@ -6,6 +6,7 @@ ghost use Rattle.rv_program.specs.internal.Briefs.{groups_on};
 ghost use Rattle.rv_program.specs.declared.limits.TheConstants.{MAX_LINES};
 ghost use Rattle.rv_program.specs.Constants.{defined_value};
 ghost use Rattle.rv_program.specs.Program.{body_at};
+ghost use Rattle.rv_program.specs.internal.KeptEqus.{HasValuesThrough};
 ghost use Rattle.rv_program.specs.internal.TextRows.{AreTextRows, AreEquValuesIn, program_in, references_through};
 ghost use Rattle.rv_program.specs.internal.Work.{equ_operands, operands_through};
 
@@ -22,8 +23,8 @@ use rv_stmt::Definition;
 use rv_text::Count;
 use std::alloc::{AllocError, Global};
 
-// The value that the definition on a line gives its symbol.
-fn value_on<C: Count>(
+// The value that the definition on a line gives its symbol, by those of the `.equ`s before it.
+pub(crate) fn value_on<C: Count>(
     text: &TextRows<'_>,
     row: &[Entry],
     line: u32,
@@ -31,7 +32,7 @@ fn value_on<C: Count>(
     counter: &mut C,
 ) -> Entry
     requires rows { AreTextRows text.now }
-    requires values { AreEquValuesIn text.now (line - 1) row.now }
+    requires values { HasValuesThrough text.now (line - 1) row.now }
     requires first { 1 ≤ line }
     requires last { line ≤ length text.now.lines.now }
     requires count { C.valued_count counter.old < 2 ^ 64 - 1 }

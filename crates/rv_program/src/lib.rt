@@ -14,6 +14,7 @@ mod due;
 mod edit;
 mod edit_error;
 pub mod equ_values;
+pub mod equ_values_after;
 mod first_definition;
 mod first_uses;
 mod groups;

@@ -2,6 +2,7 @@
 
 ghost use Rattle.std.specs.Prelude.{◌≡◌, ◌-◌, ◌≤◌, length};
 ghost use Rattle.rv_program.specs.declared.limits.TheConstants.{MAX_LINES};
+ghost use Rattle.rv_program.specs.internal.KeptEqus.{HasValuesThrough};
 ghost use Rattle.rv_program.specs.internal.LineNames.{label_line_in, given_by};
 ghost use Rattle.rv_program.specs.Pairs.{names_at};
 ghost use Rattle.rv_program.specs.Program.{body_at};
@@ -137,7 +138,7 @@ pub fn references_before<'a>(
     line: u32,
 ) -> LineNames<'a>
     requires rows { AreTextRows text.now }
-    requires values { AreEquValuesIn text.now (line - 1) equ_values.now }
+    requires values { HasValuesThrough text.now (line - 1) equ_values.now }
     requires first { 1 ≤ line }
     requires last { line ≤ length text.now.lines.now }
     ensures { given_by result (address_in_text text.now line) ≡ references_through text.now (line - 1) line }

@@ -27,7 +27,7 @@ use crate::shapes::{ShapeRows, shapes};
 use rv_fix::Entry;
 use rv_layout::{Measured, bases_by_ends};
 use rv_list::{DefinitionPlace, LinePlace, SectionPlace};
-use rv_program::equ_values::equ_values;
+use rv_program::equ_values_after::equ_values_after;
 use rv_program::highs::highs;
 use rv_program::locals_after::locals_after;
 use rv_program::{
@@ -231,7 +231,7 @@ impl Survey {
             places: &placed.places,
             locals: &locals,
         };
-        let equ_values = equ_values(alloc, &text, groups, counter)?;
+        let equ_values = equ_values_after(alloc, before, &text, groups, counter)?;
         let after = SymbolRows {
             text,
             constants: &sized.constants,

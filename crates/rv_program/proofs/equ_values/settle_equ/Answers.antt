@@ -5,9 +5,11 @@ use Rattle.rv_stmt.specs.declared.statement.Body.TheVariants.{Equ as EquBody}
 use Rattle.rv_stmt.specs.Statement.{statement_of}
 use Rattle.rv_program.specs.Constants.{defined_value}
 use Rattle.rv_program.specs.Program.{Program, body_at}
-use Rattle.rv_program.specs.internal.TextRows.{program_in, AreEquValuesIn, references_through}
+use Rattle.rv_program.specs.internal.KeptEqus.{HasValuesThrough}
+use Rattle.rv_program.specs.internal.TextRows.{program_in, references_through}
 use Rattle.rv_program.specs.lemmas.ConstantRows.{equ-by_row, body-read}
 use Rattle.rv_program.specs.lemmas.EquLaws.{equ_values-kept, equ_values-set}
+use Rattle.rv_program.proofs.KeptEqus.{known-of_all}
 use Rattle.rv_program.proofs.equ_values.settle_equ.Goals as goal
 
 less-one : (i : ℕ) → i + 1 - 1 ≡ i
@@ -15,7 +17,7 @@ less-one i = omega arith
 
 pub value_on-requires-clause-values : goal.value_on-requires-clause-values
 value_on-requires-clause-values g c =
-    rw c.deref.ensures.value (subst (λ n. AreEquValuesIn c.args.text.now n c.args.row.now.items) (sym (less-one c.args.i)) c.requires.before)
+    rw c.deref.ensures.value (subst (λ n. HasValuesThrough c.args.text.now n c.args.row.now.items) (sym (less-one c.args.i)) (known-of_all c.args.text.now c.args.i c.args.row.now.items c.requires.before))
 
 pub returns-in_default-clause-after : goal.returns-in_default-clause-after
 returns-in_default-clause-after g c =

@@ -5,8 +5,8 @@ use Rattle.rv_program.specs.lemmas.Programs.{length-program}
 use Rattle.rv_store.proofs.Surveys.{placed}
 use Rattle.rv_store.proofs.survey.Survey.by_rows.Goals as goal
 
-pub equ_values-requires-clause-rows : goal.equ_values-requires-clause-rows
-equ_values-requires-clause-rows g c = record {
+pub equ_values_after-requires-clause-rows : goal.equ_values_after-requires-clause-rows
+equ_values_after-requires-clause-rows g c = record {
   defined = rw (c.in_column-column.ensures, c.deref.ensures.value) c.requires.definitions;
   placed = rw (c.in_column-column.ensures, c.deref-2.ensures.value) (placed (base_before c.args.before.now) (program_of c.args.lines.now) c.args.sized.shapes.items _ c.requires.shapes c.requires.places);
   located = rw (c.in_column-column.ensures, length-program) c.requires.locals;
@@ -48,19 +48,19 @@ returns-clause-survey g c = record {
 }
 
 pub returns-in_err-equ_values-clause-parsed : goal.returns-in_err-equ_values-clause-parsed
-returns-in_err-equ_values-clause-parsed g c = c.equ_values.ensures.parsed
+returns-in_err-equ_values-clause-parsed g c = c.equ_values_after.ensures.parsed
 
 pub returns-in_err-highs-clause-parsed : goal.returns-in_err-highs-clause-parsed
-returns-in_err-highs-clause-parsed g c = c.highs.ensures.parsed ∙ c.equ_values.ensures.parsed
+returns-in_err-highs-clause-parsed g c = c.highs.ensures.parsed ∙ c.equ_values_after.ensures.parsed
 
 pub returns-clause-parsed : goal.returns-clause-parsed
-returns-clause-parsed g c = c.highs.ensures.parsed ∙ c.equ_values.ensures.parsed
+returns-clause-parsed g c = c.highs.ensures.parsed ∙ c.equ_values_after.ensures.parsed
 
 pub returns-in_err-equ_values-clause-encoded : goal.returns-in_err-equ_values-clause-encoded
-returns-in_err-equ_values-clause-encoded g c = c.equ_values.ensures.encoded
+returns-in_err-equ_values-clause-encoded g c = c.equ_values_after.ensures.encoded
 
 pub returns-in_err-highs-clause-encoded : goal.returns-in_err-highs-clause-encoded
-returns-in_err-highs-clause-encoded g c = c.highs.ensures.encoded ∙ c.equ_values.ensures.encoded
+returns-in_err-highs-clause-encoded g c = c.highs.ensures.encoded ∙ c.equ_values_after.ensures.encoded
 
 pub returns-clause-encoded : goal.returns-clause-encoded
-returns-clause-encoded g c = c.highs.ensures.encoded ∙ c.equ_values.ensures.encoded
+returns-clause-encoded g c = c.highs.ensures.encoded ∙ c.equ_values_after.ensures.encoded
