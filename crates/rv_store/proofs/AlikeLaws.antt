@@ -1,5 +1,5 @@
 -- Where a statement is put in the place of one that it is alike, all lines lie where they lay, and no other one has to do with it.
-use Rattle.std.proofs.Common.{◌≡◌, ℕ, zero, suc, ◌+◌, ◌-◌, ◌≤◌, ◌⊎◌, inl, inr, Bool, true, false, ◌||◌, List, [], ◌∷◌, length, map, set, get_or, if◌then◌else◌, true≢false, arith, ap, sym, ◌∙◌, refl}
+use Rattle.std.proofs.Common.{◌≡◌, ℕ, zero, suc, ◌+◌, ◌-◌, ◌≤◌, ◌⊎◌, inl, inr, Bool, true, false, ◌||◌, List, [], ◌∷◌, length, map, set, get_or, None, if◌then◌else◌, true≢false, arith, ap, sym, ◌∙◌, refl}
 use Rattle.std.specs.Result.{result_ok}
 use Rattle.std.proofs.lemmas.List.{length-set, get_or-set_same, get_or-set_other}
 use Rattle.std.proofs.Math.Path.{fun_ext}
@@ -11,13 +11,15 @@ use Rattle.rv_store.specs.internal.Alike.{label_names, room_of, DefinesSame, IsA
 use Rattle.rv_program.specs.Constants.{defined_value, constant_of, constant_through}
 use Rattle.rv_program.specs.Definitions.{defines_symbol, place_among_labels, place_in_body, or_place, place_in_statement, first_place, definition_of, is_equ_on}
 use Rattle.rv_store.specs.internal.Ends.{ends_of}
-use Rattle.rv_program.specs.Layout.{shape_at, shapes_of, place_at}
-use Rattle.rv_program.specs.Pairs.{pcrel_high_of}
+use Rattle.rv_program.specs.Layout.{shape_at, shapes_of, address_at, place_at}
+use Rattle.rv_program.specs.Pairs.{pcrel_high_of, high_by}
 use Rattle.rv_program.specs.Program.{Program, no_statement, statement_at, body_at, for_lines}
-use Rattle.rv_program.specs.References.{is_local, among_local, has_local}
+use Rattle.rv_program.specs.References.{is_local, among_local, has_local, references_at}
 use Rattle.rv_store.specs.internal.Still.{Touched, IsStill}
 use Rattle.rv_program.specs.Uses.{is_equ}
+use Rattle.rv_store.specs.internal.Waiting.{KeepsHighs}
 use Rattle.rv_store.proofs.ApartLines.{untouched}
+use Rattle.rv_store.proofs.StillLaws.{none-added}
 use Rattle.rv_program.specs.lemmas.DefinitionRows.{nowhere}
 use Rattle.rv_program.specs.lemmas.ConstantRows.{IsEquOf, is_equ_of, equ-defines, constant-kept}
 use Rattle.rv_store.proofs.Rooms as rooms
@@ -180,7 +182,12 @@ module _ (p : Program) (k : ℕ) (t : Stmt) (first : 1 ≤ k) (last : k ≤ leng
     constants = λ m within. constants-same m;
     locals = λ number i from to. has_local-same number i;
     near = λ number i past. absurd (omega (arith, past, last));
-    high_before = alike.defines.plain_before.high;
-    high = ap (λ s. pcrel_high_of s.body) statement-put ∙ alike.defines.plain_after.high;
     places = λ i from to. ap (λ f. f i) (place-same base);
   }
+
+  -- no line has another high half
+  pub alike-highs : (base : ℕ) → KeepsHighs base p put k None
+  alike-highs base =
+      let before = ap (high_by (references_at base p k) (address_at base p k)) alike.defines.plain_before.high in
+      let after = ap (high_by (references_at base put k) (address_at base put k)) (ap (λ s. pcrel_high_of s.body) statement-put ∙ alike.defines.plain_after.high) in
+      none-added base p put k (λ within. after ∙ sym before) (λ past. absurd (omega (arith, past, last)))

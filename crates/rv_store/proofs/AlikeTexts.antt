@@ -1,9 +1,11 @@
 -- No other line has to do with a line in the place of one that it is alike.
 use Rattle.std.proofs.Common.{◌≡◌, ℕ, suc, ◌-◌, ◌<◌, ◌≤◌, true, false, ◌||◌, List, [], ◌∷◌, ◌++◌, length, Some, None, if◌then◌else◌, true≢false, arith, ap, sym, subst, ◌∙◌, refl}
+use Rattle.std.specs.Option.{option_map}
 use Rattle.std.proofs.lemmas.Bool.{ne_eqb, eq-eqb}
 use Rattle.std.proofs.lemmas.List.{map-set}
 use Rattle.rv_stmt.specs.Statement.{statement_of}
 use Rattle.rv_layout.specs.Places.{IsLimited}
+use Rattle.rv_layout.specs.Sections.{section_number}
 use Rattle.rv_layout.specs.Shapes.{shape_of}
 use Rattle.rv_store.specs.declared.still.Still.{Still}
 use Rattle.rv_store.specs.internal.Alike.{IsAlike}
@@ -14,8 +16,9 @@ use Rattle.rv_program.specs.Program.{Program, program_of, lines_that}
 use Rattle.rv_program.specs.internal.Still.{set_or_push}
 use Rattle.rv_store.specs.internal.Still.{Touched, uses_any, is_put_or_uses, IsStill, IsPutEdit}
 use Rattle.rv_store.specs.internal.StillLines.{IsStillLine}
+use Rattle.rv_store.specs.internal.Waiting.{KeepsHighs}
 use Rattle.rv_program.specs.Text.{Replace}
-use Rattle.rv_store.proofs.AlikeLaws.{nothing_touched, put, shape-put, ends-same, place-same, alike-still}
+use Rattle.rv_store.proofs.AlikeLaws.{nothing_touched, put, shape-put, ends-same, place-same, alike-still, alike-highs}
 use Rattle.rv_store.proofs.ApartLines.{untouched}
 use Rattle.rv_program.specs.lemmas.LineRows.{row-through}
 use Rattle.rv_program.specs.lemmas.Programs.{length-program}
@@ -46,9 +49,9 @@ one-line touched p k n first last none beyond =
     apart i within differs = let unused = untouched p touched i none (omega (arith, within, beyond)) in λ j. ne_eqb i k differs j || unused j
 
 pub alike-line : (base : ℕ) (lines : List (List ℕ)) (k : ℕ) (line : List ℕ) (given : Still) → 1 ≤ k → k ≤ length lines → IsAlike (program_of lines) k (statement_of line)
-    → given.shape ≡ shape_of (constant_of (program_of lines) k) (statement_of line).body → IsLimited given.shape → given.ends ≡ ends_of (shapes_of (program_of lines)) → given.place ≡ place_at base (program_of lines) k → given.defines ≡ false
+    → given.shape ≡ shape_of (constant_of (program_of lines) k) (statement_of line).body → IsLimited given.shape → given.ends ≡ ends_of (shapes_of (program_of lines)) → given.place ≡ place_at base (program_of lines) k → given.defines ≡ false → given.waiting ≡ None
     → IsStillLine base lines k line given (k ∷ [])
-alike-line base lines k line given first last alike shape limited ends place none =
+alike-line base lines k line given first last alike shape limited ends place none plain =
     let p : Program = program_of lines in
     let t = statement_of line in
     let within : k ≤ length p = omega (arith, last, length-program lines) in
@@ -61,6 +64,9 @@ alike-line base lines k line given first last alike shape limited ends place non
       limited = limited;
       ends = ends ∙ sym (ends-same p k t first within alike) ∙ ap (λ r. ends_of (shapes_of r)) (sym after);
       place = place ∙ sym (ap (λ f. f k) (place-same p k t first within alike base)) ∙ ap (λ r. place_at base r k) (sym after);
+      highs = subst (λ o. KeepsHighs base p (program_of (set_or_push lines (k - 1) line)) k (option_map (λ n. section_number given.place.section) o)) (sym plain)
+          (subst (λ r. KeepsHighs base p r k None) (sym after) (alike-highs p k t first within alike base));
+      waiting = λ n e. absurd (let no : None ≡ Some n = sym plain ∙ e in cc);
       nothing = λ e name. refl;
       last = λ defines. absurd (true≢false (sym defines ∙ none));
       those = sym (one-line (nothing_touched p) p k (length lines) first last (λ name. refl) (omega (arith, length-program lines)));

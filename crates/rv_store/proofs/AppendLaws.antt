@@ -1,8 +1,8 @@
 -- A statement at the end of a text has to do with the lines before it by the names that it adds and its local labels alone, if no section
 -- moves.
-use Rattle.std.proofs.Common.{◌≡◌, ℕ, suc, ◌+◌, ◌-◌, ◌≤◌, nat_le, Bool, true, false, not, ◌&&◌, List, [], ◌∷◌, ◌++◌, length, get_or, Ok, Err, if◌then◌else◌, true≢false, arith, ap, sym, ◌∙◌, refl}
+use Rattle.std.proofs.Common.{◌≡◌, ℕ, suc, ◌+◌, ◌-◌, ◌≤◌, nat_le, Bool, true, false, not, ◌&&◌, List, [], ◌∷◌, ◌++◌, length, Ok, Err, if◌then◌else◌, true≢false, arith, ap, sym, ◌∙◌, refl}
 use Rattle.std.proofs.lemmas.Bool.{and_parts, not-true, or_left, not_from_false}
-use Rattle.std.proofs.lemmas.List.{get_or_append_left, get_or_past, take-append-le}
+use Rattle.std.proofs.lemmas.List.{get_or_append_left, take-append-le}
 use Rattle.rv_expr.specs.declared.faults.ValueFault.TheVariants.{Undefined, LaterEqu}
 use Rattle.rv_fix.specs.Values.{Entry}
 use Rattle.rv_stmt.specs.declared.statement.Stmt.{Stmt}
@@ -16,15 +16,14 @@ use Rattle.rv_list.specs.declared.view.DefinitionPlace.TheVariants.{Nowhere, Lab
 use Rattle.rv_store.specs.internal.Appended.{adds, touches, IsApart, shape_at_end, StaySections}
 use Rattle.rv_program.specs.Definitions.{or_place, place_in_statement, definition_of, is_defined}
 use Rattle.rv_program.specs.Layout.{shape_at, shapes_of, section_at, address_at, size_at as size_on, place_at}
-use Rattle.rv_program.specs.Pairs.{pcrel_high_of}
 use Rattle.rv_program.specs.Changes.{differs_in_name}
 use Rattle.rv_program.specs.Constants.{constant_of}
-use Rattle.rv_program.specs.Program.{Program, no_statement, body_at}
+use Rattle.rv_program.specs.Program.{Program, body_at}
 use Rattle.rv_program.specs.References.{among_local, has_local, or_faulty_equ, by_definition, equ_value, usable_equs, reference_of}
 use Rattle.rv_program.specs.Sameness.{same_entry, same_constant}
 use Rattle.rv_store.specs.internal.Still.{IsStill}
 use Rattle.rv_program.specs.lemmas.DefinitionLaws.{undefined}
-use Rattle.rv_store.proofs.LongerPrograms.{more, count-more, statement-earlier, statement-last, body-last, definitions-more, equ-earlier, constants-same, shapes-more}
+use Rattle.rv_store.proofs.LongerPrograms.{more, count-more, statement-earlier, statement-last, definitions-more, equ-earlier, constants-same, shapes-more}
 use Rattle.rv_program.specs.lemmas.Programs.{length-for_lines}
 
 -- what is defined gives something else than an undefined name
@@ -111,9 +110,7 @@ module _ (p : Program) (s : Stmt) (from : ℕ) (apart : IsApart p s from) where
 
     pub end-still : IsStill base p (more p s) (suc (length p)) (touches p s from)
     end-still =
-        let back : suc (length p) - 1 ≡ length p = omega arith in
-        let count = count-more p s in
-        record {
+        let count = count-more p s in record {
           first = omega arith;
           last = omega (arith, count);
           longer = omega (arith, count);
@@ -127,7 +124,5 @@ module _ (p : Program) (s : Stmt) (from : ℕ) (apart : IsApart p s from) where
           constants = constants-same p s;
           locals = has_local-same;
           near = λ number i past has. apart.near number i (sym (has_local-last number) ∙ has);
-          high_before = ap (λ t. pcrel_high_of t.body) (ap (λ i. get_or p i no_statement) back ∙ get_or_past p (length p) no_statement (omega arith));
-          high = ap pcrel_high_of (body-last p s) ∙ apart.high;
           places = place-same;
         }

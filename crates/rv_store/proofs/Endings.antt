@@ -20,8 +20,10 @@ use Rattle.rv_program.specs.Program.{Program, program_of, lines_that}
 use Rattle.rv_program.specs.References.{equ_value}
 use Rattle.rv_program.specs.internal.Rows.{AreShapes}
 use Rattle.rv_program.specs.internal.Still.{set_or_push}
+use Rattle.rv_program.specs.internal.Work.{high_operands}
 use Rattle.rv_store.specs.internal.Still.{uses_any, is_put_or_uses, IsStill, IsPutEdit}
-use Rattle.rv_store.specs.internal.StillLines.{IsStillLine}
+use Rattle.rv_store.specs.internal.StillLines.{high_section, IsStillLine}
+use Rattle.rv_store.specs.internal.Waiting.{KeepsHighs, AreBare}
 use Rattle.rv_program.specs.Text.{Insert}
 use Rattle.rv_store.proofs.AppendLaws.{end-still}
 use Rattle.rv_store.proofs.EndBases.{ends-together, base-ends}
@@ -81,8 +83,10 @@ pub ending-line : (base : ℕ) (lines : List (List ℕ)) (line : List ℕ) (from
     → IsApart (program_of lines) (statement_of line) from → (given.defines ≡ false → (name : List ℕ) → adds (program_of lines) (statement_of line) name ≡ false)
     → given.shape ≡ shape_at_end (program_of lines) (statement_of line) → IsLimited given.shape → before ≡ ends_of shapes → given.ends ≡ ends_of (shapes ++ given.shape ∷ [])
     → ((t : ℕ) → t < sections → base_by_ends base given.ends t ≡ base_by_ends base before t) → given.place ≡ place_by_shapes base (shapes ++ given.shape ∷ []) (suc (length shapes))
+    → (given.place ≡ place_at base (more (program_of lines) (statement_of line)) (suc (length (program_of lines))) → KeepsHighs base (program_of lines) (more (program_of lines) (statement_of line)) (suc (length (program_of lines))) (high_section given))
+    → ((first : ℕ) → given.waiting ≡ Some first → (AreBare (program_of lines) (section_number given.place.section) first) × (high_operands (statement_of line).body ≡ 1))
     → due ≡ lines_that (uses_any (touches (program_of lines) (statement_of line) from) (program_of lines)) (length lines) → IsStillLine base lines (length lines + 1) line given due
-ending-line base lines line from shapes before given due are limited few apart nothing shape limited_end is all stay place those =
+ending-line base lines line from shapes before given due are limited few apart nothing shape limited_end is all stay place keeps waiting those =
     let p : Program = program_of lines in
     let s : Stmt = statement_of line in
     let from_program : length p ≡ length lines = length-program lines in
@@ -102,14 +106,18 @@ ending-line base lines line from shapes before given due are limited few apart n
     let number : suc (length p) ≡ length lines + 1 = omega (arith, from_program) in
     let after : more p s ≡ program_of (set_or_push lines (length lines + 1 - 1) line) =
     sym (program-longer lines line) ∙ ap program_of (end-set_or_push lines (length lines + 1 - 1) line (omega arith)) in
+    let lies : given.place ≡ place_at base (more p s) (suc (length p)) =
+    place ∙ (λ i. place_by_shapes base (rows i) (suc (length shapes))) ∙ ap (place_by_shapes base (shapes_of (more p s))) (ap suc (count ∙ sym from_program)) in
     record {
       touched = touches p s from;
       still = subst (λ r. IsStill base p r (length lines + 1) (touches p s from)) after (subst (λ n. IsStill base p (more p s) n (touches p s from)) number still);
       shape = shape ∙ sym (shape-last p s) ∙ (λ j. shape_at (after j) (number j));
       limited = limited_end;
       ends = all ∙ ap ends_of rows ∙ ap (λ r. ends_of (shapes_of r)) after;
-      place = place ∙ (λ i. place_by_shapes base (rows i) (suc (length shapes))) ∙ ap (place_by_shapes base (shapes_of (more p s))) (ap suc (count ∙ sym from_program)) ∙ (λ j. place_at base (after j) (number j));
+      place = lies ∙ (λ j. place_at base (after j) (number j));
       nothing = nothing;
+      highs = subst (λ r. KeepsHighs base p r (length lines + 1) (high_section given)) after (subst (λ n. KeepsHighs base p (more p s) n (high_section given)) number (keeps lies));
+      waiting = waiting;
       those = those ∙ lines_that-same (is_put_or_uses (touches p s from) p (length lines + 1)) (uses_any (touches p s from) p) (length lines)
           (λ i less. ap (λ b. b || uses_any (touches p s from) p (suc i)) (sym (ne_eqb (suc i) (length lines + 1) (λ e. omega (arith, e, less)))));
       last = λ defines. (

@@ -1,5 +1,5 @@
 -- The items of a text after an edit, by those of its first lines and that of a line behind them.
-use Rattle.std.proofs.Common.{◌≡◌, ℕ, ◌+◌, ◌-◌, ◌≤◌, true, List, [], ◌∷◌, ◌++◌, length, insert, None, Some, suc, if◌then◌else◌, arith, ap, subst, sym, ◌∙◌}
+use Rattle.std.proofs.Common.{◌≡◌, ℕ, ◌+◌, ◌-◌, ◌≤◌, true, List, [], ◌∷◌, ◌++◌, length, insert, None, Some, suc, if◌then◌else◌, arith, ap, subst, sym, ◌∙◌, refl}
 use Rattle.std.proofs.lemmas.List.{length-map}
 use Rattle.std.proofs.lemmas.List.Edits.{insert_end}
 use Rattle.rv_text.specs.Counting.{Counts}
@@ -76,18 +76,20 @@ counted-last r k line n before between after back last first counted =
 
 -- A line that is put among others, by the items of the text before that
 
-pub put-by : (base : ℕ) (lines : List (List ℕ)) (line : List ℕ) (given : Still) (due : List ℕ) (items : List Item) (edit : Edit) (text : List (List ℕ)) → IsStillLine base lines (place_of_edit edit) line given due → IsPutEdit lines edit (place_of_edit edit) line → refusal_of lines edit ≡ None → AreItems base lines items → text ≡ lines_after lines edit → ArePut base text items edit due
+pub put-by : (base : ℕ) (lines : List (List ℕ)) (line : List ℕ) (given : Still) (due : List ℕ) (items : List Item) (edit : Edit) (text : List (List ℕ)) → IsStillLine base lines (place_of_edit edit) line given due → IsPutEdit lines edit (place_of_edit edit) line → refusal_of lines edit ≡ None → AreItems base lines items → text ≡ lines_after lines edit → (put : ArePut base text items edit due) × (put.given ≡ given)
 put-by base lines line given due items edit text still edited allowed are whole =
-    let same : lines ≡ lines_of items = sym are.lines in
-    record {
-      line = line;
-      given = given;
-      still = subst (λ ls. IsStillLine base ls (place_of_edit edit) line given due) same still;
-      edited = subst (λ ls. IsPutEdit ls edit (place_of_edit edit) line) same edited;
-      allowed = subst (λ ls. refusal_of ls edit ≡ None) same allowed;
-      whole = whole ∙ ap (λ ls. lines_after ls edit) same;
-      are = subst (λ ls. AreItems base ls items) same are;
-    }
+    let same : lines ≡ lines_of items = sym are.lines in (
+      record {
+        line = line;
+        given = given;
+        still = subst (λ ls. IsStillLine base ls (place_of_edit edit) line given due) same still;
+        edited = subst (λ ls. IsPutEdit ls edit (place_of_edit edit) line) same edited;
+        allowed = subst (λ ls. refusal_of ls edit ≡ None) same allowed;
+        whole = whole ∙ ap (λ ls. lines_after ls edit) same;
+        are = subst (λ ls. AreItems base ls items) same are;
+      },
+      refl,
+    )
 
 pub counted-by : (base : ℕ) (lines : List (List ℕ)) (items : List Item) (edit : LineEdit) (text : List (List ℕ)) → lines_of items ≡ lines → text ≡ lines_after lines (edit_of edit) → (old new : Counts) → AreCounted (edited_by base (lines_of items) edit) 0 (length text) old new → AreCounted (edited_by base lines edit) 0 (length (lines_after lines (edit_of edit))) old new
 counted-by base lines items edit text same whole old new counted =

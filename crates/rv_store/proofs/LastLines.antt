@@ -1,5 +1,6 @@
 -- A text without its last line, with which no other line has to do: what is kept of it, and that the edit changes no other line.
-use Rattle.std.proofs.Common.{◌≡◌, ℕ, suc, ◌+◌, ◌-◌, ◌<◌, ◌≤◌, ◌==◌, true, false, nat_lt, List, [], ◌∷◌, ◌++◌, length, map, take, get_or, set, slice_index, remove, Some, if◌then◌else◌, append-nil, arith, ap, sym, subst, ◌∙◌, refl}
+use Rattle.std.proofs.Common.{◌≡◌, ℕ, suc, ◌+◌, ◌-◌, ◌<◌, ◌≤◌, ◌==◌, true, false, nat_lt, List, [], ◌∷◌, ◌++◌, length, map, take, get_or, set, slice_index, remove, Some, None, if◌then◌else◌, append-nil, arith, ap, sym, subst, ◌∙◌, refl}
+use Rattle.std.specs.Option.{option_map}
 use Rattle.std.proofs.Math.ListN.{drop_of_length-le}
 use Rattle.std.proofs.Math.Path.{fun_ext}
 use Rattle.std.proofs.Math.Seq.{take-append_seam, get_or-append_seam}
@@ -19,10 +20,12 @@ use Rattle.rv_program.specs.Changes.{is_new_or, differs_in_code, is_changed, cha
 use Rattle.rv_program.specs.Codes.{values_at, code_at}
 use Rattle.rv_program.specs.Constants.{constant_through}
 use Rattle.rv_program.specs.Layout.{shape_at, shapes_of, place_at}
+use Rattle.rv_program.specs.Pairs.{pcrel_high_of}
 use Rattle.rv_program.specs.Program.{Program, program_of, for_lines, lines_that}
 use Rattle.rv_program.specs.References.{among_local, has_local, equ_value}
 use Rattle.rv_program.specs.Text.{Edit, Delete, lines_after}
 use Rattle.rv_program.specs.internal.Items.{AreItems}
+use Rattle.rv_program.specs.internal.Still.{set_or_push}
 use Rattle.rv_program.specs.internal.Rows.{AreConstants, AreEquValues, AreShapes, AreHighs}
 use Rattle.rv_program.specs.internal.Locals.{lines_with}
 use Rattle.rv_program.specs.internal.LinesAhead.{all_ahead, none_ahead}
@@ -37,7 +40,9 @@ use Rattle.rv_store.specs.internal.Appended.{adds, touches, shape_at_end, IsApar
 use Rattle.rv_store.specs.internal.Ends.{ends_of, ends_after, ends_before, base_by_ends, next_offset, place_by_shapes}
 use Rattle.rv_store.specs.internal.Still.{uses_any, is_put_or_uses, IsOther, IsStill}
 use Rattle.rv_store.specs.internal.StillLines.{IsStillLine, IsLastLine}
+use Rattle.rv_store.specs.internal.Waiting.{KeepsHighs}
 use Rattle.rv_store.specs.internal.Surveys.{IsSurvey}
+use Rattle.rv_store.proofs.AddedHighs.{end-plain}
 use Rattle.rv_store.proofs.EndLaws.{at-section, ends_of-push}
 use Rattle.rv_store.proofs.Endings.{ending-line}
 use Rattle.rv_store.proofs.LongerPrograms.{shapes-more, for_lines-same}
@@ -136,19 +141,21 @@ module _ (base : ℕ) (lines : List (List ℕ)) (line : List ℕ) where
     -- no other line has to do with it
     pub is-last_line : (given : LastLine) (ends : Ends) (text : List (List ℕ)) → text ≡ lines ++ line ∷ [] → ends ≡ ends_of (shapes_of (program_of (lines ++ line ∷ []))) → given.before ≡ ends_of shapes
         → ((t : ℕ) → t < sections → base_by_ends base ends t ≡ base_by_ends base given.before t) → (from : ℕ) → IsApart (program_of lines) (statement_of line) from
-        → ((number : ℕ) → among_local number (statement_of line).labels ≡ false) → (given.defines ≡ false → (name : List ℕ) → adds (program_of lines) (statement_of line) name ≡ false)
+        → ((number : ℕ) → among_local number (statement_of line).labels ≡ false) → pcrel_high_of (statement_of line).body ≡ None → (given.defines ≡ false → (name : List ℕ) → adds (program_of lines) (statement_of line) name ≡ false)
         → [] ≡ lines_that (uses_any (touches (program_of lines) (statement_of line) from) (program_of lines)) (length lines) → IsLastLine base text given
-    is-last_line given ends text whole all first stay from apart local nothing unused =
-        let there : Still = record { shape = shape; ends = ends; place = place_by_shapes base (shapes ++ shape ∷ []) (suc (length shapes)); defines = given.defines } in
+    is-last_line given ends text whole all first stay from apart local none nothing unused =
+        let there : Still = record { shape = shape; ends = ends; place = place_by_shapes base (shapes ++ shape ∷ []) (suc (length shapes)); defines = given.defines; waiting = None } in
         record {
           lines = lines;
           line = line;
           there = there;
           whole = whole;
-          still = ending-line base lines line from shapes given.before there [] refl limited-without few apart nothing refl (limited-last shapes shape limited) first (all ∙ ap ends_of shapes-with) stay refl unused;
+          still = ending-line base lines line from shapes given.before there [] refl limited-without few apart nothing refl (limited-last shapes shape limited) first (all ∙ ap ends_of shapes-with) stay refl
+              (λ lies. end-plain base (program_of lines) (statement_of line) none) (λ n e. absurd (let no : None ≡ Some n = e in cc)) unused;
           before = first;
           defines = refl;
           local = local;
+          plain = refl;
         }
 
 -- The survey of the text
@@ -173,7 +180,7 @@ module _ (base : ℕ) (lines : List (List ℕ)) (line : List ℕ) (names : List 
 
 -- Without it
 
-module _ {base : ℕ} {lines : List (List ℕ)} {line : List ℕ} {there : Still} (is : IsStillLine base lines (length lines + 1) line there []) where
+module _ {base : ℕ} {lines : List (List ℕ)} {line : List ℕ} {there : Still} (is : IsStillLine base lines (length lines + 1) line there []) (plain : there.waiting ≡ None) where
   abbrev without : Program
   without = program_of lines
 
@@ -182,6 +189,12 @@ module _ {base : ℕ} {lines : List (List ℕ)} {line : List ℕ} {there : Still
 
   still : IsStill base without whole (length lines + 1) is.touched
   still = subst (λ ls. IsStill base without (program_of ls) (length lines + 1) is.touched) (sym (end-set_or_push lines (length lines + 1 - 1) line (omega arith))) is.still
+
+  -- and no high half goes
+  highs-kept : KeepsHighs base without whole (length lines + 1) None
+  highs-kept =
+      subst (λ ls. KeepsHighs base without (program_of ls) (length lines + 1) None) (sym (end-set_or_push lines (length lines + 1 - 1) line (omega arith)))
+      (subst (λ o. KeepsHighs base without (program_of (set_or_push lines (length lines + 1 - 1) line)) (length lines + 1) (option_map (λ n. section_number there.place.section) o)) plain is.highs)
 
   other : (i : ℕ) → 1 ≤ i → i ≤ length lines → IsOther without (length lines + 1) i
   other i first last = record { first = first; last = omega (arith, last, length-program lines); differs = λ e. omega (arith, e, last) }
@@ -251,7 +264,7 @@ module _ {base : ℕ} {lines : List (List ℕ)} {line : List ℕ} {there : Still
         places = places ∙ survey-row (place_at base without) (place_at base whole) old.places.items (λ i there. still.places i there.first there.last) are.places;
         locals = λ number. locals number ∙ are.locals number ∙ locals-without number (local number);
         equ_values = equ_values;
-        highs = subst (AreHighs base without) (sym (highs ∙ ap (λ n. take n old.highs.items) count)) (highs-back still old.highs.items are.highs);
+        highs = subst (AreHighs base without) (sym (highs ∙ ap (λ n. take n old.highs.items) count)) (highs-back still highs-kept refl old.highs.items are.highs);
       }
 
   -- The items
@@ -266,8 +279,8 @@ module _ {base : ℕ} {lines : List (List ℕ)} {line : List ℕ} {there : Still
       subst (AreItems base lines) (sym (without-last items (length lines) few)) (record {
         lines = sym (take-map (λ i. i.line) (length lines) items) ∙ ap (take (length lines)) are.lines ∙ take-append_seam lines (line ∷ []);
         shapes = item-row (λ i. i.shape) (shape_at without) (shape_at whole) items (shape-still still) are.shapes;
-        values = item-row (λ i. i.values) (values_at base without) (values_at base whole) items (λ i there. values-still still i there (unused i there)) are.values;
-        codes = item-row (λ i. i.code) (code_at base without) (code_at base whole) items (λ i there. code-still still i there (unused i there)) are.codes;
+        values = item-row (λ i. i.values) (values_at base without) (values_at base whole) items (λ i there. values-still still highs-kept i there (unused i there)) are.values;
+        codes = item-row (λ i. i.code) (code_at base without) (code_at base whole) items (λ i there. code-still still highs-kept i there (unused i there)) are.codes;
       })
 
   -- The edit
@@ -289,4 +302,4 @@ module _ {base : ℕ} {lines : List (List ℕ)} {line : List ℕ} {there : Still
       let there : IsOther without (length lines + 1) i = other i (omega (arith, first)) within in
       let stood : nat_lt i (suc (length lines)) ≡ true = lt-ltb i (suc (length lines)) (omega (arith, within)) in
       (λ j. is_new_or (differs_in_code base whole (program_of (lines-without j)) i) (if stood j then Some i else Some (i + 1)))
-      ∙ not_from_true _ ((same_code-Decides _ _).1 (sym (code-still still i there (unused i there))))))
+      ∙ not_from_true _ ((same_code-Decides _ _).1 (sym (code-still still highs-kept i there (unused i there))))))

@@ -1,3 +1,4 @@
+pub mod AddedHighs
 pub mod AgreeingNames
 pub mod AlikeLaws
 pub mod AlikeLines
@@ -22,6 +23,7 @@ pub mod LastLines
 pub mod LongerPrograms
 pub mod LongerTexts
 pub mod PassedItems
+pub mod PutHighs
 pub mod QuietLines
 pub mod RememberedNames
 pub mod Rooms

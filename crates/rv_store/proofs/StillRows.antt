@@ -12,20 +12,20 @@ use Rattle.rv_store.specs.declared.still.Still.{Still}
 use Rattle.rv_store.specs.declared.survey.Survey.{Survey}
 use Rattle.rv_store.specs.internal.Appended.{AreSameSymbols, AreSameLines, AreSymbols, IsUnsettled}
 use Rattle.rv_store.specs.internal.Ends.{ends_of}
+use Rattle.rv_store.specs.internal.HighRows.{AreRows}
 use Rattle.rv_program.specs.Layout.{shape_at, place_at}
 use Rattle.rv_program.specs.Program.{Program, program_of, no_statement, statement_at, lines_that}
 use Rattle.rv_program.specs.References.{among_local, has_local}
 use Rattle.rv_program.specs.internal.Locals.{lines_with, with_last, lines_below}
 use Rattle.rv_program.specs.internal.Rows.{AreDefinitions, AreConstants, AreEquValues, AreShapes, ArePlaces, AreLocals, AreHighs}
 use Rattle.rv_program.specs.internal.Still.{set_or_push}
-use Rattle.rv_store.specs.internal.Still.{Touched, IsStill}
 use Rattle.rv_store.specs.internal.Column.{taken_back}
 use Rattle.rv_store.specs.internal.StillLines.{IsStillLine, is_behind_with, AreLinesPut, MayBePut, MayHaveLast, ArePartlyPut, IsAt, MayWait}
 use Rattle.rv_store.specs.internal.Surveys.{IsSurvey}
 use Rattle.rv_store.proofs.Columns.{set-back, set-same}
 use Rattle.rv_program.specs.lemmas.LocalLines.{first-below, below-last}
 use Rattle.rv_program.specs.lemmas.Programs.{length-program}
-use Rattle.rv_store.proofs.StillLaws.{shape-still, locals-put, highs-still}
+use Rattle.rv_store.proofs.StillLaws.{shape-still, locals-put}
 use Rattle.rv_store.proofs.StillTexts.{set-set_or_push, end-set_or_push, map-set_or_push, at-set_or_push, within-next, row-still, symbols-still}
 
 -- whatever the error
@@ -144,29 +144,6 @@ symbols-same base program k names old new same are = record {
   equ_values = subst (λ v. AreEquValues base program k names v.items) (sym same.equ_values) are.equ_values;
 }
 
--- the rows by lines are those of a text
-record AreLineRows (base : ℕ) (program : Program) (s : Survey) : Type 0 where
-  pub shapes : AreShapes program s.shapes.items
-  pub limited : AreLimited s.shapes.items
-  pub ends : s.ends ≡ ends_of s.shapes.items
-  pub places : ArePlaces base program s.places.items
-
-module _ {base : ℕ} {p q : Program} {k : ℕ} {touched : Touched} (is : IsStill base p q k touched) where
-  -- the rows of high halves stay
-  survey-still : (names names' : List (List ℕ)) (old new : Survey) → IsSurvey base p names old → AreSymbols base q (length q) names' new → AreLineRows base q new
-      → AreLocals q (length q) new.locals → new.highs.items ≡ old.highs.items → IsSurvey base q names' new
-  survey-still names names' old new are symbols rows locals highs = record {
-    definitions = symbols.definitions;
-    constants = symbols.constants;
-    shapes = rows.shapes;
-    limited = rows.limited;
-    ends = rows.ends;
-    places = rows.places;
-    locals = locals;
-    equ_values = symbols.equ_values;
-    highs = subst (AreHighs base q) (sym highs) (highs-still is old.highs.items are.highs);
-  }
-
 module _ {base : ℕ} {lines : List (List ℕ)} {k : ℕ} {line : List ℕ} {given : Still} {due : List ℕ} (is : IsStillLine base lines k line given due) where
   module _ (names : List (List ℕ)) (old new : Survey) (are : IsSurvey base (program_of lines) names old) (put : AreLinesPut (k - 1) line given old new) where
     shapes-put : AreShapes (program_of (set_or_push lines (k - 1) line)) new.shapes.items
@@ -226,22 +203,25 @@ module _ {base : ℕ} {lines : List (List ℕ)} {k : ℕ} {line : List ℕ} {giv
         waits = λ defines. (lines, unsettled defines);
       }
 
-    -- and then have it
-    survey-put : (names' : List (List ℕ)) (settled : Survey) → old.lines.items ≡ lines → AreSameLines new settled → AreSymbols base (program_of (set_or_push lines (k - 1) line)) (length (set_or_push lines (k - 1) line)) names' settled → IsSurvey base (program_of (set_or_push lines (k - 1) line)) names' settled
-    survey-put names' settled listed same symbols =
+    -- and then have it, but for the row of high halves
+    rows-put : (names' : List (List ℕ)) (settled : Survey) → old.lines.items ≡ lines → AreSameLines new settled → AreSymbols base (program_of (set_or_push lines (k - 1) line)) (length (set_or_push lines (k - 1) line)) names' settled → AreRows base (program_of (set_or_push lines (k - 1) line)) names' settled
+    rows-put names' settled listed same symbols =
         let shapes = same.shapes ∙ shapes-put in
-        survey-still is.still names names' old settled are (subst (λ m. AreSymbols base (program_of (set_or_push lines (k - 1) line)) m names' settled) (sym (length-program (set_or_push lines (k - 1) line))) symbols)
-        (record {
+        let counted = subst (λ m. AreSymbols base (program_of (set_or_push lines (k - 1) line)) m names' settled) (sym (length-program (set_or_push lines (k - 1) line))) symbols in
+        record {
+          definitions = counted.definitions;
+          constants = counted.constants;
           shapes = shapes;
           limited = subst AreLimited (sym (same.shapes ∙ put.shapes)) (limited-put old.shapes.items (k - 1) given.shape are.limited is.limited);
           ends = same.ends ∙ put.ends ∙ is.ends ∙ ap ends_of (sym shapes);
           places = same.places ∙ places-put;
-        })
-        (λ number. same.locals number ∙ locals-here listed number) (same.highs ∙ put.highs)
+          locals = λ number. same.locals number ∙ locals-here listed number;
+          equ_values = counted.equ_values;
+        }
 
     -- the same by the lines that the survey holds
-    pub survey-whole : (names' : List (List ℕ)) (settled : Survey) → AreSameLines new settled → AreSymbols base (program_of settled.lines.items) (length settled.lines.items) names' settled → old.lines.items ≡ lines → IsSurvey base (program_of settled.lines.items) names' settled
-    survey-whole names' settled same symbols listed =
+    pub rows-whole : (names' : List (List ℕ)) (settled : Survey) → AreSameLines new settled → AreSymbols base (program_of settled.lines.items) (length settled.lines.items) names' settled → old.lines.items ≡ lines → AreRows base (program_of settled.lines.items) names' settled
+    rows-whole names' settled same symbols listed =
         let all : settled.lines.items ≡ set_or_push lines (k - 1) line = same.lines ∙ put.lines ∙ ap (λ ls. set_or_push ls (k - 1) line) listed in
-        subst (λ ls. IsSurvey base (program_of ls) names' settled) (sym all)
-        (survey-put names' settled listed same (subst (λ ls. AreSymbols base (program_of ls) (length ls) names' settled) all symbols))
+        subst (λ ls. AreRows base (program_of ls) names' settled) (sym all)
+        (rows-put names' settled listed same (subst (λ ls. AreSymbols base (program_of ls) (length ls) names' settled) all symbols))

@@ -1,6 +1,6 @@
 -- What is kept of a text where a line is new with which the others have to do by its names and its local labels alone, and what such an
 -- edit may take.
-use Rattle.std.proofs.Common.{◌≡◌, ℕ, zero, suc, ◌+◌, ◌-◌, ◌*◌, ◌==◌, ◌<◌, ◌≤◌, ◌⊎◌, inl, inr, nat_le, Bool, true, false, ◌&&◌, ◌||◌, true≢false, List, [], ◌∷◌, ◌++◌, length, map, set, insert, get_or, Some, None, arith, ap, sym, subst, ◌∙◌, refl}
+use Rattle.std.proofs.Common.{◌≡◌, ℕ, zero, suc, ◌+◌, ◌-◌, ◌*◌, ◌==◌, ◌<◌, ◌≤◌, ◌⊎◌, inl, inr, nat_le, Bool, true, false, ◌&&◌, ◌||◌, true≢false, List, [], ◌∷◌, ◌++◌, length, map, set, insert, get_or, Option, Some, None, arith, ap, sym, subst, ◌∙◌, refl}
 use Rattle.std.specs.List.{list_any}
 use Rattle.std.proofs.Math.Path.{fun_ext}
 use Rattle.std.proofs.lemmas.Bool.{cases_eq, cases_lt, and_parts, or_cases, not_from_true, eq-eqb, ne_eqb, or_left, or_right, or_parts, or_from}
@@ -21,7 +21,7 @@ use Rattle.rv_program.specs.internal.NewShapes.{shape_operands}
 use Rattle.rv_program.specs.internal.Renewals.{AreCounted}
 use Rattle.rv_program.specs.internal.Revisions.{EditedText, revised_lines, invalidates, reencodes, TellsDue}
 use Rattle.rv_program.specs.internal.Still.{set_or_push}
-use Rattle.rv_program.specs.internal.Work.{equ_operands, survey_operands, work}
+use Rattle.rv_program.specs.internal.Work.{equ_operands, high_operands, survey_operands, work}
 use Rattle.rv_program.specs.lemmas.CountedLines.{nothing_counted}
 use Rattle.rv_program.specs.lemmas.ItemLaws.{item_of_line}
 use Rattle.rv_program.specs.lemmas.Lists.{any-weaker}
@@ -30,11 +30,13 @@ use Rattle.rv_program.specs.lemmas.Programs.{length-for_lines, length-program}
 use Rattle.rv_program.specs.lemmas.SamenessLaws.{same_values-Decides, same_shape-Decides}
 use Rattle.rv_program.specs.lemmas.ShapeWork.{operands-next, operands-more, constant-work}
 use Rattle.rv_program.specs.lemmas.SurveyWork.{survey-work, equ-work}
+use Rattle.rv_program.specs.lemmas.WorkLaws.{work-invalidated, work-up}
 use Rattle.rv_store.specs.declared.survey.Survey.{Survey}
 use Rattle.rv_store.specs.internal.Appended.{AreSymbols}
 use Rattle.rv_store.specs.internal.Assembled.{AreCountedAfter}
 use Rattle.rv_store.specs.internal.Renewed.{AreItemsLeft}
 use Rattle.rv_store.specs.internal.Still.{Touched, uses_any, is_put_or_uses, IsOther, IsStill, IsPutEdit}
+use Rattle.rv_store.specs.internal.Waiting.{KeepsHighs}
 use Rattle.rv_store.proofs.CountedEdits.{counted-after}
 use Rattle.rv_store.proofs.LongerPrograms.{for_lines-same}
 use Rattle.rv_store.proofs.StillLaws.{body-still, shape-still, constant-all, equ_value-all, values-still}
@@ -174,17 +176,17 @@ module _ (r : EditedText) {k : ℕ} {line : List ℕ} {touched : Touched} (is : 
           or_left _ _ (or_left _ _ (or_right _ _ local))
 
   -- and no other one is reencoded
-  other-stays : (i : ℕ) → IsOther p k i → uses_any touched p i ≡ false → reencodes r i ≡ false
-  other-stays i there none =
+  other-stays : {added : Option ℕ} → KeepsHighs r.base p q k added → (i : ℕ) → IsOther p k i → uses_any touched p i ≡ false → reencodes r i ≡ false
+  other-stays highs i there none =
       stood (λ t i j. differs_in_values r.base p t i j) i there
-      ∙ or_from _ _ (not_from_true _ ((same_values-Decides _ _).1 (values-still is i there none))) (not_from_true _ ((same_shape-Decides _ _).1 (shape-still is i there)))
+      ∙ or_from _ _ (not_from_true _ ((same_values-Decides _ _).1 (values-still is highs i there none))) (not_from_true _ ((same_shape-Decides _ _).1 (shape-still is i there)))
 
-  tells : TellsDue r (length r.lines) (is_put_or_uses touched p k)
-  tells = record {
+  tells : {added : Option ℕ} → KeepsHighs r.base p q k added → TellsDue r (length r.lines) (is_put_or_uses touched p k)
+  tells highs = record {
     invalidated = λ i first last due. at i first last due (cases_eq i k);
     others = λ i first last stays.
         let none = or_parts (i == k) (uses_any touched p i) stays in
-        other-stays i (other i first last (λ e. true≢false (sym (eq-eqb i k e) ∙ none.0))) none.1;
+        other-stays highs i (other i first last (λ e. true≢false (sym (eq-eqb i k e) ∙ none.0))) none.1;
   }
     where
       at : (i : ℕ) → 1 ≤ i → i ≤ length r.lines → is_put_or_uses touched p k i ≡ true → (i ≡ k) ⊎ (i ≡ k → ⊥) → invalidates r i ≡ true
@@ -215,8 +217,8 @@ module _ (r : EditedText) {k : ℕ} {line : List ℕ} {touched : Touched} (is : 
           subst (λ m. IsItem r.base r.lines m item) number (subst (IsItem r.base r.lines n) is (item_of_line r.base r.lines items n item are (omega arith) last))
 
   -- so these are its items, and what is due
-  pub items-left : (items : List Item) (due : List ℕ) → AreItems r.base r.lines items → due ≡ lines_that (is_put_or_uses touched p k) (length r.lines) → AreItemsLeft r items due (length (revised_lines r))
-  items-left items due are those =
+  pub items-left : {added : Option ℕ} → KeepsHighs r.base p q k added → (items : List Item) (due : List ℕ) → AreItems r.base r.lines items → due ≡ lines_that (is_put_or_uses touched p k) (length r.lines) → AreItemsLeft r items due (length (revised_lines r))
+  items-left highs items due are those =
       let all : length items ≡ length r.lines = sym (length-map items (λ i. i.line)) ∙ ap length are.lines in
       let longer = is.longer in
       let next = within-next is in
@@ -228,7 +230,7 @@ module _ (r : EditedText) {k : ℕ} {line : List ℕ} {touched : Touched} (is : 
             let here : length (revised_lines r) ≡ k = count ∙ behind (omega (arith, more, all, count, length-program r.lines)) (omega arith) in
             ap (line_before_edit r.edit) here ∙ put.new;
         former = former items are;
-        told = record { test = is_put_or_uses touched p k; tells = subst (λ n. TellsDue r n (is_put_or_uses touched p k)) (sym all) tells; those = those ∙ ap (lines_that (is_put_or_uses touched p k)) (sym all) };
+        told = record { test = is_put_or_uses touched p k; tells = subst (λ n. TellsDue r n (is_put_or_uses touched p k)) (sym all) (tells highs); those = those ∙ ap (lines_that (is_put_or_uses touched p k)) (sym all) };
       }
     where
       at : (length p < length q) ⊎ (length q ≤ length p) → length items ≡ length r.lines → k ≤ suc (length p) → (length p < length q → length q ≤ length q → length q ≡ k) → length (revised_lines r) ≤ length items + 1
@@ -248,8 +250,8 @@ module _ (r : EditedText) {k : ℕ} {line : List ℕ} {touched : Touched} (is : 
         ∙ ap (λ ss. body_at ss k) (map-set_or_push statement_of r.lines (k - 1) line)
         ∙ ap (λ s. s.body) (at-set_or_push p (k - 1) (statement_of line) no_statement (let next = within-next is in omega (arith, next)))
 
-    -- what the line defines, and the operand from which its shape follows
-    defined-work : shape_operands r.edit + 2 * equ_operands (statement_of line).body ≤ work survey_operands r.base r.lines r.edit n
+    -- what the line defines, its high half, and the operand from which its shape follows
+    defined-work : shape_operands r.edit + 2 * equ_operands (statement_of line).body + high_operands (statement_of line).body ≤ work survey_operands r.base r.lines r.edit n
     defined-work =
         let last = is.last in
         let first = is.first in
@@ -260,10 +262,14 @@ module _ (r : EditedText) {k : ℕ} {line : List ℕ} {touched : Touched} (is : 
         let next = operands-next equ_operands (program_after r.lines r.edit) (k - 1) in
         let more = operands-more equ_operands (program_after r.lines r.edit) (k - 1 + 1) n (omega (arith, last, first, count)) in
         let here : equ_operands (body_at (program_after r.lines r.edit) (k - 1 + 1)) ≡ equ_operands (statement_of line).body = (let number : k - 1 + 1 ≡ k = omega (arith, first) in ap (λ m. equ_operands (body_at (program_after r.lines r.edit) m)) number ∙ ap equ_operands body-put) in
-        omega (arith, surveyed, constants, equs, shape, next, more, here)
+        let invalidated : invalidates r k ≡ true = ap (is_new_or (λ j. differs_in_uses r.base p (program_after r.lines r.edit) k j (body_at (program_after r.lines r.edit) k))) put.new in
+        let high = work-invalidated high_operands r.base r.lines r.edit k first invalidated in
+        let highs = work-up high_operands r.base r.lines r.edit k n (omega (arith, last, count)) in
+        let own : high_operands (body_at (program_after r.lines r.edit) k) ≡ high_operands (statement_of line).body = ap high_operands body-put in
+        omega (arith, surveyed, constants, equs, shape, next, more, here, high, highs, own)
 
-    module _ (old middle : Counts) (parsed : middle.parsed ≡ old.parsed) (least : old.valued ≤ middle.valued) (most : middle.valued ≤ old.valued + 2) (operands : middle.valued ≤ old.valued + 2 * equ_operands (statement_of line).body) (encoded : middle.encoded ≡ old.encoded) where
-      -- first what it defines is counted, then what the items take
+    module _ (old middle : Counts) (parsed : middle.parsed ≡ old.parsed) (least : old.valued ≤ middle.valued) (most : middle.valued ≤ old.valued + 3) (operands : middle.valued ≤ old.valued + 2 * equ_operands (statement_of line).body + high_operands (statement_of line).body) (encoded : middle.encoded ≡ old.encoded) where
+      -- first what it defines and its high half are counted, then what the items take
       pub counted-put : (new : Counts) → AreCounted r 0 n middle new → AreCountedAfter r.base r.lines r.edit old new
       counted-put new all =
           let first = is.first in

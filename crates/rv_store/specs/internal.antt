@@ -9,6 +9,7 @@ pub mod Drafts
 pub mod EditedRows
 pub mod Ends
 pub mod Forgetting
+pub mod HighRows
 pub mod Passed
 pub mod Renewed
 pub mod Still
@@ -16,3 +17,4 @@ pub mod StillLines
 pub mod Stored
 pub mod Surveys
 pub mod Unmoved
+pub mod Waiting

@@ -259,8 +259,7 @@ pub struct Added {
 
 /// What a line behind a text adds to it. `groups` are those of the lines, `uses` tells where names are first used, and `definitions` says where names are defined,
 /// with that line or without it. Each line before `from` finds all its local labels in the text. `None` if another line may have to do with it
-/// otherwise than by a name or a local label: an `.equ` or a high half of the text uses one that it adds, or the line is a high half, or there
-/// is no memory to find out.
+/// otherwise than by a name or a local label: an `.equ` or a high half of the text uses one that it adds, or there is no memory to find out.
 pub fn adds_apart(
     alloc: Global,
     lines: &[Line],
@@ -280,9 +279,6 @@ pub fn adds_apart(
     ensures nothing { IfSome result (λ added. added.any ≡ false → (name : List ℕ) → adds (program_of lines.now) (statement_of line.now) name ≡ false) }
     ensures users { IfSome result (λ added. added.users.items ≡ lines_that (uses_any (touches (program_of lines.now) (statement_of line.now) from) (program_of lines.now)) (length lines.now)) }
 {
-    if line.brief().pcrel_high {
-        return None;
-    }
     let behind = LineBehind {
         line,
         number: lines.len() as u32 + 1,

@@ -7,13 +7,14 @@ ghost use Rattle.rv_program.specs.declared.limits.TheConstants.{MAX_LINES};
 ghost use Rattle.rv_store.specs.internal.Appended.{shape_at_end};
 ghost use Rattle.rv_store.specs.internal.Ends.{ends_of};
 ghost use Rattle.rv_program.specs.Program.{program_of};
-ghost use Rattle.rv_program.specs.internal.Rows.{AreDefinitions, AreLocals, AreShapes};
+ghost use Rattle.rv_program.specs.internal.Rows.{AreDefinitions, AreLocals, ArePlaces, AreShapes};
 ghost use Rattle.rv_store.specs.internal.StillLines.{IsStillLine};
 
 use crate::apart::adds_apart;
 use crate::places::{last_place, stay_sections};
 use crate::still::Still;
 use crate::survey::Survey;
+use crate::waiting::waiting_from;
 use rv_layout::Measured;
 use rv_program::{Line, NameTable};
 use std::alloc::Global;
@@ -28,7 +29,7 @@ pub struct Ending {
 }
 
 /// What a line of this shape adds at the end of a text, if other lines have to do with it by its names and its local labels alone: no `.equ`
-/// and no high half uses what it defines, and no section moves by it.
+/// and no high half uses what it defines, no section moves by it, and if it is a high half, no line uses a label of a line that waits for it.
 pub fn apart_ending(
     alloc: Global,
     base: u32,
@@ -42,6 +43,7 @@ pub fn apart_ending(
     requires shapes { AreShapes (program_of survey.now.lines.items) survey.now.shapes.items }
     requires limited { AreLimited survey.now.shapes.items }
     requires ends { survey.now.ends ≡ ends_of survey.now.shapes.items }
+    requires places { ArePlaces base (program_of survey.now.lines.items) survey.now.places.items }
     requires locals { AreLocals (program_of survey.now.lines.items) (length (program_of survey.now.lines.items)) survey.now.locals }
     requires few { length survey.now.lines.items < MAX_LINES }
     requires shape { shape ≡ shape_at_end (program_of survey.now.lines.items) (statement_of line.now) }
@@ -65,11 +67,17 @@ pub fn apart_ending(
         from,
     )?;
     let place = last_place(base, &survey.ends, &ends, &shape);
+    let waiting = if line.brief().pcrel_high {
+        Some(waiting_from(survey, &place)?)
+    } else {
+        None
+    };
     let still = Still {
         shape,
         ends,
         place,
         defines: added.any,
+        waiting,
     };
     Some(Ending {
         still,

@@ -23,8 +23,8 @@ pub struct LastLine {
     pub defines: bool,
 }
 
-/// What the last line of a text is, if no other line has to do with it: it has no local label, none uses what it alone defines, and no
-/// section moves where it goes.
+/// What the last line of a text is, if no other line has to do with it: it has no local label and no high half, none uses what it alone
+/// defines, and no section moves where it goes.
 pub fn last_line(alloc: Global, base: u32, names: &NameTable, survey: &Survey) -> Option<LastLine>
     requires base { is_base base ≡ true }
     requires survey { IsSurvey base (program_of survey.now.lines.items) names.now survey.now }
@@ -37,7 +37,8 @@ pub fn last_line(alloc: Global, base: u32, names: &NameTable, survey: &Survey) -
     if !stay_sections(base, &before, &survey.ends) {
         return None;
     }
-    if line.brief().local_labels {
+    let brief = line.brief();
+    if brief.local_labels || brief.pcrel_high {
         return None;
     }
     let end = survey.lines.len() as u32;

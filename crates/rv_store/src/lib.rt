@@ -22,6 +22,7 @@ mod still;
 mod store;
 mod survey;
 mod symbols;
+mod waiting;
 
 pub use changed::{Changed, LineNumbers};
 pub use draft::Draft;

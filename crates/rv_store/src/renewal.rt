@@ -161,7 +161,7 @@ pub fn items_put<C: Count>(
     requires survey { IsSurvey base (program_of survey.now.lines.items) names.now survey.now }
     requires few { length survey.now.lines.items ≤ MAX_LINES }
     requires put { ArePut base survey.now.lines.items items.now.items (edit_of edit.now) due.now }
-    requires valued { C.valued_count counter.old ≤ 2 ^ 63 + 3 }
+    requires valued { C.valued_count counter.old ≤ 2 ^ 63 + 4 }
     requires encoded { C.encoded_count counter.old ≤ 2 ^ 63 }
     ensures items { IfOk result (λ r. AreItems base survey.now.lines.items r.0.items) }
     ensures changed { IfOk result (λ r. r.1.lines ≡ changed_through (edited_by base (lines_of items.now.items) edit.now) (length survey.now.lines.items)) }

@@ -12,9 +12,13 @@ ghost use Rattle.rv_program.specs.internal.Items.{AreItems};
 ghost use Rattle.rv_program.specs.Program.{program_of};
 ghost use Rattle.rv_program.specs.Text.{refusal_of, lines_after};
 ghost use Rattle.rv_program.specs.internal.Locals.{lines_with, with_last, lines_below};
-ghost use Rattle.rv_program.specs.internal.Rows.{AreLocals};
+ghost use Rattle.rv_program.specs.internal.Lines.{lines_of};
+ghost use Rattle.rv_program.specs.internal.Renewals.{changed_through};
+ghost use Rattle.rv_program.specs.internal.Rows.{AreHighs, AreLocals};
 ghost use Rattle.rv_program.specs.internal.Still.{set_or_push};
 ghost use Rattle.rv_store.specs.internal.Column.{taken_back};
+ghost use Rattle.rv_store.specs.internal.HighRows.{AreRows, StayButHighs, AreCountedWithHigh};
+ghost use Rattle.rv_store.specs.internal.Renewed.{ArePut, edited_by};
 ghost use Rattle.rv_store.specs.internal.Still.{IsPutEdit};
 ghost use Rattle.rv_store.specs.internal.StillLines.{IsStillLine, is_behind_with, AreLinesPut, StayButLocals, MayHaveLast, ArePartlyPut, IsFormerLine};
 ghost use Rattle.rv_store.specs.internal.Surveys.{IsSurvey};
@@ -41,6 +45,8 @@ pub struct Still {
     pub place: LinePlace,
     /// It is behind the text, and defines a name that the text does not.
     pub defines: bool,
+    /// It is behind the text, and a high half: that of the lines of its section behind the first so many.
+    pub waiting: Option<usize>,
 }
 
 /// What the rows by lines hold of a line, or nothing where they end before it.
@@ -131,7 +137,7 @@ impl Survey {
         }
     }
 
-    // Puts a line in the rows by lines, but in those of high halves, of which it has none. Where there is no memory for that, some of
+    // Puts a line in the rows by lines, but in that of high halves, which gets its own after them. Where there is no memory for that, some of
     // them may have it.
     fn put_line(
         &mut self,
@@ -168,6 +174,44 @@ impl Survey {
         put_back(&mut self.shapes, place, former.shape);
         put_back(&mut self.places, place, former.place);
         self.ends = former.ends;
+    }
+}
+
+// Makes the item of a line that was put in place, and those of the lines that use what it touches, after the row of high halves got that of
+// the line, if it adds one. The survey has the other rows of the text. Where there is no memory for that, it is what it was.
+fn put_items<C: Count>(
+    alloc: Global,
+    base: u32,
+    names: &NameTable,
+    survey: &mut Survey,
+    items: &SumTree<Item>,
+    edit: &LineEdit<'_>,
+    still: &Still,
+    due: &[u32],
+    counter: &mut C,
+) -> Result<(SumTree<Item>, Changed), EditError>
+    requires rows { AreRows base (program_of survey.old.lines.items) names.now survey.old }
+    requires highs { AreHighs base (program_of (lines_of items.now.items)) survey.old.highs.items }
+    requires put { (put : ArePut base survey.old.lines.items items.now.items (edit_of edit.now) due.now) × (put.given ≡ still.now) }
+    requires few { length survey.old.lines.items ≤ MAX_LINES }
+    requires valued { C.valued_count counter.old ≤ 2 ^ 63 + 3 }
+    requires encoded { C.encoded_count counter.old ≤ 2 ^ 63 }
+    ensures survey { OnOk result (IsSurvey base (program_of survey.new.lines.items) names.now survey.new) }
+    ensures highs { OnErr result (survey.new.highs.items ≡ survey.old.highs.items) }
+    ensures others { StayButHighs survey.old survey.new }
+    ensures items { IfOk result (λ r. AreItems base survey.old.lines.items r.0.items) }
+    ensures changed { IfOk result (λ r. r.1.lines ≡ changed_through (edited_by base (lines_of items.now.items) edit.now) (length survey.old.lines.items)) }
+    ensures memory { IfErr result (λ e. e ≡ EditError.Memory) }
+    ensures counted { AreCountedWithHigh (edited_by base (lines_of items.now.items) edit.now) (length survey.old.lines.items) still.now.waiting (counts_of C.parsed_count C.valued_count C.encoded_count counter.old) (counts_of C.parsed_count C.valued_count C.encoded_count counter.new) }
+{
+    let former = survey.highs.len();
+    survey.put_high(base, names, still, counter)?;
+    match items_put(alloc, base, names, survey, items, edit, due, counter) {
+        Ok(put) => Ok(put),
+        Err(e) => {
+            survey.take_high(still, former);
+            Err(e)
+        }
     }
 }
 
@@ -214,7 +258,7 @@ pub fn put_still<C: Count>(
     let new = line.share()?;
     survey.put_line(alloc, edit.place() as usize - 1, line, still)?;
     survey.define_last(alloc, base, names, &new, still.defines, counter)?;
-    match items_put(alloc, base, names, survey, items, edit, due, counter) {
+    match put_items(alloc, base, names, survey, items, edit, still, due, counter) {
         Ok(put) => Ok(put),
         Err(e) => {
             survey.forget_last(names, &new, still.defines);

@@ -215,6 +215,7 @@ impl Store {
             ends: survey.ends,
             place: survey.places[place],
             defines: false,
+            waiting: None,
         })
     }
 

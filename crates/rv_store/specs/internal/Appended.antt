@@ -1,6 +1,6 @@
 -- A line at the end of a text. Other lines have to do with it by the names that it defines and its local labels alone, where no section
 -- moves by it.
-use Rattle.std.specs.Prelude.{◌≡◌, ℕ, suc, ◌<◌, ◌≤◌, Bool, true, false, not, ◌&&◌, nat_lt, List, [], ◌∷◌, ◌++◌, length, None}
+use Rattle.std.specs.Prelude.{◌≡◌, ℕ, suc, ◌<◌, ◌≤◌, Bool, true, false, not, ◌&&◌, nat_lt, List, [], ◌∷◌, ◌++◌, length}
 use Rattle.std.specs.Option.{is_some}
 use Rattle.rv_expr.specs.declared.tree.Direction.TheVariants.{Forward}
 use Rattle.rv_stmt.specs.declared.statement.Stmt.{Stmt}
@@ -15,7 +15,6 @@ use Rattle.rv_store.specs.declared.survey.Survey.{Survey}
 use Rattle.rv_program.specs.Constants.{constant_through}
 use Rattle.rv_program.specs.Definitions.{place_in_statement, definition_of, is_defined}
 use Rattle.rv_program.specs.Layout.{shapes_of}
-use Rattle.rv_program.specs.Pairs.{pcrel_high_of}
 use Rattle.rv_program.specs.Program.{Program, program_of, body_at}
 use Rattle.rv_program.specs.References.{among_local, local_line, equ_value}
 use Rattle.rv_program.specs.internal.Locals.{lines_with}
@@ -51,10 +50,9 @@ FindsLocals program s from =
     (number i : ℕ) → among_local number s.labels ≡ true → i ≤ length program → i < from → is_some (local_line program i number Forward) ≡ true
 
 -- a statement with which the lines of a text have to do by the names that it adds and its local labels alone: none of them that uses one
--- is settled, and the statement is no high half
+-- is settled
 pub record IsApart (program : Program) (s : Stmt) (from : ℕ) : Type 0 where
   pub near : FindsLocals program s from
-  pub high : pcrel_high_of s.body ≡ None
   pub unused : (i : ℕ) → 1 ≤ i → i ≤ length program → is_settled (body_at program i) ≡ true → uses_any (touches program s from) program i ≡ false
 
 -- the shape of a statement at the end of a text

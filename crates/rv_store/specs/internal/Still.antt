@@ -42,7 +42,7 @@ pub record IsOther (p : Program) (k i : ℕ) : Type 0 where
 
 -- Line k of the text q is new, and only the names that are touched may be defined otherwise than in the text p: they give something
 -- else. Where it is behind the text, each line before those that it touches finds each of its local labels before it. No other line that
--- uses what is touched is settled, and none has to do with line k by an `.equ`, a high half or its place.
+-- uses what is touched is settled, and none has to do with line k by an `.equ` or its place.
 pub record IsStill (base : ℕ) (p q : Program) (k : ℕ) (touched : Touched) : Type 0 where
   pub first : 1 ≤ k
   pub last : k ≤ length q
@@ -57,8 +57,6 @@ pub record IsStill (base : ℕ) (p q : Program) (k : ℕ) (touched : Touched) : 
   pub constants : (m : ℕ) → m ≤ length p → constant_through q m ≡ constant_through p m
   pub locals : (number i : ℕ) → 1 ≤ i → i ≤ length p → has_local q number i ≡ has_local p number i
   pub near : (number i : ℕ) → length p < k → has_local q number k ≡ true → i ≤ length p → i < touched.from → is_some (local_line p i number Forward) ≡ true
-  pub high_before : pcrel_high_of (body_at p k) ≡ None
-  pub high : pcrel_high_of (body_at q k) ≡ None
   pub places : (i : ℕ) → 1 ≤ i → i ≤ length p → place_at base q i ≡ place_at base p i
 
 -- an edit puts a line in the place of line k, or behind the last one, and moves no other line

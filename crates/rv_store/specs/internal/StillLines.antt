@@ -1,7 +1,9 @@
 -- A line with which other lines have to do by its names and its local labels alone, and the rows of a text that get it in place.
 use Rattle.std.specs.Prelude.{◌≡◌, ℕ, suc, ◌+◌, ◌-◌, ◌<◌, ◌≤◌, ◌⊎◌, nat_lt, ◌&&◌, Bool, true, false, List, [], ◌∷◌, ◌++◌, length, get_or, Option, Some, None}
+use Rattle.std.specs.Option.{option_map}
 use Rattle.rv_stmt.specs.Statement.{statement_of}
 use Rattle.rv_layout.specs.Places.{IsLimited}
+use Rattle.rv_layout.specs.Sections.{section_number}
 use Rattle.rv_store.specs.declared.last_line.LastLine.{LastLine}
 use Rattle.rv_store.specs.declared.still.FormerLine.{FormerLine}
 use Rattle.rv_store.specs.declared.still.Still.{Still}
@@ -14,6 +16,12 @@ use Rattle.rv_program.specs.Program.{program_of, lines_that}
 use Rattle.rv_program.specs.References.{among_local}
 use Rattle.rv_program.specs.internal.Locals.{lines_with, with_last, lines_below}
 use Rattle.rv_program.specs.internal.Still.{set_or_push}
+use Rattle.rv_program.specs.internal.Work.{high_operands}
+use Rattle.rv_store.specs.internal.Waiting.{KeepsHighs, AreBare}
+
+-- the section of the high half that it adds, if it adds one
+abbrev pub high_section : Still → Option ℕ
+high_section given = option_map (λ first. section_number given.place.section) given.waiting
 
 -- What line k of a text is, if other lines have to do with it by its names and its local labels alone, and which lines of the text before it
 -- are due: line k, and those that use one of these. It defines a name that the text does not, and is behind it, or it touches no name.
@@ -26,6 +34,8 @@ pub record IsStillLine (base : ℕ) (lines : List (List ℕ)) (k : ℕ) (line : 
   pub place : given.place ≡ place_at base (program_of (set_or_push lines (k - 1) line)) k
   pub nothing : given.defines ≡ false → (name : List ℕ) → touched.names name ≡ false
   pub last : given.defines ≡ true → (k ≡ suc (length lines)) × StayEqus base lines line
+  pub highs : KeepsHighs base (program_of lines) (program_of (set_or_push lines (k - 1) line)) k (high_section given)
+  pub waiting : (first : ℕ) → given.waiting ≡ Some first → (AreBare (program_of lines) (section_number given.place.section) first) × (high_operands (statement_of line).body ≡ 1)
   pub those : due ≡ lines_that (is_put_or_uses touched (program_of lines) k) (length lines)
 
 -- the last line of a text, if no other line has to do with it
@@ -35,6 +45,7 @@ pub record IsLastLine (base : ℕ) (text : List (List ℕ)) (given : LastLine) :
   pub there : Still
   pub whole : text ≡ lines ++ line ∷ []
   pub still : IsStillLine base lines (length lines + 1) line there []
+  pub plain : there.waiting ≡ None
   pub before : given.before ≡ ends_of (shapes_of (program_of lines))
   pub defines : given.defines ≡ there.defines
   pub local : (number : ℕ) → among_local number (statement_of line).labels ≡ false

@@ -8,7 +8,6 @@ use Rattle.rv_program.specs.lemmas.Programs.{length-program}
 use Rattle.rv_program.specs.Program.{program_of, lines_that}
 use Rattle.rv_store.specs.internal.Appended.{adds}
 use Rattle.rv_store.specs.internal.Still.{Touched, uses_any}
-use Rattle.rv_store.proofs.AlikeLines.{no_high}
 use Rattle.rv_store.proofs.ApartLines.{adds-same}
 use Rattle.rv_store.proofs.apart.adds_apart.Goals as goal
 
@@ -24,7 +23,6 @@ returns-clause-apart c =
     let same = adds-same lines c.args.names.now c.args.definitions.now s (length lines + 1) c.requires.definitions number in
     record {
       near = c.requires.locals;
-      high = no_high s c.brief.result c.brief.ensures c.if-brief.false;
       unused = λ i first last settled.
           ap (λ f. uses_any (touching f c.args.from) (program_of lines) i) (sym same) ∙ c.in_ok-users.ensures.unsettled i first (omega (arith, last, length-program lines)) settled;
     }

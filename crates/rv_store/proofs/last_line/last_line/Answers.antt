@@ -11,6 +11,7 @@ use Rattle.rv_program.specs.internal.FirstUses.{AreFirstUses}
 use Rattle.rv_program.specs.lemmas.FirstUseLaws.{uses-before}
 use Rattle.rv_store.specs.internal.Ends.{ends_of}
 use Rattle.rv_store.specs.internal.Surveys.{IsSurvey}
+use Rattle.rv_store.proofs.AlikeLines.{no_high}
 use Rattle.rv_store.proofs.ApartLines.{tell-longer}
 use Rattle.rv_store.proofs.Endings.{together-before, together-all}
 use Rattle.rv_store.proofs.LastLines.{shapes, shape, shapes-with, count-shapes, is-last_line, limited-with, few-without, ends-with, ends-first}
@@ -81,7 +82,7 @@ adds_apart-requires-clause-groups c =
     ∙ ap (map groups_on) (take-append_seam lines (line ∷ []))
 
 pub adds_apart-requires-clause-locals : goal.adds_apart-requires-clause-locals
-adds_apart-requires-clause-locals c number i has = absurd (true≢false (sym has ∙ none-among number (statement_of c.in_ok-line.line.now).labels (sym (ap (λ b. b.local_labels) c.brief.ensures) ∙ c.if-brief.false)))
+adds_apart-requires-clause-locals c number i has = absurd (true≢false (sym has ∙ none-among number (statement_of c.in_ok-line.line.now).labels (sym (ap (λ b. b.local_labels) c.brief-brief.ensures) ∙ c.if-brief.false)))
 
 pub returns : goal.returns
 returns c =
@@ -95,5 +96,5 @@ returns c =
     is-last_line base lines line (limited-with base lines line c.args.names.now s few are) (few-without base lines line c.args.names.now s few are) _ s.ends s.lines.items whole
     (ends-with base lines line c.args.names.now s few are)
     (ends-first base lines line c.args.names.now s few are c.index.result.now c.index.ensures c.before-before.result c.before-before.ensures)
-    (c.stay_sections.ensures c.if-not-stay_sections.false) c.len-end.result c.in_ok-added.ensures.apart (λ number. none-among number (statement_of line).labels (sym (ap (λ b. b.local_labels) c.brief.ensures) ∙ c.if-brief.false)) c.in_ok-added.ensures.nothing
+    (c.stay_sections.ensures c.if-not-stay_sections.false) c.len-end.result c.in_ok-added.ensures.apart (λ number. none-among number (statement_of line).labels (sym (ap (λ b. b.local_labels) c.brief-brief.ensures) ∙ c.if-brief.false)) (no_high (statement_of line) c.brief-brief.result c.brief-brief.ensures c.if-brief-2.false) c.in_ok-added.ensures.nothing
     (empty c.in_ok-added.added.users.items c.is_empty.result (let count : c.in_ok-added.added.users.len ≡ length c.in_ok-added.added.users.items = omega (arith, c.in_ok-added.added.users.ok.0) in c.is_empty.ensures ∙ ap (λ n. n == 0) count) c.if-not-is_empty.false ∙ c.in_ok-added.ensures.users)

@@ -12,4 +12,4 @@ items_passed-requires-clause-left g c =
     let r : EditedText = edited_by c.args.base (lines_of c.args.items.now.items) c.args.edit.now in
     let count : length c.rows-rows.result.symbols.text.lines.now ≡ length (lines_after r.lines r.edit) = ap length (c.rows-rows.ensures.lines ∙ c.in_column-lines.ensures ∙ c.as_slice.ensures ∙ put.whole) in
     subst (λ ls. AreItemsLeft (record { base = c.args.base; lines = ls; edit = r.edit }) c.args.items.now.items c.args.due.now (length c.rows-rows.result.symbols.text.lines.now)) (sym c.in_items-old.ensures)
-    (subst (λ n. AreItemsLeft r c.args.items.now.items c.args.due.now n) (sym count) (items-left r put.still.still put.edited c.args.items.now.items c.args.due.now put.are put.still.those))
+    (subst (λ n. AreItemsLeft r c.args.items.now.items c.args.due.now n) (sym count) (items-left r put.still.still put.edited put.still.highs c.args.items.now.items c.args.due.now put.are put.still.those))

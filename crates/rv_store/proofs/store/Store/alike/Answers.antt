@@ -31,4 +31,4 @@ returns-clause-still c =
     let shape = c.index.ensures ∙ shape_of_line old.lines survey.shapes.items k c.index.result.now surveyed.shapes within.0 within.1 in
     let place = c.index-2.ensures ∙ place_of_line old.base old.lines survey.places.items k c.index-2.result.now surveyed.places within.0 within.1 in
     let alike = c.are_alike.ensures (program_of old.lines) k there shape c.requires.shape c.if-not-are_alike.false in
-    alike-line old.base old.lines k c.args.line.now _ within.0 within.1 alike c.requires.shape c.requires.limited (surveyed.ends ∙ ap ends_of surveyed.shapes) place refl
+    alike-line old.base old.lines k c.args.line.now _ within.0 within.1 alike c.requires.shape c.requires.limited (surveyed.ends ∙ ap ends_of surveyed.shapes) place refl refl

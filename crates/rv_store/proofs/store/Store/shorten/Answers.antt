@@ -34,6 +34,7 @@ module _ (base : ℕ) (names : List (List ℕ)) (survey : Survey) (items : List 
     there = is.there;
     whole = stored.listed ∙ whole;
     still = still;
+    plain = is.plain;
     before = is.before;
     defines = is.defines;
     local = is.local;
@@ -64,12 +65,12 @@ module _ (base : ℕ) (names : List (List ℕ)) (survey : Survey) (items : List 
     items-left : AreItems base is.lines items'
     items-left =
         let place : k - 1 ≡ length is.lines = omega (arith, at_end, count) in
-        subst (AreItems base is.lines) (sym (removed ∙ ap (remove items) place)) (items-without still items (subst (λ ls. AreItems base ls items) whole stored.assembled))
+        subst (AreItems base is.lines) (sym (removed ∙ ap (remove items) place)) (items-without still is.plain items (subst (λ ls. AreItems base ls items) whole stored.assembled))
 
     text-left : record { base = base; lines = map (λ i. i.line) items' } ≡ text_after old (Delete (length old.lines))
     text-left =
         let left : map (λ i. i.line) items' ≡ lines_after old.lines (Delete (length old.lines)) =
-        items-left.lines ∙ sym (lines-without still) ∙ (λ j. lines_after (sym is.whole j) (Delete (sym number j))) in
+        items-left.lines ∙ sym (lines-without still is.plain) ∙ (λ j. lines_after (sym is.whole j) (Delete (sym number j))) in
         λ i. record { base = (view i).base; lines = left i }
 
     stored-left : (new : Survey) → new.lines.items ≡ is.lines → IsSurvey base (program_of is.lines) names new → IsStored base (map (λ i. i.line) items') names new items'
@@ -110,7 +111,7 @@ returns-clause-changed c =
     let old = c.args.self.now in
     let is = c.requires in
     let count : length old.lines ≡ suc (length is.lines) = ap length is.whole ∙ count-longer is.lines is.line in
-    c.of.ensures ∙ c.new.ensures.items ∙ sym (nothing_changed is.still) ∙ (λ j. changed_lines old.base (sym is.whole j) (Delete (sym count j)))
+    c.of.ensures ∙ c.new.ensures.items ∙ sym (nothing_changed is.still is.plain) ∙ (λ j. changed_lines old.base (sym is.whole j) (Delete (sym count j)))
 
 pub bounds-as_slice-k : goal.bounds-as_slice-k
 bounds-as_slice-k c =

@@ -13,7 +13,7 @@ returns-clause-survey c base is named are =
     let symbols = by_names c.args.last.now.defines refl in
     let place : c.len-place.result - 1 ≡ length is.lines =
     omega (arith, c.len-place.ensures, ap length c.forget_last.ensures.lines.lines, ap length is.whole, count-longer is.lines is.line) in
-    survey-without is.still c.args.names.now c.args.self.now _ all
+    survey-without is.still is.plain c.args.names.now c.args.self.now _ all
     (record { definitions = symbols.definitions; constants = symbols.constants; equ_values = symbols.equ_values })
     (c.truncate-2.ensures.items ∙ (λ i. take (place i) (c.forget_last.ensures.lines.shapes i)))
     is.before
@@ -38,4 +38,4 @@ returns-clause-survey c base is named are =
         (subst (λ ls. AreSymbols base (program_of ls) (length ls) c.args.names.now c.args.self.now) (sym is.whole) held)
     by_names false e =
         symbols-same base (program_of is.lines) (length is.lines) c.args.names.now c.args.self.now c.forget_last.new.self (c.forget_last.ensures.none e)
-        (symbols-back is.still c.args.names.now c.args.self.now (is.still.nothing (sym is.defines ∙ e)) held)
+        (symbols-back is.still is.plain c.args.names.now c.args.self.now (is.still.nothing (sym is.defines ∙ e)) held)
