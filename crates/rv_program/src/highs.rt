@@ -8,11 +8,10 @@ ghost use Rattle.rv_program.specs.declared.limits.TheConstants.{MAX_LINES};
 ghost use Rattle.rv_program.specs.internal.Before.{IsBefore, IsAfter, base_before, lines_before, edit_on};
 ghost use Rattle.rv_program.specs.Changes.{is_invalidated};
 ghost use Rattle.rv_program.specs.internal.Differing.{HasDiffering};
-ghost use Rattle.rv_program.specs.Layout.{address_at, size_at};
+ghost use Rattle.rv_program.specs.Layout.{size_at};
 ghost use Rattle.rv_ops.specs.declared.op.Op.TheVariants.{Auipc};
 ghost use Rattle.rv_program.specs.Pairs.{is_high_among, is_high_alone, upper_by, pcrel_high_of, high_by, high_at};
 ghost use Rattle.rv_program.specs.Program.{body_at};
-ghost use Rattle.rv_program.specs.References.{references_at};
 ghost use Rattle.rv_program.specs.internal.Rows.{own_high_of, AreOwnHighs, AreHighs};
 ghost use Rattle.rv_program.specs.internal.SymbolRows.{AreSymbolRows};
 ghost use Rattle.rv_program.specs.internal.TextRows.{AreTextRows, AreEquValuesIn, program_in};
@@ -104,31 +103,6 @@ fn high_by<N: Names, C: Count>(body: &Body, names: &N, here: u32, counter: &mut 
     }
 }
 
-/// The high half that a body has on a line.
-pub fn high_of<'a, C: Count>(
-    text: &TextRows<'a>,
-    equ_values: &'a [Entry],
-    line: u32,
-    body: &Body,
-    counter: &mut C,
-) -> Entry
-    requires rows { AreTextRows text.now }
-    requires values { AreEquValuesIn text.now (length text.now.lines.now) equ_values.now }
-    requires first { 1 ≤ line }
-    requires last { line ≤ length text.now.lines.now }
-    requires few { length text.now.lines.now ≤ MAX_LINES }
-    requires valued { C.valued_count counter.old < 2 ^ 64 - 1 }
-    ensures value { result ≡ high_by (references_at text.now.base (program_in text.now) line) (address_at text.now.base (program_in text.now) line) (pcrel_high_of body.now) }
-    ensures least { C.valued_count counter.old ≤ C.valued_count counter.new }
-    ensures most { C.valued_count counter.new ≤ C.valued_count counter.old + 1 }
-    ensures parsed { C.parsed_count counter.new ≡ C.parsed_count counter.old }
-    ensures encoded { C.encoded_count counter.new ≡ C.encoded_count counter.old }
-{
-    let names = references_at(text, equ_values, line);
-    let place = place_on(text, line);
-    high_by(body, &names, place.address, counter)
-}
-
 /// The high half on a line.
 pub fn high_on<'a, C: Count>(
     text: &TextRows<'a>,
@@ -148,7 +122,14 @@ pub fn high_on<'a, C: Count>(
     ensures parsed { C.parsed_count counter.new ≡ C.parsed_count counter.old }
     ensures encoded { C.encoded_count counter.new ≡ C.encoded_count counter.old }
 {
-    high_of(text, equ_values, line, &statement_on(text, line).body, counter)
+    let names = references_at(text, equ_values, line);
+    let place = place_on(text, line);
+    high_by(
+        &statement_on(text, line).body,
+        &names,
+        place.address,
+        counter,
+    )
 }
 
 // Whether a line is an `auipc` with `%pcrel_hi`.

@@ -71,7 +71,6 @@ pub use locals::Locals;
 pub use moved_definitions::{definitions_after, keep_places};
 pub use name_set::{NameSet, bucket_of};
 pub use names::{NameTable, entry_at, entry_of};
-pub use pairs::high_in;
 pub use renewal_pass::renewed_in_one_pass;
 pub use renewed_line::{add_changed, renewed};
 pub use revision::Revision;
