@@ -2,11 +2,13 @@
 
 ghost use Rattle.std.specs.Prelude.{◌≡◌, ◌≤◌, length, take};
 
-use crate::name_uses::{Expected, expected_after, is_name};
+use crate::name_uses::is_name;
+use crate::operand_lists::is_other_name;
+use crate::typed::Typed;
 use rv_list::LineView;
 use rv_show::{first_bytes, part};
 use rv_stmt::{Body, LabelSlice, Operand};
-use rv_text::{MAX_LINE_LENGTH, Span, TokenKind, tokens};
+use rv_text::{MAX_LINE_LENGTH, Span, Token, tokens};
 use std::alloc::{AllocError, Global};
 
 /// What a name does in a line.
@@ -77,17 +79,17 @@ fn covers(mut operands: &[Operand], span: Span) -> bool {
     false
 }
 
-// Whether an expression may stand at a place. Of a line that is wrong this is not known.
-fn is_in_operand(body: &Body, span: Span) -> bool {
+// Whether a word in an operand may be that of a symbol. The operands of a line that is wrong are not known: every word counts that is no other name there.
+fn may_be_symbol(typed: &Typed<'_>, word: &[u8], body: &Body, span: Span) -> bool {
     match body {
-        Body::Faulty(_) => true,
+        Body::Faulty(_) => !is_other_name(typed.statement, typed.operand, word),
         _ => covers(body.operands(), span),
     }
 }
 
-/// Whether a token is a name in an operand, where that is expected.
-pub fn is_use(expected: Expected, kind: TokenKind, text: &[u8], body: &Body, span: Span) -> bool {
-    is_name(expected, kind, text) && is_in_operand(body, span)
+/// Whether a token is a name in an operand, by what stands before it.
+pub fn is_use(typed: &Typed<'_>, token: &Token, text: &[u8], body: &Body) -> bool {
+    is_name(typed.expected, token.kind, text) && may_be_symbol(typed, text, body, token.span)
 }
 
 // Adds the names that the operands of a line use.
@@ -102,17 +104,17 @@ fn push_used(
     let Ok(found) = tokens(alloc, text) else {
         return Err(AllocError);
     };
-    let mut expected = Expected::Statement;
+    let mut typed = Typed::beginning();
     let mut left = found.tokens();
     'tokens: while let [token, later @ ..] = left {
         let bytes = part(text, token.span);
-        if is_use(expected, token.kind, bytes, body, token.span) {
+        if is_use(&typed, token, bytes, body) {
             names.push(NameSpan {
                 span: token.span,
                 standing: Standing::Use,
             })?;
         }
-        expected = expected_after(expected, token.kind, bytes);
+        typed = typed.behind(token, bytes);
         left = later;
     }
     Ok(())

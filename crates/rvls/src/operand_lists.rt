@@ -5,7 +5,9 @@ ghost use Rattle.rv_stmt.specs.declared.modifiers.Modifier.TheVariants.{High, Lo
 ghost use Rattle.rv_stmt.specs.Values.{takes_modifier};
 
 use rv_code::in_class;
-use rv_ops::{Op, Reg, RegisterClass, Shape, classes, is_name, op_by_name, shape};
+use rv_ops::{
+    Op, Reg, RegisterClass, Shape, classes, csr_by_name, is_name, op_by_name, reg_by_name, shape,
+};
 use rv_stmt::{
     AlignmentUnit, DirectiveForm, DirectiveKind, FORMS, FormRow, Slot, directive_named,
     operand_slots,
@@ -257,4 +259,14 @@ pub fn names_taken(statement: &[u8], operand: usize, is_inside: bool) -> NameKin
         return others;
     };
     others.or(names_in_slots(op, operand_slots(shape(op)), operand, is_inside))
+}
+
+/// Whether a word in an operand of a wrong statement is no symbol, but the name of a register, wherever it stands, of a control and status register
+/// where one is taken, or whatever it is of a set or of a section.
+pub fn is_other_name(statement: &[u8], operand: usize, word: &[u8]) -> bool {
+    if reg_by_name(word).is_some() {
+        return true;
+    }
+    let kinds = names_taken(statement, operand, false);
+    kinds.sets || kinds.sections || (kinds.csrs && csr_by_name(word).is_some())
 }

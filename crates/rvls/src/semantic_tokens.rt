@@ -3,13 +3,13 @@
 ghost use Rattle.std.specs.Prelude.{◌≤◌, length};
 
 use crate::comments::comment_in;
-use crate::name_uses::{Expected, expected_after};
+use crate::name_uses::Expected;
 use crate::names::{is_use, text_of};
 use crate::new_names::is_register;
+use crate::typed::Typed;
 use rv_diagnostics::{Context, Message, Part, column_at};
 use rv_doc::Encoding;
 use rv_list::{DefinitionPlace, LineSource, LineView, View};
-use rv_ops::reg_by_name;
 use rv_show::part;
 use rv_stmt::Body;
 use rv_text::{Span, Token, TokenKind, tokens};
@@ -85,11 +85,8 @@ fn put_token(
     ])
 }
 
-// What a name in an operand is. Of a wrong line it is not known what is a name.
-fn name_type<V: View>(view: &V, body: &Body, name: &[u8]) -> u64 {
-    if matches!(body, Body::Faulty(_)) && reg_by_name(name).is_some() {
-        return VARIABLE;
-    }
+// What a name in an operand is.
+fn name_type<V: View>(view: &V, name: &[u8]) -> u64 {
     match view.definition(name) {
         DefinitionPlace::Equ(_) => CONSTANT,
         DefinitionPlace::Label(_, _) | DefinitionPlace::Nowhere => FUNCTION,
@@ -123,22 +120,22 @@ fn word_type(expected: Expected, word: &[u8]) -> Option<u64> {
     }
 }
 
-// What a token is that belongs to no label.
+// What a token is that belongs to no label, by what stands before it.
 fn token_type<V: View>(
     view: &V,
     body: &Body,
-    expected: Expected,
+    typed: &Typed<'_>,
     token: &Token,
     text: &[u8],
 ) -> Option<u64> {
     match token.kind {
         TokenKind::Identifier => {
-            if is_use(expected, token.kind, text, body, token.span) {
-                Some(name_type(view, body, text))
+            if is_use(typed, token, text, body) {
+                Some(name_type(view, text))
             } else if is_defined(body, token.span) {
                 Some(CONSTANT)
             } else {
-                word_type(expected, text)
+                word_type(typed.expected, text)
             }
         }
         TokenKind::Number => Some(NUMBER),
@@ -175,20 +172,20 @@ fn put_line<V: View>(
         return Err(AllocError);
     };
     let mut labels = line.stmt.labels.len().saturating_mul(2);
-    let mut expected = Expected::Statement;
+    let mut typed = Typed::beginning();
     let mut left = found.tokens();
     'tokens: while let [token, later @ ..] = left {
         let bytes = part(text, token.span);
         let kind = if labels > 0 {
             label_type(token.kind)
         } else {
-            token_type(view, &line.stmt.body, expected, token, bytes)
+            token_type(view, &line.stmt.body, &typed, token, bytes)
         };
         if let Some(kind) = kind {
             put_token(m, before, encoding, number, text, token.span, kind)?;
         }
         labels = labels.saturating_sub(1);
-        expected = expected_after(expected, token.kind, bytes);
+        typed = typed.behind(token, bytes);
         left = later;
     }
     if let Some(span) = comment_in(text, &found) {

@@ -1,4 +1,4 @@
-//! What is being typed in a line: its statement, and which of its operands.
+//! What stands before a place in a line: its statement, and which of its operands is there.
 
 ghost use Rattle.std.specs.Prelude.{◌≤◌, length};
 
@@ -26,6 +26,18 @@ pub struct Typed<'a> {
 }
 
 impl<'a> Typed<'a> {
+    /// The beginning of a line, before which nothing stands.
+    pub fn beginning() -> Typed<'a> {
+        Typed {
+            expected: Expected::Statement,
+            statement: b"",
+            operand: 0,
+            depth: 0,
+            begins: true,
+            from: 0,
+        }
+    }
+
     // Whether an operand begins behind a token more.
     fn begins_behind(&self, text: &[u8]) -> bool {
         match text {
@@ -35,8 +47,8 @@ impl<'a> Typed<'a> {
         }
     }
 
-    // What stands before the end of a line behind a token more.
-    fn behind(self, token: &Token, text: &'a [u8]) -> Typed<'a> {
+    /// What stands before a place with a token more.
+    pub fn behind(self, token: &Token, text: &'a [u8]) -> Typed<'a> {
         let mut typed = Typed {
             expected: expected_after(self.expected, token.kind, text),
             begins: self.begins_behind(text),
@@ -69,14 +81,7 @@ impl<'a> Typed<'a> {
 
 // What stands before the end of some bytes that have these tokens. An identifier that ends there is the word that is typed.
 fn typed_by<'a>(front: &'a [u8], mut left: &[Token]) -> Typed<'a> {
-    let mut typed = Typed {
-        expected: Expected::Statement,
-        statement: b"",
-        operand: 0,
-        depth: 0,
-        begins: true,
-        from: 0,
-    };
+    let mut typed = Typed::beginning();
     'tokens: while let [token, later @ ..] = left {
         let is_last = token.span.to as usize == front.len();
         if is_last && token.kind == TokenKind::Identifier {
