@@ -270,3 +270,12 @@ pub fn is_other_name(statement: &[u8], operand: usize, word: &[u8]) -> bool {
     let kinds = names_taken(statement, operand, false);
     kinds.sets || kinds.sections || (kinds.csrs && csr_by_name(word).is_some())
 }
+
+/// Whether an operand of a directive without effect has symbols: each that says who sees them, and those of a size; of a type it is the first.
+pub fn is_about_symbols(directive: &[u8], operand: usize) -> bool {
+    is_name(".globl", directive)
+        || is_name(".global", directive)
+        || is_name(".weak", directive)
+        || is_name(".size", directive)
+        || (is_name(".type", directive) && operand == 0)
+}
