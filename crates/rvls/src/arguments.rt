@@ -7,7 +7,8 @@ use std::convert::AsStr;
 /// The version of the program.
 pub const VERSION: &str = "0.1.0";
 
-/// Sees whether the arguments ask for a session. The first word is the program's name. Some editors pass `--stdio`, which changes nothing.
+/// Sees whether the arguments ask for a session. The first word is the program's name. Some editors pass `--stdio`, and the number of their own process:
+/// these change nothing.
 ///
 /// # Errors
 ///
@@ -17,11 +18,17 @@ pub fn check_arguments<S: AsStr>(alloc: Global, words: &[S]) -> Result<(), clap:
         .long("stdio")
         .help("Serve over standard input and output, as without it")
         .action(ArgAction::SetTrue);
+    let client = Arg::new(alloc, "clientProcessId")
+        .long("clientProcessId")
+        .value_name("N")
+        .help("The process of the editor, which changes nothing")
+        .action(ArgAction::Set);
     let command = Command::new(alloc, "rvls")
         .version(VERSION)
         .about("A language server for RISC-V assembly, over standard input and output")
         .after_help("How an editor starts it is described in docs/EDITORS.md.")
-        .arg(stdio)?;
+        .arg(stdio)?
+        .arg(client)?;
     command.try_get_matches_from(words)?;
     Ok(())
 }

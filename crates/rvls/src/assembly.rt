@@ -7,7 +7,7 @@ ghost use Rattle.rv_doc.specs.Edits.{spliced, text_after_all};
 ghost use Rattle.rv_doc.specs.Positions.{lines_of};
 ghost use Rattle.rv_doc.specs.Changes.{changes_of};
 ghost use Rattle.rv_changes.specs.Assembled.{assembled};
-ghost use Rattle.rvls.specs.PlacedDocuments.{placed, text_of};
+ghost use Rattle.rvls.specs.PlacedDocuments.{changed_by, placed, text_of};
 
 use crate::base::Base;
 use crate::loading::load;
@@ -159,7 +159,7 @@ impl Assembly {
         })
     }
 
-    /// The document after the changes of a message, if each is well formed.
+    /// The document after the changes of a message, if each is well formed, and else the document as it is.
     ///
     /// # Errors
     ///
@@ -169,12 +169,12 @@ impl Assembly {
         alloc: Global,
         encoding: Encoding,
         changes: &[Value],
-    ) -> Result<Option<Assembly>, AllocError>
-        ensures { IfOk result (λ new. new ≡ option_map (placed self.base) (option_map (text_after_all encoding self.document) (changes_of (map view changes.now)))) }
+    ) -> Result<Result<Assembly, Assembly>, AllocError>
+        ensures { IfOk result (λ new. new ≡ changed_by (option_map (text_after_all encoding self.document) (changes_of (map view changes.now))) self) }
     {
         match self.text_after(alloc, encoding, changes)? {
-            Some(document) => Ok(Some(self.with_text(alloc, document)?)),
-            None => Ok(None),
+            Some(document) => Ok(Ok(self.with_text(alloc, document)?)),
+            None => Ok(Err(self)),
         }
     }
 }

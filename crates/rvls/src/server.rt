@@ -12,9 +12,10 @@ use crate::bodies::message_in;
 use crate::looking_up::{Question, put_answer, question_in};
 use crate::publishing::publish;
 use crate::semantic_tokens::TOKEN_TYPES;
-use crate::writing::{Failure, Refusal, answer_null, begin_result, refuse, show_error};
+use crate::writing::{Failure, Notice, Refusal, answer_null, begin_result, refuse, tell};
 use rv_diagnostics::{Context, Message, Part, publish_none};
 use rv_doc::{Encoding, text_at};
+use rv_show::Text;
 use serde_json::Value;
 use std::alloc::{AllocError, Global};
 
@@ -32,7 +33,7 @@ pub const SHUT_DOWN: u8 = 0;
 /// The status of a session that ends without that.
 pub const CUT_OFF: u8 = 1;
 
-/// The status of a session in which a message cannot be taken.
+/// The status of a session in which it is not known where a message ends.
 pub const MALFORMED: u8 = 3;
 
 // How far a session is.
@@ -69,22 +70,30 @@ impl Open {
         })
     }
 
-    // The document after the changes of a message, if each is well formed.
+    // The document after the changes of a message, if each is well formed, and else the document as it is.
     fn changed(
         self,
         alloc: Global,
         encoding: Encoding,
-        version: Option<i64>,
+        new_version: Option<i64>,
         changes: &[Value],
-    ) -> Result<Option<Open>, AllocError> {
-        let Open { uri, document, .. } = self;
+    ) -> Result<Result<Open, Open>, AllocError> {
+        let Open {
+            uri,
+            version,
+            document,
+        } = self;
         match document.changed(alloc, encoding, changes)? {
-            Some(document) => Ok(Some(Open {
+            Ok(document) => Ok(Ok(Open {
+                uri,
+                version: new_version,
+                document,
+            })),
+            Err(document) => Ok(Err(Open {
                 uri,
                 version,
                 document,
             })),
-            None => Ok(None),
         }
     }
 }
@@ -252,6 +261,10 @@ fn changed_in(message: &Value) -> Option<(&str, &[Value])> {
     Some((uri, changes.as_slice()))
 }
 
+// What is said of a change that cannot be made.
+const BAD_CHANGE: &str =
+    "rvls: a malformed didChange is ignored; its document is no longer what the editor shows, and should be closed and opened again";
+
 // The version of a document that a message is about, if it says one.
 fn version_in(message: &Value) -> Option<i64> {
     message.pointer("/params/textDocument/version")?.as_i64()
@@ -308,10 +321,26 @@ impl Server {
         Ok(())
     }
 
-    /// Ends the session, since a message cannot be taken.
+    /// Ends the session, since it is not known where a message ends.
     pub fn give_up(&self, what: &str, out: &mut Vec<u8>) -> Result<Next, AllocError> {
-        show_error(self.alloc, what, out)?;
+        tell(self.alloc, Notice::Error, what, out)?;
         Ok(Next::Exit(MALFORMED))
+    }
+
+    // Says why a notification is ignored.
+    fn ignore(&self, why: &str, out: &mut Vec<u8>) -> Result<(), AllocError> {
+        tell(self.alloc, Notice::Warning, why, out)
+    }
+
+    // Says for the log of the editor what runs here.
+    fn introduce(&self, out: &mut Vec<u8>) -> Result<(), AllocError> {
+        let mut text = Text::new(self.alloc);
+        text.push(b"rvls ")?;
+        text.push(VERSION.as_bytes())?;
+        text.push(b", base 0x")?;
+        text.push_word(self.base.address())?;
+        let said = String::from_utf8_lossy(self.alloc, text.bytes())?;
+        tell(self.alloc, Notice::Log, said.as_str(), out)
     }
 
     // Begins the session, if the base that is asked for is one.
@@ -332,40 +361,39 @@ impl Server {
     }
 
     // Opens a document.
-    fn open(&mut self, message: &Value, out: &mut Vec<u8>) -> Result<Next, AllocError> {
+    fn open(&mut self, message: &Value, out: &mut Vec<u8>) -> Result<(), AllocError> {
         let Some((uri, text)) = opened_in(message) else {
-            return self.give_up("rvls: a malformed didOpen ends the session", out);
+            return self.ignore("rvls: a malformed didOpen is ignored", out);
         };
         let _ = self.take(uri);
         let open = Open::new(self.alloc, self.base, uri, version_in(message), text)?;
-        self.keep(open, out)?;
-        Ok(Next::Go)
+        self.keep(open, out)
     }
 
     // Closes a document.
-    fn close(&mut self, message: &Value, out: &mut Vec<u8>) -> Result<Next, AllocError> {
+    fn close(&mut self, message: &Value, out: &mut Vec<u8>) -> Result<(), AllocError> {
         let Some(uri) = text_at(message, "/params/textDocument/uri") else {
-            return self.give_up("rvls: a malformed didClose ends the session", out);
+            return self.ignore("rvls: a malformed didClose is ignored", out);
         };
         let _ = self.take(uri);
-        publish_none(self.alloc, uri, out)?;
-        Ok(Next::Go)
+        publish_none(self.alloc, uri, out)
     }
 
     // Makes the changes of a document.
-    fn change(&mut self, message: &Value, out: &mut Vec<u8>) -> Result<Next, AllocError> {
+    fn change(&mut self, message: &Value, out: &mut Vec<u8>) -> Result<(), AllocError> {
         let Some((uri, changes)) = changed_in(message) else {
-            return self.give_up("rvls: a malformed didChange ends the session", out);
+            return self.ignore(BAD_CHANGE, out);
         };
         let Some(open) = self.take(uri) else {
-            return Ok(Next::Go);
+            return Ok(());
         };
-        let changed = open.changed(self.alloc, self.encoding, version_in(message), changes)?;
-        let Some(open) = changed else {
-            return self.give_up("rvls: a malformed didChange ends the session", out);
-        };
-        self.keep(open, out)?;
-        Ok(Next::Go)
+        match open.changed(self.alloc, self.encoding, version_in(message), changes)? {
+            Ok(open) => self.keep(open, out),
+            Err(open) => {
+                self.documents.push(open)?;
+                self.ignore(BAD_CHANGE, out)
+            }
+        }
     }
 
     // Does what a notification says.
@@ -386,11 +414,13 @@ impl Server {
             Phase::Fresh | Phase::Down => return Ok(Next::Go),
         }
         match method {
-            "textDocument/didOpen" => self.open(message, out),
-            "textDocument/didChange" => self.change(message, out),
-            "textDocument/didClose" => self.close(message, out),
-            _ => Ok(Next::Go),
+            "initialized" => self.introduce(out)?,
+            "textDocument/didOpen" => self.open(message, out)?,
+            "textDocument/didChange" => self.change(message, out)?,
+            "textDocument/didClose" => self.close(message, out)?,
+            _ => {}
         }
+        Ok(Next::Go)
     }
 
     // Answers a request of a session that has begun.

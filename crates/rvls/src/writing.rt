@@ -166,16 +166,51 @@ pub fn refuse(
     message.end(out)
 }
 
-/// Shows the user that something went wrong.
-pub fn show_error(alloc: Global, text: &str, out: &mut Vec<u8>) -> Result<(), AllocError> {
+/// What the user is told.
+#[derive(Clone, Copy)]
+pub enum Notice {
+    /// Why the session ends.
+    Error,
+    /// Why a notification is ignored.
+    Warning,
+    /// What is kept in the editor's log, and not shown.
+    Log,
+}
+
+impl Notice {
+    // The notification.
+    fn method(self) -> &'static str {
+        match self {
+            Notice::Error | Notice::Warning => "window/showMessage",
+            Notice::Log => "window/logMessage",
+        }
+    }
+
+    // Its type. (Language Server Protocol 3.17, MessageType)
+    fn number(self) -> u64 {
+        match self {
+            Notice::Error => 1,
+            Notice::Warning => 2,
+            Notice::Log => 3,
+        }
+    }
+}
+
+/// Tells the user something.
+pub fn tell(
+    alloc: Global,
+    notice: Notice,
+    text: &str,
+    out: &mut Vec<u8>,
+) -> Result<(), AllocError> {
     let mut message = Message::begin(alloc)?;
     message.put_all(&[
         Part::Key("method"),
-        Part::Text("window/showMessage"),
+        Part::Text(notice.method()),
         Part::Key("params"),
         Part::BeginObject,
         Part::Key("type"),
-        Part::Number(1),
+        Part::Number(notice.number()),
         Part::Key("message"),
         Part::Text(text),
         Part::EndObject,
