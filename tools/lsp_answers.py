@@ -4,8 +4,8 @@ import subprocess
 
 from lsp_reports import Wrong, assembled, place_of, position_of, reports_of
 
-# The types of tokens that a name can have, by their numbers: variable, function, enumMember.
-NAME_TYPES = (2, 3, 4)
+# The types of tokens that a name can have, by their numbers: function, enumMember.
+NAME_TYPES = (3, 4)
 
 
 def span_of(text, place, encoding):

@@ -1,6 +1,6 @@
 //! Names that may be typed at a place.
 
-use crate::comments::end_of;
+use crate::comments::{end_of, is_in_sign};
 use crate::name_uses::Expected;
 use crate::names::text_of;
 use crate::operand_lists::{NameKinds, Registers, directive_words, names_taken, slot_words};
@@ -290,8 +290,8 @@ fn put_expected<V: View>(
     }
 }
 
-/// Writes the names that may be typed at a position of this line: none behind its end, and so none in one that is too long, which is assembled
-/// as if it were empty.
+/// Writes the names that may be typed at a position of this line: none in the sign of a comment, and none after its end, and so none in one that is
+/// too long, which is assembled as if it were empty.
 ///
 /// # Errors
 ///
@@ -308,7 +308,7 @@ pub fn put_completions<V: View>(
     let at = before_column(context.encoding, text, position.character);
     let place = u32::try_from(at).unwrap_or(u32::MAX);
     let to = column_at(context.encoding, text, place);
-    if to != position.character {
+    if to != position.character || is_in_sign(text, at) {
         return Ok(());
     }
     let Some(typed) = typed_in(context.alloc, first_bytes(text, at))? else {

@@ -46,10 +46,7 @@ fn put_lines<V: View>(
     to: u32,
 ) -> Result<(), AllocError> {
     let mut lines = view.lines();
-    for k in 0..view.line_count() {
-        if k > to {
-            return Ok(());
-        }
+    for k in 0..view.line_count().min(to) {
         lines.advance();
         let line = lines.line();
         if k >= from && line.place.size > 0 {
@@ -59,7 +56,7 @@ fn put_lines<V: View>(
     Ok(())
 }
 
-/// Writes the hints of the lines with bytes from number `from` on, up to and with number `to`, both from 0 on.
+/// Writes the hints of the lines with bytes from number `from` on and before number `to`, both from 0 on.
 ///
 /// # Errors
 ///

@@ -48,7 +48,7 @@ pub enum Wish<'a> {
 pub enum Question<'a> {
     /// Which symbols it has.
     Symbols,
-    /// What the tokens are of the lines from the first number up to and with the second, from 0 on.
+    /// What the tokens are of the lines from the first number on and before the second, from 0 on.
     Tokens(u32, u32),
     /// What is shown beside such lines.
     Hints(u32, u32),
@@ -87,11 +87,14 @@ fn wish_in<'a>(method: &str, message: &'a Value) -> Option<Wish<'a>> {
     }
 }
 
-// The first and the last line of the range of a request, from 0 on.
+// The first line of the range of a request, from 0 on, and the first one after it. A line at whose beginning the range ends is after it.
 fn lines_in(message: &Value) -> Option<(u32, u32)> {
     let from = number_at(message, "/params/range/start/line")?;
-    let to = number_at(message, "/params/range/end/line")?;
-    Some((from, to))
+    let last = number_at(message, "/params/range/end/line")?;
+    match number_at(message, "/params/range/end/character") {
+        Some(0) => Some((from, last)),
+        _ => Some((from, last.saturating_add(1))),
+    }
 }
 
 /// What a request asks about a document, if its parameters are right.

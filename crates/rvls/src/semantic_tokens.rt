@@ -194,7 +194,7 @@ fn put_line<V: View>(
     Ok(())
 }
 
-/// Writes the tokens of the lines from number `from` on, up to and with number `to`, both from 0 on.
+/// Writes the tokens of the lines from number `from` on and before number `to`, both from 0 on.
 ///
 /// # Errors
 ///
@@ -209,7 +209,7 @@ pub fn put_semantic_tokens<V: View>(
     let mut before = Before { line: 0, column: 0 };
     m.put_all(&[Part::BeginObject, Part::Key("data"), Part::BeginArray])?;
     let mut lines = view.lines();
-    for k in 0..view.line_count().min(to.saturating_add(1)) {
+    for k in 0..view.line_count().min(to) {
         lines.advance();
         if k >= from {
             put_line(m, &mut before, context, view, k, &lines.line())?;
