@@ -205,6 +205,12 @@ def listed_hints(rvas, folder, text, encoding, base):
     return listed
 
 
+def hints_within(listed, place):
+    """Those of the lines of a range, and of other lines nothing. A range that ends at the beginning of a line is without that line."""
+    lines = range(place["start"]["line"], place["end"]["line"] + (place["end"]["character"] > 0))
+    return [row if number in lines else (0, "", "") for number, row in enumerate(listed)]
+
+
 def hint_difference(hints, listed):
     """The first line whose hint is not what is listed, or nothing."""
     found = {hint["position"]["line"]: (hint["position"]["character"], *hint["label"].partition(" ")[::2]) for hint in hints}

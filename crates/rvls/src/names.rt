@@ -3,7 +3,7 @@
 ghost use Rattle.std.specs.Prelude.{◌≡◌, ◌≤◌, length, take};
 
 use crate::name_uses::is_name;
-use crate::operand_lists::{is_about_symbols, is_other_name};
+use crate::operand_lists::{is_other_name, names_symbols};
 use crate::typed::Typed;
 use rv_list::LineView;
 use rv_show::{first_bytes, part};
@@ -79,12 +79,12 @@ fn covers(mut operands: &[Operand], span: Span) -> bool {
     false
 }
 
-// Whether a word in an operand may be that of a symbol. The operands of a line that is wrong are not known: every word counts that is no other name there.
-// Those of a directive without effect are not read, but some of these directives are about symbols.
+// Whether a word in an operand may be the name of a symbol or of a local label. In a line that is wrong it is one unless it is known to be another name.
+// A directive without effect is not read, but some of these directives name symbols.
 fn may_be_symbol(typed: &Typed<'_>, word: &[u8], body: &Body, span: Span) -> bool {
     match body {
         Body::Faulty(_) => !is_other_name(typed.statement, typed.operand, word),
-        Body::Ignored => is_about_symbols(typed.statement, typed.operand),
+        Body::Ignored => names_symbols(typed.statement, typed.operand),
         _ => covers(body.operands(), span),
     }
 }

@@ -261,8 +261,8 @@ pub fn names_taken(statement: &[u8], operand: usize, is_inside: bool) -> NameKin
     others.or(names_in_slots(op, operand_slots(shape(op)), operand, is_inside))
 }
 
-/// Whether a word in an operand of a wrong statement is no symbol, but the name of a register, wherever it stands, of a control and status register
-/// where one is taken, or whatever it is of a set or of a section.
+/// Whether a word in an operand of a wrong statement is no symbol: it is spelled like a register, or like a control and status register where one is
+/// taken, or it stands where a set or the name of a section is taken.
 pub fn is_other_name(statement: &[u8], operand: usize, word: &[u8]) -> bool {
     if reg_by_name(word).is_some() {
         return true;
@@ -271,8 +271,9 @@ pub fn is_other_name(statement: &[u8], operand: usize, word: &[u8]) -> bool {
     kinds.sets || kinds.sections || (kinds.csrs && csr_by_name(word).is_some())
 }
 
-/// Whether an operand of a directive without effect has symbols: each that says who sees them, and those of a size; of a type it is the first.
-pub fn is_about_symbols(directive: &[u8], operand: usize) -> bool {
+/// Whether an operand of a directive without effect has names of symbols: each operand of those that say who sees a symbol, and of `.size`, and the
+/// first one of `.type`.
+pub fn names_symbols(directive: &[u8], operand: usize) -> bool {
     is_name(".globl", directive)
         || is_name(".global", directive)
         || is_name(".weak", directive)
