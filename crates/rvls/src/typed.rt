@@ -79,9 +79,9 @@ impl<'a> Typed<'a> {
     }
 }
 
-// What stands before the end of some bytes that have these tokens. An identifier that ends there is the word that is typed.
-fn typed_by<'a>(front: &'a [u8], mut left: &[Token]) -> Typed<'a> {
-    let mut typed = Typed::beginning();
+// What stands before the end of some bytes, of which these tokens are left after what was typed before. An identifier that ends there is the word that
+// is typed.
+fn typed_by<'a>(front: &'a [u8], mut left: &[Token], mut typed: Typed<'a>) -> Typed<'a> {
     'tokens: while let [token, later @ ..] = left {
         let is_last = token.span.to as usize == front.len();
         if is_last && token.kind == TokenKind::Identifier {
@@ -107,5 +107,5 @@ pub fn typed_in(alloc: Global, front: &[u8]) -> Result<Option<Typed<'_>>, AllocE
     if found.fault().is_some() || comment_in(front, &found).is_some() {
         return Ok(None);
     }
-    Ok(Some(typed_by(front, found.tokens())))
+    Ok(Some(typed_by(front, found.tokens(), Typed::beginning())))
 }
