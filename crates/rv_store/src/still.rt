@@ -45,7 +45,7 @@ pub struct Still {
     pub place: LinePlace,
     /// It is behind the text, and defines a name that the text does not.
     pub defines: bool,
-    /// It is behind the text, and a high half: that of the lines of its section behind the first so many.
+    /// It is after the text, and a high half: that of the lines of its section after the first so many.
     pub waiting: Option<usize>,
 }
 

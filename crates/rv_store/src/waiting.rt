@@ -50,7 +50,7 @@ fn is_unused(line: &Line, uses: &FirstUses, count: usize) -> bool
     !line.brief().local_labels && are_unused(line.stmt().labels.as_slice(), uses, count)
 }
 
-/// How many lines of a text there are before those that wait for the high half of a line that lies there, behind all of them. `None` if a line
+/// How many lines of a text there are before those that wait for the high half of a line that lies there, after all of them. `None` if a line
 /// uses a label of one of these, or that line has no bytes.
 pub fn waiting_from(survey: &Survey, place: &LinePlace) -> Option<usize>
     requires { (base : ℕ) × ArePlaces base (program_of survey.now.lines.items) survey.now.places.items }
@@ -79,7 +79,7 @@ pub fn waiting_from(survey: &Survey, place: &LinePlace) -> Option<usize>
     Some(0)
 }
 
-// Puts a high half in a row for the lines of a section behind the first lines.
+// Puts a high half in a row for the lines of a section after the first lines.
 fn put_behind(
     highs: &mut Vec<Entry>,
     places: &[LinePlace],

@@ -35,7 +35,7 @@ pub record StayButHighs (old new : Survey) : Type 0 where
 
 -- The row of high halves
 
--- it got the high half of a line for the lines of its section behind the first lines, if that line adds one
+-- it got the high half of a line for the lines of its section after the first lines, if that line adds one
 abbrev pub GetHigh : (waiting : Option ℕ) → List LinePlace → (section : ℕ) → (high : Entry) → (old new : List Entry) → Type 0
 GetHigh None places section high old new = new ≡ old
 GetHigh (Some first) places section high old new = HaveHigh places section first high old new

@@ -50,7 +50,7 @@ pub record IsUnused (firsts : Firsts) (count : ℕ) (s : Stmt) : Type 0 where
   pub local : (number : ℕ) → among_local number s.labels ≡ false
   pub symbols : (name : List ℕ) → list_any (λ l. defines_symbol l.name name) s.labels ≡ true → count ≤ first_use firsts (bucket_of name)
 
--- the lines of a section behind the first lines have no bytes
+-- the lines of a section after the first lines have no bytes
 pub record AreBare (p : Program) (section first : ℕ) : Type 0 where
   pub last : first ≤ length p
   pub before : 1 ≤ first → has_bytes_in p section first ≡ true
