@@ -40,8 +40,8 @@ impl Model for Assembly {
     ghost invariant = { λ a. a.store ≡ assembled a.base a.document };
 }
 
-// How many lines are edited one by one at most: where more change, the text is put into a new store. That takes about 20
-// microseconds a line; an edit that moves the lines behind it, a tenth of a microsecond for each of them.
+// How many lines are edited one by one at most: where more change, the text is put into a new store. That takes about 4
+// microseconds a line; an edit that moves the lines after it, up to a tenth of a microsecond for each of them.
 const MOST_EDITS: usize = 128;
 
 // The store of a document that has changed, by the store of what it was.
