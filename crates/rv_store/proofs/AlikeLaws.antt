@@ -3,6 +3,8 @@ use Rattle.std.proofs.Common.{◌≡◌, ℕ, zero, suc, ◌+◌, ◌-◌, ◌�
 use Rattle.std.specs.Result.{result_ok}
 use Rattle.std.proofs.lemmas.List.{length-set, get_or-set_same, get_or-set_other}
 use Rattle.std.proofs.Math.Path.{fun_ext}
+use Rattle.rv_stmt.specs.declared.statement.Body.{Body}
+use Rattle.rv_stmt.specs.declared.statement.Body.TheVariants as body
 use Rattle.rv_stmt.specs.declared.statement.Stmt.{Stmt}
 use Rattle.rv_stmt.specs.LabelNames.{Label}
 use Rattle.rv_layout.specs.Shapes.{constants, shape_of}
@@ -12,14 +14,15 @@ use Rattle.rv_program.specs.Constants.{defined_value, constant_of, constant_thro
 use Rattle.rv_program.specs.Definitions.{defines_symbol, place_among_labels, place_in_body, or_place, place_in_statement, first_place, definition_of, is_equ_on}
 use Rattle.rv_store.specs.internal.Ends.{ends_of}
 use Rattle.rv_program.specs.Layout.{shape_at, shapes_of, address_at, place_at}
-use Rattle.rv_program.specs.Pairs.{pcrel_high_of, high_by}
+use Rattle.rv_program.specs.Pairs.{pcrel_high_of, high_by, high_at}
 use Rattle.rv_program.specs.Program.{Program, no_statement, statement_at, body_at, for_lines}
-use Rattle.rv_program.specs.References.{is_local, among_local, has_local, references_at}
+use Rattle.rv_program.specs.References.{is_local, among_local, has_local, symbol_through, usable_equs, reference_of, references_at}
 use Rattle.rv_store.specs.internal.Still.{Touched, IsStill}
 use Rattle.rv_program.specs.Uses.{is_equ}
 use Rattle.rv_store.specs.internal.Waiting.{KeepsHighs}
 use Rattle.rv_store.proofs.ApartLines.{untouched}
-use Rattle.rv_store.proofs.StillLaws.{none-added}
+use Rattle.rv_store.proofs.AgreeingNames.{high-settled}
+use Rattle.rv_store.proofs.StillLaws.{none-used, expressions-agree, symbol-all, none-added}
 use Rattle.rv_program.specs.lemmas.DefinitionRows.{nowhere}
 use Rattle.rv_program.specs.lemmas.ConstantRows.{IsEquOf, is_equ_of, equ-defines, constant-kept}
 use Rattle.rv_store.proofs.Rooms as rooms
@@ -56,7 +59,7 @@ place_in_statement-same : (line : ℕ) (s t : Stmt) (name : List ℕ) → Define
 place_in_statement-same line s t name same =
     let labels = place_among-same line 0 s.labels t.labels name same.labels in
     let here : place_in_body line t.body name ≡ place_in_body line s.body name =
-    nowhere line t.body name same.plain_after.equ ∙ sym (nowhere line s.body name same.plain_before.equ) in
+    nowhere line t.body name same.equ_after ∙ sym (nowhere line s.body name same.equ_before) in
     λ i. or_place (labels i) (here i)
 
 first_place-same : (line : ℕ) (p : Program) (j : ℕ) (t : Stmt) (name : List ℕ) → DefinesSame (get_or p j no_statement) t → first_place line (set p j t) name ≡ first_place line p name
@@ -116,7 +119,7 @@ module _ (p : Program) (k : ℕ) (t : Stmt) (first : 1 ≤ k) (last : k ≤ leng
   no_equ : (name : List ℕ) → is_equ_on k (definition_of p name) ≡ false
   no_equ name =
       let next : suc (k - 1) ≡ k = omega (arith, first) in
-      ap (λ n. is_equ_on n (definition_of p name)) (sym next) ∙ no_equ-on p (k - 1) name (ap (λ n. is_equ (body_at p n)) next ∙ alike.defines.plain_before.equ)
+      ap (λ n. is_equ_on n (definition_of p name)) (sym next) ∙ no_equ-on p (k - 1) name (ap (λ n. is_equ (body_at p n)) next ∙ alike.defines.equ_before)
 
   constants-same : (m : ℕ) → constant_through put m ≡ constant_through p m
   constants-same zero = refl
@@ -185,9 +188,33 @@ module _ (p : Program) (k : ℕ) (t : Stmt) (first : 1 ≤ k) (last : k ≤ leng
     places = λ i from to. ap (λ f. f i) (place-same base);
   }
 
+  -- High halves
+
+  usable-all : (q : Program) (b : Body) → is_equ b ≡ false → usable_equs q k b ≡ length q
+  usable-all q (body.Equ d) equ = absurd (true≢false equ)
+  usable-all q b equ = refl
+
+  high-same : (base : ℕ) → high_at base put k ≡ high_at base p k
+  high-same base =
+      (λ j. high_by (references_at base put k) (address j) (high j))
+      ∙ high-settled (expressions-agree still k (reference_of base put k) (reference_of base p k) first last symbols) (address_at base p k) (body_at p k)
+      (λ settled. none-used still k last (untouched p (nothing_touched p) k (λ name. refl) (omega (arith, last))))
+    where
+      still : IsStill base p put k (nothing_touched p)
+      still = alike-still base
+
+      address : address_at base put k ≡ address_at base p k
+      address = ap (λ f. (f k).address) (place-same base)
+
+      high : pcrel_high_of (body_at put k) ≡ pcrel_high_of (body_at p k)
+      high = ap (λ s. pcrel_high_of s.body) statement-put ∙ alike.defines.high
+
+      symbols : (name : List ℕ) → false ≡ false → reference_of base put k name ≡ reference_of base p k name
+      symbols name none =
+          ap (λ m. symbol_through base put m name) (usable-all put (body_at put k) (ap (λ s. is_equ s.body) statement-put ∙ alike.defines.equ_after))
+          ∙ symbol-all still name none
+          ∙ sym (ap (λ m. symbol_through base p m name) (usable-all p (body_at p k) alike.defines.equ_before))
+
   -- no line has another high half
   pub alike-highs : (base : ℕ) → KeepsHighs base p put k None
-  alike-highs base =
-      let before = ap (high_by (references_at base p k) (address_at base p k)) alike.defines.plain_before.high in
-      let after = ap (high_by (references_at base put k) (address_at base put k)) (ap (λ s. pcrel_high_of s.body) statement-put ∙ alike.defines.plain_after.high) in
-      none-added base p put k (λ within. after ∙ sym before) (λ past. absurd (omega (arith, past, last)))
+  alike-highs base = none-added base p put k (λ within. high-same base) (λ past. absurd (omega (arith, past, last)))

@@ -326,7 +326,7 @@ module _ {base : ℕ} {p q : Program} {k : ℕ} {touched : Touched} (is : IsStil
       }
 
   -- for expressions
-  expressions-agree : (i : ℕ) (symbol symbol' : List ℕ → Entry) → 1 ≤ i → i ≤ length p → ((name : List ℕ) → touched.names name ≡ false → symbol name ≡ symbol' name) → Agree touched.names (Near i) (names_on base q i symbol no_pairs) (names_on base p i symbol' no_pairs)
+  pub expressions-agree : (i : ℕ) (symbol symbol' : List ℕ → Entry) → 1 ≤ i → i ≤ length p → ((name : List ℕ) → touched.names name ≡ false → symbol name ≡ symbol' name) → Agree touched.names (Near i) (names_on base q i symbol no_pairs) (names_on base p i symbol' no_pairs)
   expressions-agree i symbol symbol' first within symbols =
       names_on-agree i symbol symbol' no_pairs no_pairs first within symbols (λ label none near j. and_then (label_line-still i label within none near j) no_pairs)
 
@@ -371,7 +371,7 @@ module _ {base : ℕ} {p q : Program} {k : ℕ} {touched : Touched} (is : IsStil
       steady (λ i. equ_value base q i name) (length p) m up (λ i past. equ_value-kept base q i name (no_equ-behind (suc i) name none (omega (arith, past))))
       ∙ ap (λ f. f name) (equ_value-still (length p) (omega arith))
 
-  symbol-all : (name : List ℕ) → touched.names name ≡ false → symbol_through base q (length q) name ≡ symbol_through base p (length p) name
+  pub symbol-all : (name : List ℕ) → touched.names name ≡ false → symbol_through base q (length q) name ≡ symbol_through base p (length p) name
   symbol-all name none =
       let value = equ_value base p (length p) name in
       (λ j. by_definition (address_at base q) (length q) (is.definitions name none j) (equ_value-all (length q) is.longer name none j))

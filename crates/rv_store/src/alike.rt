@@ -4,11 +4,13 @@ ghost use Rattle.std.specs.Prelude.{◌≡◌, ℕ, IsTrue};
 ghost use Rattle.rv_stmt.specs.LentLabels.{name_lent};
 ghost use Rattle.rv_stmt.specs.Statement.{statement_of};
 ghost use Rattle.rv_layout.specs.Shapes.{shape_of};
-ghost use Rattle.rv_store.specs.internal.Alike.{same_name, same_labels, room_of, DefinesSame, IsAlike};
+ghost use Rattle.rv_store.specs.internal.Alike.{same_name, same_labels, label_names, room_of, DefinesSame, IsAlike};
 ghost use Rattle.rv_program.specs.Constants.{constant_of};
 ghost use Rattle.rv_program.specs.Layout.{shape_at};
+ghost use Rattle.rv_program.specs.Pairs.{pcrel_high_of};
 ghost use Rattle.rv_program.specs.Program.{Program, statement_at};
 
+use crate::same_highs::are_same_highs;
 use rv_layout::Measured;
 use rv_program::Line;
 use rv_stmt::{LabelName, LabelSlice};
@@ -45,22 +47,37 @@ fn are_same_labels(mut labels: LabelSlice<'_>, mut others: LabelSlice<'_>) -> bo
     others.is_empty()
 }
 
-// Whether two lines have the same labels and define no more. Most lines have none.
-fn defines_same(former: &Line, line: &Line) -> bool
-    ensures { IsTrue result → DefinesSame (statement_of former.now) (statement_of line.now) }
+// Whether neither of two lines is a high half, or both are the same one.
+fn have_same_high(former: &Line, line: &Line) -> bool
+    ensures { IsTrue result → pcrel_high_of (statement_of line.now).body ≡ pcrel_high_of (statement_of former.now).body }
 {
-    let before = former.brief();
-    let after = line.brief();
-    if before.equ || before.pcrel_high || after.equ || after.pcrel_high {
-        return false;
+    if !former.brief().pcrel_high && !line.brief().pcrel_high {
+        return true;
     }
-    if !before.labels && !after.labels {
+    are_same_highs(&line.stmt().body, &former.stmt().body)
+}
+
+// Whether two lines have the same labels. Most have none.
+fn have_same_labels(former: &Line, line: &Line) -> bool
+    ensures { IsTrue result → label_names (statement_of line.now).labels ≡ label_names (statement_of former.now).labels }
+{
+    if !former.brief().labels && !line.brief().labels {
         return true;
     }
     are_same_labels(
         line.stmt().labels.as_slice(),
         former.stmt().labels.as_slice(),
     )
+}
+
+// Whether two lines define the same: the same labels and no `.equ`, and the same high half, if they are one.
+fn defines_same(former: &Line, line: &Line) -> bool
+    ensures { IsTrue result → DefinesSame (statement_of former.now) (statement_of line.now) }
+{
+    !former.brief().equ
+        && !line.brief().equ
+        && have_same_high(former, line)
+        && have_same_labels(former, line)
 }
 
 // What a shape does to the layout.

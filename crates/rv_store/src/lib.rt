@@ -17,6 +17,7 @@ mod loading;
 mod new_shape;
 mod places;
 mod renewal;
+mod same_highs;
 mod shapes;
 mod still;
 mod store;

@@ -1,7 +1,6 @@
 -- Lines that define the same and take the same room: where the one is put in the place of the other, all other lines stay as
 -- they are.
-use Rattle.std.specs.Prelude.{◌≡◌, ℕ, Bool, true, false, ◌&&◌, ◌==◌, List, [], ◌∷◌, map, None, bytes_eq}
-use Rattle.rv_stmt.specs.declared.statement.Body.{Body}
+use Rattle.std.specs.Prelude.{◌≡◌, ℕ, Bool, true, false, ◌&&◌, ◌==◌, List, [], ◌∷◌, map, bytes_eq}
 use Rattle.rv_stmt.specs.declared.statement.Stmt.{Stmt}
 use Rattle.rv_stmt.specs.LabelNames.{Label, LabelName, Symbol, Local}
 use Rattle.rv_layout.specs.declared.measured.Measured.{Measured}
@@ -28,16 +27,12 @@ same_labels ls ms = false
 abbrev pub label_names : List Label → List LabelName
 label_names labels = map (λ l. l.name) labels
 
--- no other line uses what this body gives: it defines no symbol, and is no high half
-pub record IsPlain (b : Body) : Type 0 where
-  pub equ : is_equ b ≡ false
-  pub high : pcrel_high_of b ≡ None
-
--- no more than labels and bytes, and the labels are the same
+-- no more than labels and bytes, and the labels are the same, and so is the high half, if there is one
 pub record DefinesSame (before after : Stmt) : Type 0 where
   pub labels : label_names after.labels ≡ label_names before.labels
-  pub plain_before : IsPlain before.body
-  pub plain_after : IsPlain after.body
+  pub equ_before : is_equ before.body ≡ false
+  pub equ_after : is_equ after.body ≡ false
+  pub high : pcrel_high_of after.body ≡ pcrel_high_of before.body
 
 -- what a shape does to the layout: a faulty line has no bytes, like one without a body
 abbrev pub room_of : Measured → Measured
