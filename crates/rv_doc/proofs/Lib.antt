@@ -1,3 +1,4 @@
+pub mod SharedBytes
 pub mod Starts
 pub mod Around
 pub mod Edited
