@@ -1,6 +1,6 @@
 -- The diagnostics of a document, part by part.
-use Rattle.std.proofs.Common.{◌≡◌, ℕ, zero, suc, ◌+◌, List, [], ◌∷◌, ◌++◌, length, refl, ◌∙◌, arith, append_assoc}
-use Rattle.std.proofs.lemmas.List.{length-append, length-map, nil_from_length}
+use Rattle.std.proofs.Common.{◌≡◌, ℕ, zero, suc, ◌+◌, ◌-◌, ◌≤◌, Bool, true, false, List, [], ◌∷◌, ◌++◌, length, drop, refl, ap, ◌∙◌, arith, append_assoc}
+use Rattle.std.proofs.lemmas.List.{length-append, length-drop, length-map, nil_from_length}
 use Rattle.json.specs.Token.{Token, begin_object, end_object, end_array}
 use Rattle.std.specs.Prelude.{codes}
 use Rattle.rv_diagnostics.specs.Json.{message, string_member}
@@ -10,7 +10,7 @@ use Rattle.rv_list.specs.Joined.{joined}
 use Rattle.rv_list.specs.Shown.{Shown, ShownLine}
 use Rattle.rv_doc.specs.declared.encoding.Encoding.{Encoding}
 use Rattle.rv_diagnostics.specs.Diagnostics.{warning_diagnostic}
-use Rattle.rv_diagnostics.specs.Published.{all_diagnostics, all_warnings, fault_count, line_diagnostics, shown_in, warning_count, warning_diagnostics, warnings_about}
+use Rattle.rv_diagnostics.specs.Published.{all_diagnostics, all_warnings, are_lines, fault_count, is_long, line_diagnostics, long_count, long_lines, shown_in, warning_count, warning_diagnostics, warnings_about}
 use Rattle.rv_doc.specs.declared.window.Window.{Window}
 use Rattle.rv_diagnostics.proofs.ShownRows.{diagnostic_count, none_shown}
 
@@ -46,6 +46,24 @@ no_warnings encoding shown w old none =
     shown.count
     (λ k. warnings_shown encoding shown (k + 1) (shown.line (k + 1)))
     ∙ none))
+
+-- and there are as many of lines that are too long as there are such lines
+long_shown : (encoding : Encoding) (number : ℕ) (lines : List (List ℕ)) → length (long_lines encoding number lines) ≡ long_count lines
+long_shown encoding number [] = refl
+long_shown encoding number (line ∷ lines) = at (is_long line) refl (long_shown encoding (number + 1) lines)
+  where
+    at : (b : Bool) → is_long line ≡ b → length (long_lines encoding (number + 1) lines) ≡ long_count lines → length (long_lines encoding number (line ∷ lines)) ≡ long_count (line ∷ lines)
+    at true e rest = rw e (omega (arith, rest))
+    at false e rest = rw e (omega (arith, rest))
+
+pub no_long : (encoding : Encoding) (lines : List (List ℕ)) (w : Window) (old : List Token) → long_count lines ≡ 0 → old ≡ old ++ shown_in w (long_lines encoding 0 lines)
+no_long encoding lines w old none =
+    none_shown w old (long_lines encoding 0 lines) (nil_from_length (long_lines encoding 0 lines) (long_shown encoding 0 lines ∙ none))
+
+-- a document with no more lines than a text may have has none after those
+pub few_lines : (lines : List (List ℕ)) (most : ℕ) → length lines ≤ most → are_lines (drop most lines) ≡ false
+few_lines lines most few =
+    ap are_lines (nil_from_length (drop most lines) (length-drop most lines ∙ (let none : length lines - most ≡ 0 = omega (arith, few) in none)))
 
 -- Messages
 

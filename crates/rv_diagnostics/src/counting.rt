@@ -1,11 +1,12 @@
 //! How many diagnostics a document has, and how many of them stand before a line.
 
 ghost use Rattle.std.specs.Prelude.{◌≡◌, ◌+◌, ◌*◌, ◌^◌, ◌<◌, ◌≤◌, ◌∷◌, [], length, take, drop, if◌then◌else◌};
+ghost use Rattle.rv_doc.specs.Positions.{lines_of};
 ghost use Rattle.rv_report.specs.Warnings.{warning_of};
 ghost use Rattle.rv_diagnostics.specs.Published.{are_lines, fault_count, faults_before, is_long, long_count, optional, warning_count, warnings_before};
 
 use arrayvec::ArrayVec;
-use rv_doc::Lines;
+use rv_doc::{Lines, line_count};
 use rv_list::{LineSource, MAX_FAULTS, TestedLines, View, find_faults};
 use rv_program::MAX_LINES;
 use rv_report::find_warning;
@@ -135,8 +136,8 @@ fn are_lines(mut lines: Lines<'_>) -> bool
     }
 }
 
-/// Whether a document has more lines than a text may have.
-pub fn has_too_many_lines(mut lines: Lines<'_>) -> bool
+// Whether there are more lines than a text may have.
+fn has_too_many_lines(mut lines: Lines<'_>) -> bool
     ensures { result ≡ are_lines (drop MAX_LINES lines.entry) }
 {
     for _ in 0..MAX_LINES {
@@ -145,4 +146,14 @@ pub fn has_too_many_lines(mut lines: Lines<'_>) -> bool
         };
     }
     are_lines(lines)
+}
+
+/// Whether a document has more lines than a text may have. Most have fewer line breaks, which are counted in one go.
+pub fn has_many_lines(document: &[u8]) -> bool
+    ensures { result ≡ are_lines (drop MAX_LINES (lines_of document.now)) }
+{
+    if line_count(document) <= MAX_LINES {
+        return false;
+    }
+    has_too_many_lines(Lines::new(document))
 }

@@ -11,9 +11,7 @@ ghost use Rattle.rv_diagnostics.specs.Json.{frame};
 ghost use Rattle.rv_diagnostics.specs.Published.{all_diagnostics, all_warnings, diagnostics_of, fault_count, fault_diagnostics, gravest_left_out, left_out, line_diagnostic, long_count, long_lines, publication, publication_head, searched_names, shown_in, some_long, some_warnings, too_many, version_member, warning_count, warning_diagnostics};
 ghost use Rattle.rv_doc.specs.Windows.{passed};
 
-use crate::counting::{
-    count_faults, count_long_lines, count_warnings, has_too_many_lines, is_long,
-};
+use crate::counting::{count_faults, count_long_lines, count_warnings, has_many_lines, is_long};
 use crate::diagnostics::{
     Context, ERROR, WARNING, put_faults, put_long_line, put_many_lines, put_more, put_warning,
 };
@@ -69,6 +67,23 @@ fn put_long_lines(
         put_if_long(m, window, context, k, line)?;
     }
     Ok(())
+}
+
+// Writes the diagnostics of those lines of a document that are too long that a window shows, of so many such lines.
+fn put_some_long(
+    m: &mut Message,
+    window: &mut Window,
+    context: &Context<'_>,
+    document: &[u8],
+    count: usize,
+) -> Result<(), AllocError>
+    requires { count ≡ long_count (take MAX_LINES (lines_of document.now)) }
+    ensures { OnOk result (m.new ≡ m.old ++ shown_in window.old (long_lines context.now.encoding 0 (take MAX_LINES (lines_of document.now)))) }
+{
+    if count == 0 {
+        return Ok(());
+    }
+    put_long_lines(m, window, context, Lines::new(document))
 }
 
 // Writes the diagnostics of some faults of a line.
@@ -267,7 +282,7 @@ fn put_warning_list<T: Told>(
 fn put_if_many(m: &mut Message, document: &[u8]) -> Result<(), AllocError>
     ensures { OnOk result (m.new ≡ m.old ++ too_many (lines_of document.now)) }
 {
-    if has_too_many_lines(Lines::new(document)) {
+    if has_many_lines(document) {
         put_many_lines(m)
     } else {
         Ok(())
@@ -287,7 +302,7 @@ fn put_long_list(
 {
     let counted = count_long_lines(Lines::new(document), at);
     let mut window = Window::nearest(MOST, counted.before, counted.all);
-    put_long_lines(m, &mut window, context, Lines::new(document))?;
+    put_some_long(m, &mut window, context, document, counted.all)?;
     Ok(counted.all)
 }
 
