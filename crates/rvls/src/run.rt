@@ -2,6 +2,7 @@
 
 ghost use Rattle.std.specs.Prelude.{◌≡◌, ◌≤◌, ◌<◌, ◌-◌, ◌^◌, [], length, IfOk, OnOk};
 ghost use Rattle.rv_text.specs.Streams.{Writes};
+ghost use Rattle.rvls.specs.Frames.{IsStepWithin};
 ghost use Rattle.rvls.specs.declared.run.RunError.TheVariants.{Memory};
 
 use crate::frame::{Frame, frame_at};
@@ -32,6 +33,17 @@ const CHUNK: usize = 65_536;
 // What is said of a frame whose length is not known.
 const BAD_FRAME: &str = "rvls: a message without a right Content-Length ends the session";
 
+/// What the bytes at the front of those that were read come to.
+#[derive(Clone, Copy)]
+pub enum Step {
+    /// They are not all of a frame.
+    Wait,
+    /// They begin with a frame of so many bytes, which is answered.
+    Done(usize),
+    /// The session ends with this status.
+    Exit(u8),
+}
+
 // Answers a message, and says whether to go on. Where there is no memory for the whole answer, none of it stays.
 fn answer_whole(server: &mut Server, body: &[u8], out: &mut Vec<u8>) -> Result<Next, AllocError> {
     let answered = out.len();
@@ -44,30 +56,77 @@ fn answer_whole(server: &mut Server, body: &[u8], out: &mut Vec<u8>) -> Result<N
     }
 }
 
-// Answers the frames at the front of some bytes, and says how many bytes they have, and whether to go on.
-fn answer_frames(
+// Answers the frame at the front of some bytes, if all of it is there.
+fn answer_frame(server: &mut Server, bytes: &[u8], out: &mut Vec<u8>) -> Result<Step, AllocError>
+    ensures { IfOk result (λ step. IsStepWithin step (length bytes.now)) }
+{
+    match frame_at(bytes) {
+        Frame::More => Ok(Step::Wait),
+        Frame::Bad => Ok(Step::Exit(server.give_up(BAD_FRAME, out)?)),
+        Frame::Body(start, end) => {
+            let (front, _) = bytes.split_at(end);
+            let (_, body) = front.split_at(start);
+            match answer_whole(server, body, out)? {
+                Next::Go => Ok(Step::Done(end)),
+                Next::Exit(status) => Ok(Step::Exit(status)),
+            }
+        }
+    }
+}
+
+// Writes what is answered, of which nothing is left then.
+fn write_answers<W: Sink>(out: &mut Vec<u8>, sink: &mut W) -> Result<(), RunError>
+    requires { W.failures sink.old < 2 ^ 64 - 1 }
+    ensures written { Writes (W.taken sink.old) out.old.items result (W.taken sink.new) }
+    ensures empty { OnOk result (out.new.items ≡ []) }
+    ensures count { OnOk result (W.failures sink.new ≡ W.failures sink.old) }
+{
+    let Ok(()) = write_all(sink, out.as_slice()) else {
+        return Err(RunError::Write);
+    };
+    out.clear();
+    Ok(())
+}
+
+// Publishes the diagnostics of the document that changed last, if no frame that was read is left.
+fn publish_changed<W: Sink>(
+    server: &mut Server,
+    out: &mut Vec<u8>,
+    sink: &mut W,
+) -> Result<(), RunError>
+    requires { W.failures sink.old < 2 ^ 64 - 1 }
+    ensures { OnOk result (W.failures sink.new ≡ W.failures sink.old) }
+{
+    server.publish_changed(out)?;
+    write_answers(out, sink)
+}
+
+// Answers the frames at the front of some bytes, each before the next one, and says how many bytes they have, and whether to go on.
+fn answer_frames<W: Sink>(
     server: &mut Server,
     bytes: &[u8],
     out: &mut Vec<u8>,
-) -> Result<(usize, Next), AllocError>
-    ensures { IfOk result (λ r. r.0 ≤ length bytes.now) }
+    sink: &mut W,
+) -> Result<(usize, Next), RunError>
+    requires { W.failures sink.old < 2 ^ 64 - 1 }
+    ensures within { IfOk result (λ r. r.0 ≤ length bytes.now) }
+    ensures count { OnOk result (W.failures sink.new ≡ W.failures sink.old) }
 {
     let mut at = 0;
     'frames: while at < bytes.len() {
         let (_, rest) = bytes.split_at(at);
-        match frame_at(rest) {
-            Frame::More => return Ok((at, Next::Go)),
-            Frame::Bad => return Ok((at, server.give_up(BAD_FRAME, out)?)),
-            Frame::Body(start, end) => {
-                let (front, _) = rest.split_at(end);
-                let (_, body) = front.split_at(start);
-                if let Next::Exit(status) = answer_whole(server, body, out)? {
-                    return Ok((at, Next::Exit(status)));
-                }
-                at += end;
+        let step = answer_frame(server, rest, out)?;
+        write_answers(out, sink)?;
+        match step {
+            Step::Wait => {
+                publish_changed(server, out, sink)?;
+                return Ok((at, Next::Go));
             }
+            Step::Done(count) => at += count,
+            Step::Exit(status) => return Ok((at, Next::Exit(status))),
         }
     }
+    publish_changed(server, out, sink)?;
     Ok((at, Next::Go))
 }
 
@@ -91,24 +150,16 @@ impl Session {
         }
     }
 
-    // Answers the frames that are whole with some bytes more, and says how many bytes they have, and whether to go on.
-    fn answer(&mut self, chunk: &[u8]) -> Result<(usize, Next), AllocError> {
-        self.pending.extend_from_slice(chunk)?;
-        answer_frames(&mut self.server, self.pending.as_slice(), &mut self.out)
-    }
-
-    // Writes the answers, of which none is left then.
-    fn write<W: Sink>(&mut self, sink: &mut W) -> Result<(), RunError>
+    // Answers the frames that are whole with some bytes more, and says whether to go on.
+    fn answer<W: Sink>(&mut self, chunk: &[u8], sink: &mut W) -> Result<Next, RunError>
         requires { W.failures sink.old < 2 ^ 64 - 1 }
-        ensures written { Writes (W.taken sink.old) self.old.out.items result (W.taken sink.new) }
-        ensures empty { OnOk result (self.new.out.items ≡ []) }
-        ensures count { OnOk result (W.failures sink.new ≡ W.failures sink.old) }
+        ensures { OnOk result (W.failures sink.new ≡ W.failures sink.old) }
     {
-        let Ok(()) = write_all(sink, self.out.as_slice()) else {
-            return Err(RunError::Write);
-        };
-        self.out.clear();
-        Ok(())
+        self.pending.extend_from_slice(chunk)?;
+        let bytes = self.pending.as_slice();
+        let (done, next) = answer_frames(&mut self.server, bytes, &mut self.out, sink)?;
+        self.drop_front(done)?;
+        Ok(next)
     }
 
     // Takes bytes out at the front of those that were read.
@@ -139,13 +190,9 @@ impl Session {
                 return Ok(CUT_OFF);
             }
             let (chunk, _) = buffer.split_at(count);
-            let answered = self.answer(chunk);
-            self.write(sink)?;
-            let (done, next) = answered?;
-            if let Next::Exit(status) = next {
+            if let Next::Exit(status) = self.answer(chunk, sink)? {
                 return Ok(status);
             }
-            self.drop_front(done)?;
         }
         Ok(CUT_OFF)
     }

@@ -98,6 +98,9 @@ impl Open {
     }
 }
 
+// How many messages that change a document are answered by one publication at most.
+const MOST_JOINED: u32 = 16;
+
 /// A session.
 #[derive(Drop)]
 pub struct Server {
@@ -106,6 +109,8 @@ pub struct Server {
     base: Base,
     phase: Phase,
     documents: Vec<Open>,
+    // How many messages have changed the last document since its diagnostics were published.
+    unpublished: u32,
 }
 
 // Whether a list of texts has this one.
@@ -279,6 +284,7 @@ impl Server {
             base: Base::zero(),
             phase: Phase::Fresh,
             documents: Vec::new(alloc),
+            unpublished: 0,
         }
     }
 
@@ -314,17 +320,60 @@ impl Server {
         publish(&context, open.version, document, document.edited(), out)
     }
 
-    // Keeps a document that is new or has changed, and publishes its diagnostics.
+    // Keeps a document that is new, and publishes its diagnostics.
     fn keep(&mut self, open: Open, out: &mut Vec<u8>) -> Result<(), AllocError> {
         self.publish(&open, out)?;
         self.documents.push(open)?;
         Ok(())
     }
 
-    /// Ends the session, since it is not known where a message ends.
-    pub fn give_up(&self, what: &str, out: &mut Vec<u8>) -> Result<Next, AllocError> {
+    /// Publishes the diagnostics of the document that changed last, unless they were published since.
+    ///
+    /// # Errors
+    ///
+    /// `AllocError` if there is no memory for it.
+    pub fn publish_changed(&mut self, out: &mut Vec<u8>) -> Result<(), AllocError> {
+        if self.unpublished == 0 {
+            return Ok(());
+        }
+        self.unpublished = 0;
+        match self.documents.last() {
+            Some(open) => self.publish(open, out),
+            None => Ok(()),
+        }
+    }
+
+    // Keeps a document that has changed. Its diagnostics are published before the next message that does not change it, but after so many
+    // changes at the latest.
+    fn keep_changed(&mut self, open: Open, out: &mut Vec<u8>) -> Result<(), AllocError> {
+        self.documents.push(open)?;
+        self.unpublished = self.unpublished.saturating_add(1);
+        if self.unpublished < MOST_JOINED {
+            return Ok(());
+        }
+        self.publish_changed(out)
+    }
+
+    // Whether a message changes the document that changed last.
+    fn changes_last(&self, message: &Value) -> bool {
+        let Some(open) = self.documents.last() else {
+            return false;
+        };
+        let Some((uri, _)) = changed_in(message) else {
+            return false;
+        };
+        text_at(message, "/method") == Some("textDocument/didChange") && uri == open.uri.as_str()
+    }
+
+    /// Ends the session, since it is not known where a message ends, and returns its status.
+    ///
+    /// # Errors
+    ///
+    /// `AllocError` if there is no memory for what is said.
+    pub fn give_up(&mut self, what: &str, out: &mut Vec<u8>) -> Result<u8, AllocError> {
+        self.publish_changed(out)?;
         tell(self.alloc, Notice::Error, what, out)?;
-        Ok(Next::Exit(MALFORMED))
+        Ok(MALFORMED)
     }
 
     // Says why a notification is ignored.
@@ -388,9 +437,10 @@ impl Server {
             return Ok(());
         };
         match open.changed(self.alloc, self.encoding, version_in(message), changes)? {
-            Ok(open) => self.keep(open, out),
+            Ok(open) => self.keep_changed(open, out),
             Err(open) => {
                 self.documents.push(open)?;
+                self.publish_changed(out)?;
                 self.ignore(BAD_CHANGE, out)
             }
         }
@@ -544,8 +594,14 @@ impl Server {
     /// `AllocError` if there is no memory for it.
     pub fn answer(&mut self, body: &[u8], out: &mut Vec<u8>) -> Result<Next, AllocError> {
         match message_in(self.alloc, body)? {
-            Some(message) => self.answer_message(&message, out),
+            Some(message) => {
+                if !self.changes_last(&message) {
+                    self.publish_changed(out)?;
+                }
+                self.answer_message(&message, out)
+            }
             None => {
+                self.publish_changed(out)?;
                 refuse(self.alloc, None, Refusal::NotJson, out)?;
                 Ok(Next::Go)
             }

@@ -1,8 +1,11 @@
-use Rattle.std.proofs.Common.{◌-◌, ◌≤◌, length}
+use Rattle.std.proofs.Common.{◌≡◌, ◌-◌, ◌≤◌, length}
 use Rattle.rvls.proofs.run.answer_frames.Given as goal
 
 abbrev pub invariant-frames : goal.invariant-frames
-invariant-frames l = l.at ≤ length l.bytes
+invariant-frames g l = record {
+  within : l.at ≤ length l.bytes;
+  writes : g.W.Sink.failures l.sink ≡ g.W.Sink.failures l.fn.sink;
+}
 
 abbrev pub decreases-frames : goal.decreases-frames
-decreases-frames l = length l.bytes - l.at
+decreases-frames g l = length l.bytes - l.at
