@@ -41,7 +41,14 @@ local function show_hints(client, buffer)
 end
 
 local function attached(client, buffer)
-  local actions = { K = vim.lsp.buf.hover, gd = vim.lsp.buf.definition, gr = vim.lsp.buf.references, grn = vim.lsp.buf.rename }
+  -- gl lists all faults of a line.
+  local actions = {
+    K = vim.lsp.buf.hover,
+    gd = vim.lsp.buf.definition,
+    gr = vim.lsp.buf.references,
+    grn = vim.lsp.buf.rename,
+    gl = vim.diagnostic.open_float,
+  }
   for keys, action in pairs(actions) do
     vim.keymap.set('n', keys, action, { buffer = buffer })
   end
@@ -75,6 +82,10 @@ local function server()
     init_options = { base = vim.env.RVLS_BASE or '0' },
     root_dir = vim.fn.getcwd(),
     flags = { debounce_text_changes = 0 },
+    -- Faults are shown while one types, and not only after Escape.
+    handlers = {
+      ['textDocument/publishDiagnostics'] = vim.lsp.with(vim.lsp.diagnostic.on_publish_diagnostics, { update_in_insert = true }),
+    },
     -- This Neovim does not read the encoding that was agreed on by itself.
     on_init = function(client, result)
       client.offset_encoding = result.capabilities.positionEncoding or 'utf-16'

@@ -21,8 +21,16 @@ vim.api.nvim_create_autocmd('LspAttach', {
     if not client or client.name ~= 'rvls' then
       return
     end
-    -- Neovim 0.11 has K for hover by itself, grr for references, and grn for another name.
-    local actions = { K = vim.lsp.buf.hover, gd = vim.lsp.buf.definition, gr = vim.lsp.buf.references, grn = vim.lsp.buf.rename }
+    -- Faults are shown while one types, and not only after Escape.
+    vim.diagnostic.config({ update_in_insert = true }, vim.lsp.diagnostic.get_namespace(client.id))
+    -- Neovim 0.11 has K for hover by itself, grr for references, and grn for another name. gl lists all faults of a line.
+    local actions = {
+      K = vim.lsp.buf.hover,
+      gd = vim.lsp.buf.definition,
+      gr = vim.lsp.buf.references,
+      grn = vim.lsp.buf.rename,
+      gl = vim.diagnostic.open_float,
+    }
     for keys, action in pairs(actions) do
       vim.keymap.set('n', keys, action, { buffer = args.buf })
     end
