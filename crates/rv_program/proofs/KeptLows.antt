@@ -29,7 +29,7 @@ use Rattle.rv_program.specs.internal.Rows.{number_of, entry_at, AreHighs}
 use Rattle.rv_program.specs.Sameness.{same_entry}
 use Rattle.rv_program.specs.internal.TextRows.{AreTextRows, AreHighsIn, program_in}
 use Rattle.rv_program.specs.Uses.{names_used, is_equ}
-use Rattle.rv_program.proofs.CarriedJumps.{moves-by}
+use Rattle.rv_program.proofs.CarriedLines.{moves-by}
 use Rattle.rv_program.proofs.DifferingNames.{differing-on}
 use Rattle.rv_program.proofs.DueLines.{reencoded-by_low, due-low}
 use Rattle.rv_program.proofs.LinePairLaws.{body-before}

@@ -1,4 +1,4 @@
-pub mod CarriedJumps
+pub mod CarriedLines
 pub mod ChangeLaws
 pub mod ComparedJumps
 pub mod ConstantValues

@@ -1,5 +1,5 @@
 -- The high half that `%pcrel_lo` of a label on each line takes, from the last line back.
-use Rattle.std.proofs.Common.{◌≡◌, ℕ, zero, suc, ◌+◌, ◌-◌, ◌<◌, ◌≤◌, ◌==◌, Bool, true, false, not, ◌&&◌, List, length, get_or, set, if◌then◌else◌, Option, Some, None, ok_or, Err, ◌⊎◌, inl, inr, arith, ap, sym, ◌∙◌, refl, get_or-set_same, get_or-set_other}
+use Rattle.std.proofs.Common.{◌≡◌, ℕ, zero, suc, ◌+◌, ◌-◌, ◌<◌, ◌≤◌, ◌==◌, Bool, true, false, not, List, length, get_or, set, if◌then◌else◌, Option, Some, ok_or, Err, ◌⊎◌, inl, inr, arith, ap, sym, ◌∙◌, refl, get_or-set_same, get_or-set_other}
 use Rattle.std.proofs.lemmas.Bool.{and_parts, not-true, cases_lt}
 use Rattle.std.proofs.lemmas.List.{get_or_past}
 use Rattle.rv_expr.specs.declared.faults.ValueFault.TheVariants.{NoPartner}
@@ -8,7 +8,7 @@ use Rattle.rv_stmt.specs.Readings.{and_then}
 use Rattle.rv_fix.specs.Values.{Entry}
 use Rattle.rv_list.specs.declared.view.LinePlace.{LinePlace}
 use Rattle.rv_program.specs.Layout.{section_at, size_at, place_at}
-use Rattle.rv_program.specs.Pairs.{has_bytes_in, high_at, high_at_line, paired_high_of}
+use Rattle.rv_program.specs.Pairs.{has_bytes_in, high_at_line, paired_high_of}
 use Rattle.rv_program.specs.Program.{Program, first_line}
 use Rattle.rv_program.specs.internal.PairedHighs.{high_in, next_in, section_in, has_bytes_there, has_bytes_by, paired_high_in, AreNext}
 use Rattle.rv_program.specs.internal.Rows.{own_high_of, ArePlaces, AreOwnHighs, AreHighs}

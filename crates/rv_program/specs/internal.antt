@@ -9,6 +9,7 @@ pub mod FirstUses
 pub mod Fits
 pub mod Former
 pub mod Groups
+pub mod HighSymbols
 pub mod Items
 pub mod KeptEqus
 pub mod LineConstants

@@ -1,11 +1,14 @@
 //! What lines have to do with other lines, in brief.
 
 ghost use Rattle.std.specs.Prelude.{◌≡◌, ◌&&◌, ◌||◌, not};
+ghost use Rattle.std.specs.Option.{is_some};
 ghost use Rattle.rv_program.specs.internal.Briefs.{brief_of, groups_of_brief};
+ghost use Rattle.rv_program.specs.internal.HighSymbols.{high_symbol_of};
+ghost use Rattle.rv_program.specs.Jumps.{target_of};
 ghost use Rattle.rv_program.specs.Uses.{uses_local_label, uses_paired_high, is_equ};
 
 use crate::groups::{Groups, Kind};
-use crate::highs::pcrel_high;
+use crate::highs::{high_symbol, pcrel_high};
 use crate::jumps::target;
 use crate::locals::has_local_labels;
 use crate::lows::low_symbol;
@@ -35,8 +38,8 @@ pub struct Brief {
     pub names: UsedNames,
     /// It uses its own address.
     pub address: bool,
-    /// It uses the address of one label, counted from its own, and nothing else.
-    pub jump: bool,
+    /// It uses the address of one label, counted from its own, and nothing else: it goes there, or is `auipc` with `%pcrel_hi` of a symbol.
+    pub relative: bool,
     /// It uses a local label or `%pcrel_lo`, or is an `.equ`: such a line counts as invalidated whatever these give.
     pub uncompared: bool,
     /// It uses `%pcrel_lo` of one symbol, and nothing else.
@@ -62,10 +65,17 @@ impl Brief {
             symbols,
             names: brief_names(body),
             address,
-            jump: target(body).is_some(),
+            relative: is_relative(body),
             uncompared,
             low,
         }
+    }
+
+    /// Whether the line defines nothing: it has no label, and is no `.equ`.
+    pub fn defines_nothing(&self) -> bool
+        ensures { result ≡ (not self.now.labels && not self.now.equ) }
+    {
+        !self.labels && !self.equ
     }
 
     // Whether the shape of the line follows from symbols, or it is an `.equ`.
@@ -94,6 +104,13 @@ impl Brief {
             .with_kind(Kind::Addressed, self.address)
             .with_kind(Kind::Uncompared, self.is_left_uncompared())
     }
+}
+
+// Whether a line uses the address of one label, counted from its own, and nothing else.
+fn is_relative(body: &Body) -> bool
+    ensures { result ≡ (is_some (target_of body.now) || is_some (high_symbol_of body.now)) }
+{
+    target(body).is_some() || high_symbol(body).is_some()
 }
 
 // Whether a line uses a local label or `%pcrel_lo`, or is an `.equ`.

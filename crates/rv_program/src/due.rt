@@ -24,7 +24,7 @@ use crate::brief::Brief;
 use crate::groups::{Groups, Kind};
 use crate::highs::upper_by;
 use crate::invalidation::{is_invalidated, may_be_invalidated};
-use crate::jumps::{differs_in_distance, differs_in_local_distance, rise};
+use crate::jumps::{differs_in_distance, differs_in_local_distance, moved_together};
 use crate::line::Line;
 use crate::line_values::symbol_value;
 use crate::lines_of_kind::lines_up_to_groups;
@@ -221,8 +221,8 @@ fn is_due<C: Count>(
     }
 }
 
-// Whether a line with this brief is a jump to a symbol, and both moved as far as the lines behind the edit: the symbol is as far from it as
-// it was.
+// Whether a line with this brief uses how far a symbol is from it, and nothing else, and both moved as far as the lines after the edit: the
+// symbol is as far from it as it was.
 #[inline]
 fn is_carried(
     before: &Before<'_, '_>,
@@ -241,9 +241,9 @@ fn is_carried(
     ensures { IsTrue result → is_due (base_before before.now) (lines_before before.now) (edit_on before.now) line ≡ false }
 {
     match before.edit.line_before(line) {
-        Some(stood) if brief.jump && !brief.uncompared => {
-            brief.names.has_moved(differing)
-                && rise(&before.symbols.text, &after.text, stood, line) == differing.shift()
+        Some(stood) if brief.relative && !brief.uncompared => {
+            let former = &before.symbols.text;
+            moved_together(former, &after.text, differing, brief.names, stood, line)
         }
         _ => false,
     }

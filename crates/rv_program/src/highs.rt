@@ -1,13 +1,15 @@
 //! The high halves on the lines of a text, and what `%pcrel_lo` takes.
 
-ghost use Rattle.std.specs.Prelude.{◌≡◌, ◌≤◌, ◌<◌, ◌+◌, ◌^◌, ◌-◌, ◌==◌, ◌⊎◌, Err, None, true, false, length, IfOk, IfSome, map};
+ghost use Rattle.std.specs.Prelude.{◌≡◌, ◌≤◌, ◌<◌, ◌+◌, ◌^◌, ◌-◌, ◌==◌, ◌⊎◌, Err, None, true, false, length, IfOk, IfSome, IsTrue, Some, map};
 ghost use Rattle.std.specs.Option.{is_some, option_map};
 ghost use Rattle.rv_expr.specs.declared.faults.ValueFault.TheVariants.{NoPartner};
 ghost use Rattle.rv_program.specs.internal.Briefs.{groups_on};
 ghost use Rattle.rv_program.specs.declared.limits.TheConstants.{MAX_LINES};
 ghost use Rattle.rv_program.specs.internal.Before.{IsBefore, IsAfter, base_before, lines_before, edit_on};
 ghost use Rattle.rv_program.specs.Changes.{is_invalidated};
-ghost use Rattle.rv_program.specs.internal.Differing.{HasDiffering};
+ghost use Rattle.rv_program.specs.internal.Differing.{HasDiffering, HasSameHigh};
+ghost use Rattle.rv_program.specs.internal.HighSymbols.{high_symbol_among, high_symbol_of};
+ghost use Rattle.rv_program.specs.Edits.{line_before_edit};
 ghost use Rattle.rv_program.specs.Layout.{size_at};
 ghost use Rattle.rv_ops.specs.declared.op.Op.TheVariants.{Auipc};
 ghost use Rattle.rv_program.specs.Pairs.{is_high_among, is_high_alone, upper_by, pcrel_high_of, high_by, high_at};
@@ -20,6 +22,7 @@ ghost use Rattle.rv_program.specs.internal.Work.{high_operands, operands_through
 use crate::before::Before;
 use crate::groups::{Groups, Kind};
 use crate::invalidation::{is_invalidated, may_be_invalidated};
+use crate::jumps::moved_together;
 use crate::line_names::references_at;
 use crate::lines_of_kind::lines_up_to;
 use crate::name_set::NameSet;
@@ -28,7 +31,7 @@ use crate::room::row_of;
 use crate::symbol_rows::SymbolRows;
 use crate::text_lines::{brief_on, place_on, statement_on};
 use crate::text_rows::TextRows;
-use rv_expr::{Expr, Names, ValueFault, value};
+use rv_expr::{Expr, Names, Node, ValueFault, value};
 use rv_fix::{Entry, displacement};
 use rv_ops::Op;
 use rv_stmt::{Body, Operand, OperandValue, Role, high_part};
@@ -62,6 +65,37 @@ pub fn is_high_alone(body: &Body) -> bool
         return false;
     };
     instruction.op == Op::Auipc && is_high_among(instruction.operands.as_slice())
+}
+
+// The symbol, if there is one operand, which is `%pcrel_hi` of it.
+fn high_symbol_among(operands: &[Operand]) -> Option<&[u8]>
+    ensures { option_map (λ n. n.now) result ≡ high_symbol_among Auipc operands.now }
+{
+    let [operand] = operands else {
+        return None;
+    };
+    let Role::Immediate = operand.role else {
+        return None;
+    };
+    let OperandValue::PcrelHigh(expression) = &operand.value else {
+        return None;
+    };
+    match &expression.node {
+        Node::Symbol(name) => Some(name.bytes()),
+        _ => None,
+    }
+}
+
+/// The symbol of a line of which `%pcrel_hi` of it is the only operand.
+pub fn high_symbol(body: &Body) -> Option<&[u8]>
+    ensures { option_map (λ n. n.now) result ≡ high_symbol_of body.now }
+{
+    match body {
+        Body::Instr(instruction) if instruction.op == Op::Auipc => {
+            high_symbol_among(instruction.operands.as_slice())
+        }
+        _ => None,
+    }
 }
 
 // Whether there is one operand, which is `%pcrel_hi`.
@@ -163,7 +197,35 @@ fn is_line_invalidated(
     is_invalidated(before, after, differing, line)
 }
 
-// What the high half on a line was, if the edit does not invalidate the line.
+// Whether a line that stood has the high half that it had: it moved together with its symbol, or the edit does not invalidate it.
+fn has_same_high(
+    before: &Before<'_, '_>,
+    after: &SymbolRows<'_>,
+    differing: &NameSet,
+    stood: u32,
+    line: u32,
+) -> bool
+    requires before { IsBefore before.now }
+    requires rows { AreSymbolRows after.now }
+    requires after { IsAfter before.now after.now.text }
+    requires differing { HasDiffering (base_before before.now) (lines_before before.now) (edit_on before.now) differing.now }
+    requires stood { line_before_edit (edit_on before.now) line ≡ Some stood }
+    requires first { 1 ≤ line }
+    requires last { line ≤ length after.now.text.lines.now }
+    requires high { is_some (pcrel_high_of (body_at (program_in after.now.text) line)) ≡ true }
+    requires bytes { (size_at (program_in after.now.text) line == 0) ≡ false }
+    ensures same { IsTrue result → HasSameHigh before.now after.now.text stood line }
+    ensures other { result ≡ false → is_invalidated (base_before before.now) (lines_before before.now) (edit_on before.now) line ≡ true }
+{
+    let brief = brief_on(&after.text, line);
+    let former = &before.symbols.text;
+    if brief.relative && moved_together(former, &after.text, differing, brief.names, stood, line) {
+        return true;
+    }
+    !is_line_invalidated(before, after, differing, line)
+}
+
+// What the high half on a line was, if that is known to be what it is: else the edit invalidates the line.
 fn high_left(
     before: &Before<'_, '_>,
     after: &SymbolRows<'_>,
@@ -182,7 +244,7 @@ fn high_left(
     ensures none { result ≡ None → is_invalidated (base_before before.now) (lines_before before.now) (edit_on before.now) line ≡ true }
 {
     let stood = before.edit.line_before(line)?;
-    if is_line_invalidated(before, after, differing, line) {
+    if !has_same_high(before, after, differing, stood, line) {
         return None;
     }
     Some(high_in(before.highs, stood as usize))

@@ -1,21 +1,25 @@
 //! Jumps and the like: lines that use the address of one label, counted from their own, and nothing else.
 
-ghost use Rattle.std.specs.Prelude.{◌≡◌, ◌≤◌, ◌<◌, ◌+◌, ◌-◌, ◌^◌, ◌+ℤ◌, pos, ℕ, List, false, not, length};
+ghost use Rattle.std.specs.Prelude.{◌≡◌, ◌≤◌, ◌<◌, ◌+◌, ◌-◌, ◌^◌, ◌+ℤ◌, pos, ℕ, List, IsTrue, false, not, length};
 ghost use Rattle.std.specs.Option.{option_map};
 ghost use Rattle.rv_program.specs.declared.limits.TheConstants.{MAX_LINES};
 ghost use Rattle.rv_program.specs.Jumps.{target_among, target_of, distance};
 ghost use Rattle.rv_program.specs.Layout.{address_at};
 ghost use Rattle.rv_program.specs.Program.{body_at};
 ghost use Rattle.rv_program.specs.References.{address_of_line, local_line, reference_of};
+ghost use Rattle.rv_program.specs.internal.Differing.{MovedTogether};
 ghost use Rattle.rv_program.specs.internal.Rows.{number_of};
 ghost use Rattle.rv_program.specs.Sameness.{same_entry};
 ghost use Rattle.rv_program.specs.internal.SymbolRows.{AreSymbolRows};
 ghost use Rattle.rv_program.specs.internal.TextRows.{AreTextRows, program_in, address_in_text};
 ghost use Rattle.rv_program.specs.Uses.{is_equ};
 
+use crate::locals::LocalGuess;
+use crate::name_set::NameSet;
 use crate::symbol_rows::SymbolRows;
 use crate::text_lines::place_on;
 use crate::text_rows::{TextRows, address_of_found};
+use crate::used_names::UsedNames;
 use rv_expr::{Direction, Expr, Node};
 use rv_fix::{Entry, displacement, is_same_entry};
 use rv_stmt::{Body, Operand, OperandValue, Role};
@@ -36,6 +40,27 @@ pub fn rise(before: &TextRows<'_>, after: &TextRows<'_>, stood: u32, line: u32) 
     let here = place_on(after, line).address;
     let there = place_on(before, stood).address;
     i64::from(here) - i64::from(there)
+}
+
+/// Whether a line moved as far as the lines after the edit, and so did what it uses, where that is one name alone.
+#[inline]
+pub fn moved_together(
+    before: &TextRows<'_>,
+    after: &TextRows<'_>,
+    differing: &NameSet,
+    names: UsedNames,
+    stood: u32,
+    line: u32,
+) -> bool
+    requires before { AreTextRows before.now }
+    requires after { AreTextRows after.now }
+    requires first_stood { 1 ≤ stood }
+    requires last_stood { stood ≤ length before.now.lines.now }
+    requires first { 1 ≤ line }
+    requires last { line ≤ length after.now.lines.now }
+    ensures { IsTrue result → MovedTogether before.now after.now differing.now names stood line }
+{
+    names.has_moved(differing) && rise(before, after, stood, line) == differing.shift()
 }
 
 // The symbol or local label that the only operand is, where its role is that of a target.
@@ -114,13 +139,13 @@ pub fn differs_in_distance(
     )
 }
 
-// The address of a local label as a line names it. `near` is a guess of how many lines up to this one have the label.
+// The address of a local label as a line names it. `near` is a guess of where the label is.
 fn local_address(
     text: &TextRows<'_>,
     number: u16,
     direction: Direction,
     line: u32,
-    near: usize,
+    near: LocalGuess,
 ) -> Entry
     requires rows { AreTextRows text.now }
     requires last { line ≤ length text.now.lines.now }
@@ -138,7 +163,7 @@ fn local_distance(
     number: u16,
     direction: Direction,
     line: u32,
-    near: usize,
+    near: LocalGuess,
 ) -> Entry
     requires rows { AreTextRows text.now }
     requires first { 1 ≤ line }
@@ -176,7 +201,7 @@ pub fn differs_in_local_distance<C: Count>(
     ensures encoded { C.encoded_count counter.new ≡ C.encoded_count counter.old }
 {
     counter.valued();
-    let near = after.locals.count(line, number);
+    let near = after.locals.guess(line, number);
     !is_same_entry(
         local_distance(after, number, direction, line, near),
         local_distance(before, number, direction, stood, near),

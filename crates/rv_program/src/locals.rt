@@ -18,6 +18,15 @@ use std::marker::Model;
 // How far from a guess a count is looked for first.
 const REACH: usize = 4;
 
+/// A guess of where the lines are that a line means by a local label. No answer depends on it, and no contract says that it is right.
+#[derive(Clone, Copy)]
+pub struct LocalGuess {
+    // The place of the row of the label's number.
+    row: usize,
+    // How many lines of the row are up to the line.
+    count: usize,
+}
+
 /// The lines of the local labels: a row for each number that has some, sorted by the numbers.
 #[derive(Drop)]
 pub struct Locals {
@@ -205,25 +214,38 @@ impl Locals {
         }
     }
 
-    /// How many lines up to this one have the local label of a number: looked for first where it would be if they stood evenly. A guess
-    /// for `line_near`: no contract says that it is right.
-    pub fn count(&self, line: u32, number: u16) -> usize {
-        let lines = self.row(number);
-        count_near(lines, line, count_if_even(lines, line))
+    // The same, looked for at this place first.
+    fn row_near(&self, number: u16, place: usize) -> &[u32]
+        ensures lines { result.now ≡ lines_with self.now number }
+        ensures rising { IsNonDecreasing result.now }
+    {
+        let rows = self.rows.as_slice();
+        if is_row_of(rows, place, number) {
+            return rows[place].lines.as_slice();
+        }
+        self.row(number)
     }
 
-    /// The same as `line`. `near` is a guess of how many lines up to this one have the label; the answer does not depend on it.
+    /// Where the lines of a local label are that are up to this one: looked for first where they would be if they stood evenly.
+    pub fn guess(&self, line: u32, number: u16) -> LocalGuess {
+        let row = rows_below(self.rows.as_slice(), number);
+        let lines = self.row_near(number, row);
+        let count = count_near(lines, line, count_if_even(lines, line));
+        LocalGuess { row, count }
+    }
+
+    /// The same as `line`, by a guess, which may be of another text.
     pub fn line_near(
         &self,
         line: u32,
         number: u16,
         direction: Direction,
-        near: usize,
+        near: LocalGuess,
     ) -> Option<u32>
         ensures { result ≡ local_line_in self.now line number direction }
     {
-        let lines = self.row(number);
-        line_among(lines, direction, count_near(lines, line, near))
+        let lines = self.row_near(number, near.row);
+        line_among(lines, direction, count_near(lines, line, near.count))
     }
 
     /// The line of a local label as a line names it: `b` is the last one up to this line, `f` the first one after it.

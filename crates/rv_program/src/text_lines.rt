@@ -65,7 +65,7 @@ pub fn target_on<'a>(text: &TextRows<'a>, line: u32) -> Option<&'a Expr>
     requires last { line ≤ length text.now.lines.now }
     ensures { option_map (λ e. e.now) result ≡ target_of (body_at (program_in text.now) line) }
 {
-    if !brief_on(text, line).jump {
+    if !brief_on(text, line).relative {
         return None;
     }
     target(&statement_on(text, line).body)

@@ -18,6 +18,7 @@ pub mod FormerItems
 pub mod FormerShapes
 pub mod ImageExamples
 pub mod ItemsLeft
+pub mod KeptConstants
 pub mod LastDefinitions
 pub mod LastLines
 pub mod LongerPrograms

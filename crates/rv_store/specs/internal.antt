@@ -10,6 +10,7 @@ pub mod EditedRows
 pub mod Ends
 pub mod Forgetting
 pub mod HighRows
+pub mod NoDefinitions
 pub mod Passed
 pub mod Renewed
 pub mod Still

@@ -7,9 +7,11 @@ ghost use Rattle.rv_layout.specs.Places.{IsLimited, AreLimited};
 ghost use Rattle.rv_layout.specs.Shapes.{shape_of, size_operands};
 ghost use Rattle.rv_program.specs.declared.limits.TheConstants.{MAX_LINES};
 ghost use Rattle.rv_program.specs.internal.Briefs.{groups_on};
+ghost use Rattle.rv_program.specs.internal.EditedRows.{edited_row};
 ghost use Rattle.rv_program.specs.internal.Before.{IsBefore, base_before, lines_before, edit_on};
 ghost use Rattle.rv_store.specs.internal.ConstantPairs.{IsConstantPair, differs_in_constant};
 ghost use Rattle.rv_store.specs.internal.EditedRows.{former_shape};
+ghost use Rattle.rv_store.specs.internal.NoDefinitions.{defines_nothing, changes_no_definition};
 ghost use Rattle.rv_program.specs.Layout.{shape_at};
 ghost use Rattle.rv_program.specs.internal.NewShapes.{IsNewShape, shape_operands, shape_operands_through};
 ghost use Rattle.rv_program.specs.Program.{program_of, body_at};
@@ -146,6 +148,27 @@ fn moves_none(before: &Before<'_, '_>, shape: &Measured) -> bool
 }
 
 impl ShapeRows {
+    // The shapes of before an edit, with that of the line that it puts in, and these constants.
+    fn former(
+        alloc: Global,
+        before: &Before<'_, '_>,
+        constants: Vec<Option<i64>>,
+        shape: Measured,
+    ) -> Result<ShapeRows, AllocError>
+        requires before { IsBefore before.now }
+        ensures shapes { IfOk result (λ r. r.shapes.items ≡ edited_row before.now.shapes.now (edit_on before.now) shape) }
+        ensures constants { IfOk result (λ r. r.constants ≡ constants) }
+        ensures still { IfOk result (λ r. r.still ≡ true → AreUnmoved before.now.shapes.now (edit_on before.now) r.shapes.items) }
+    {
+        let still = moves_none(before, &shape);
+        let shapes = edited_row(alloc, before.shapes, &before.edit, shape)?;
+        Ok(ShapeRows {
+            shapes,
+            constants,
+            still,
+        })
+    }
+
     // Writes the shape of a line.
     fn write(&mut self, i: usize, shape: Measured)
         requires { i < length self.old.shapes.items }
@@ -200,9 +223,71 @@ fn settle_line<C: Count>(
     settle_constant(lines, i, names, definitions, &mut rows.constants, counter);
 }
 
-/// The shapes of all lines of the text after an edit, with its constants: the shape of a line follows from the constants of the lines
-/// before it, so that they are gone over from the first on. `groups` are those of the lines, and `shape` is the shape of the line that the edit
-/// puts in. All others that have no part in the constants keep their shapes, and are gone past.
+// The shapes of all lines of the text after an edit, with its constants: the shape of a line follows from the constants of the lines
+// before it, so that they are gone over from the first on. `groups` are those of the lines, and `shape` is the shape of the line that the edit
+// puts in. All others that have no part in the constants keep their shapes, and are gone past.
+fn settled_shapes<C: Count>(
+    alloc: Global,
+    before: &Before<'_, '_>,
+    lines: &[Line],
+    groups: &[Groups],
+    definitions: &[DefinitionPlace],
+    shape: Measured,
+    counter: &mut C,
+) -> Result<ShapeRows, AllocError>
+    requires before { IsBefore before.now }
+    requires shape { IsNewShape (lines_before before.now) (edit_on before.now) shape }
+    requires limited { IsLimited shape }
+    requires after { lines.now ≡ lines_after (lines_before before.now) (edit_on before.now) }
+    requires groups { groups.now ≡ map groups_on lines.now }
+    requires few { length lines.now ≤ MAX_LINES }
+    requires definitions { AreDefinitions (program_of lines.now) before.now.symbols.text.names.now definitions.now }
+    requires valued { C.valued_count counter.old ≤ 2 ^ 63 + 1 }
+    ensures shapes { IfOk result (λ r. AreShapes (program_of lines.now) r.shapes.items) }
+    ensures limited { IfOk result (λ r. AreLimited r.shapes.items) }
+    ensures still { IfOk result (λ r. r.still ≡ true → AreUnmoved before.now.shapes.now (edit_on before.now) r.shapes.items) }
+    ensures constants { IfOk result (λ r. AreConstants (program_of lines.now) (length lines.now) before.now.symbols.text.names.now r.constants.items) }
+    ensures least { C.valued_count counter.old ≤ C.valued_count counter.new }
+    ensures most { C.valued_count counter.new ≤ C.valued_count counter.old + 2 * length lines.now }
+    ensures work { C.valued_count counter.new + shape_operands (edit_on before.now) ≤ C.valued_count counter.old + work constant_operands (base_before before.now) (lines_before before.now) (edit_on before.now) (length lines.now) }
+    ensures parsed { C.parsed_count counter.new ≡ C.parsed_count counter.old }
+    ensures encoded { C.encoded_count counter.new ≡ C.encoded_count counter.old }
+{
+    let constants = vec![in alloc; None; definitions.len()]?;
+    let mut rows = ShapeRows::former(alloc, before, constants, shape)?;
+    let mut i = lines_up_to(groups, 0, Kind::Shaped);
+    while i < lines.len() {
+        settle_line(before, lines, i, definitions, &mut rows, counter);
+        i = lines_up_to(groups, i + 1, Kind::Shaped);
+    }
+    Ok(rows)
+}
+
+// Whether a line defines nothing: it has no label, and is no `.equ`.
+fn defines_nothing(line: &Line) -> bool
+    ensures { result ≡ defines_nothing (statement_of line.now) }
+{
+    line.brief().defines_nothing()
+}
+
+// Whether neither the line that an edit takes out nor the one that it puts in defines anything. The text after it has these lines.
+fn changes_no_definition(before: &Before<'_, '_>, lines: &[Line]) -> bool
+    requires before { IsBefore before.now }
+    requires after { lines.now ≡ lines_after (lines_before before.now) (edit_on before.now) }
+    ensures { result ≡ changes_no_definition (lines_before before.now) (edit_on before.now) }
+{
+    let old = &before.symbols.text.lines;
+    match before.edit {
+        LineEdit::Insert(k, _) => defines_nothing(&lines[k as usize - 1]),
+        LineEdit::Delete(k) => defines_nothing(old.line(k)),
+        LineEdit::Replace(k, _) => {
+            defines_nothing(&lines[k as usize - 1]) && defines_nothing(old.line(k))
+        }
+    }
+}
+
+/// The shapes of all lines of the text after an edit, with its constants. `groups` are those of the lines, and `shape` is the shape of the line
+/// that the edit puts in. Where the edit changes no definition, no constant changes, and all others keep their shapes.
 ///
 /// The counter's number of expressions computed rises by at most the size operands and the `.equ`s on the lines that the edit
 /// invalidates, the operand from which that shape follows apart.
@@ -233,18 +318,9 @@ pub fn shapes<C: Count>(
     ensures parsed { C.parsed_count counter.new ≡ C.parsed_count counter.old }
     ensures encoded { C.encoded_count counter.new ≡ C.encoded_count counter.old }
 {
-    let constants = vec![in alloc; None; definitions.len()]?;
-    let still = moves_none(before, &shape);
-    let shapes = edited_row(alloc, before.shapes, &before.edit, shape)?;
-    let mut rows = ShapeRows {
-        shapes,
-        constants,
-        still,
-    };
-    let mut i = lines_up_to(groups, 0, Kind::Shaped);
-    while i < lines.len() {
-        settle_line(before, lines, i, definitions, &mut rows, counter);
-        i = lines_up_to(groups, i + 1, Kind::Shaped);
+    if !changes_no_definition(before, lines) {
+        return settled_shapes(alloc, before, lines, groups, definitions, shape, counter);
     }
-    Ok(rows)
+    let constants = Vec::from_slice(alloc, before.symbols.constants)?;
+    ShapeRows::former(alloc, before, constants, shape)
 }

@@ -7,6 +7,7 @@ use Rattle.rv_program.specs.declared.brief.Brief.{Brief}
 use Rattle.rv_program.specs.declared.groups.Groups.{Groups}
 use Rattle.rv_program.specs.declared.groups.Kind.TheVariants.{Equ, PcrelHigh, Shaped, Addressed, Uncompared}
 use Rattle.rv_program.specs.internal.Groups.{with_kind}
+use Rattle.rv_program.specs.internal.HighSymbols.{high_symbol_of}
 use Rattle.rv_program.specs.internal.NameSets.{brief_of_names, groups_used}
 use Rattle.rv_program.specs.Jumps.{target_of}
 use Rattle.rv_program.specs.internal.Locals.{has_local_labels}
@@ -23,7 +24,7 @@ brief_of s = record {
   symbols = uses_symbols s.body;
   names = brief_of_names (names_used s.body);
   address = uses_address s.body;
-  jump = is_some (target_of s.body);
+  relative = is_some (target_of s.body) || is_some (high_symbol_of s.body);
   uncompared = uses_local_label s.body || uses_paired_high s.body || is_equ s.body;
   low = is_some (low_symbol_of s.body);
 }

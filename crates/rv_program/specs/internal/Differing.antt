@@ -1,5 +1,5 @@
 -- Which symbols an edit changes, by a set that has all of them.
-use Rattle.std.specs.Prelude.{◌≡◌, ℕ, ℤ, pos, ◌+ℤ◌, ◌⊎◌, Bool, true, false, List, Option, Some, None, Ok}
+use Rattle.std.specs.Prelude.{◌≡◌, ℕ, ℤ, pos, ◌+ℤ◌, ◌==◌, ◌⊎◌, Bool, true, false, List, Option, Some, None, Ok}
 use Rattle.rv_stmt.specs.Readings.{and_then}
 use Rattle.rv_fix.specs.Values.{Entry}
 use Rattle.rv_program.specs.declared.before.Before.{Before}
@@ -16,8 +16,9 @@ use Rattle.rv_program.specs.declared.groups.Groups.{Groups}
 use Rattle.rv_program.specs.declared.groups.Kind.TheVariants.{Addressed, Uncompared}
 use Rattle.rv_program.specs.internal.Groups.{has_group, has_kind}
 use Rattle.rv_program.specs.internal.NameSets.{bucket_of, Marks, mark_of, has_bucket, IsOutside, IsMoved}
-use Rattle.rv_program.specs.internal.TextRows.{program_in}
-use Rattle.rv_program.specs.Pairs.{low_of_symbol}
+use Rattle.rv_program.specs.internal.TextRows.{program_in, address_in_text}
+use Rattle.rv_program.specs.Layout.{size_at}
+use Rattle.rv_program.specs.Pairs.{high_at, low_of_symbol}
 use Rattle.rv_program.specs.Program.{program_of, body_at}
 use Rattle.rv_program.specs.References.{reference_of}
 use Rattle.rv_program.specs.Text.{Edit}
@@ -87,3 +88,13 @@ pub record HasDueGroups (set : Marks) (lows : Option Marks) (still : Bool) (want
   pub of_lows : (others : Marks) → lows ≡ Some others → (bucket : ℕ) → has_bucket others bucket ≡ true → has_group wanted bucket ≡ true
   pub uncompared : has_kind wanted Uncompared ≡ true
   pub addressed : still ≡ false → has_kind wanted Addressed ≡ true
+
+-- a line has bytes where it stood before an edit, and the high half that it had there
+pub record HasSameHigh (before : Before) (after : TextRows) (stood line : ℕ) : Type 0 where
+  pub bytes : (size_at (program_in before.symbols.text) stood == 0) ≡ false
+  pub high : high_at after.base (program_in after) line ≡ high_at (base_before before) (program_in before.symbols.text) stood
+
+-- a line that uses one name alone moved as far as the lines after the edit, and so did what the name gives
+pub record MovedTogether (before after : TextRows) (set : Marks) (used : UsedNames) (stood line : ℕ) : Type 0 where
+  pub moved : IsMoved used set
+  pub rises : pos (address_in_text after line) ≡ pos (address_in_text before stood) +ℤ set.shift

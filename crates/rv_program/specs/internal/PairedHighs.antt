@@ -1,5 +1,5 @@
 -- What `%pcrel_lo` of a label takes, by the high halves on the lines of a text and their places.
-use Rattle.std.specs.Prelude.{◌≡◌, ℕ, ◌+◌, ◌-◌, ◌<◌, ◌≤◌, ◌==◌, Bool, not, ◌&&◌, List, length, get_or, Option, ok_or, Err}
+use Rattle.std.specs.Prelude.{◌≡◌, ℕ, ◌-◌, ◌<◌, ◌==◌, Bool, not, ◌&&◌, List, length, get_or, Option, ok_or, Err}
 use Rattle.rv_expr.specs.declared.faults.ValueFault.TheVariants.{NoPartner}
 use Rattle.rv_stmt.specs.Readings.{and_then}
 use Rattle.rv_layout.specs.Sections.{section_number, sections}

@@ -1,5 +1,5 @@
 -- What the rows hold that are kept of a text: one value for each name, by the name's number, or one for each line.
-use Rattle.std.specs.Prelude.{◌≡◌, ℕ, ℤ, suc, ◌<◌, ◌≤◌, ◌==◌, Bool, List, [], ◌++◌, length, get_or, position, bytes_eq, Option, Some, None, Err, if◌then◌else◌}
+use Rattle.std.specs.Prelude.{◌≡◌, ℕ, ℤ, suc, ◌<◌, ◌≤◌, ◌==◌, Bool, List, ◌++◌, length, get_or, position, bytes_eq, Option, Some, None, Err, if◌then◌else◌}
 use Rattle.std.specs.Option.{is_some}
 use Rattle.rv_expr.specs.declared.faults.ValueFault.TheVariants.{LaterEqu, NoPartner}
 use Rattle.rv_layout.specs.declared.measured.Measured.{Measured}

@@ -1,5 +1,5 @@
 -- First uses of the names of a text that is cut short.
-use Rattle.std.proofs.Common.{◌≡◌, ℕ, ◌<◌, true, List, [], ◌++◌, length, get_or, take, arith, ap, sym, ◌∙◌}
+use Rattle.std.proofs.Common.{ℕ, List, [], ◌++◌, take, arith, ap, sym, ◌∙◌}
 use Rattle.std.proofs.lemmas.List.{get_or-take, get_or_append_left, length-append, length-take}
 use Rattle.rv_program.specs.internal.FirstUses.{Firsts, names_on, AreFirstUses}
 use Rattle.rv_program.specs.internal.NameSets.{may_have}

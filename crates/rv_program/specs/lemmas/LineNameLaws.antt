@@ -1,5 +1,5 @@
 -- What names give on a line: by the rows of the text it is what the definitions say.
-use Rattle.std.proofs.Common.{◌≡◌, ℕ, zero, suc, ◌+◌, ◌-◌, ◌<◌, ◌≤◌, Bool, true, false, List, [], length, get_or, if◌then◌else◌, nat_le, pos, Option, Some, None, ok_or, Result, Ok, Err, arith, ap, ◌∙◌, refl}
+use Rattle.std.proofs.Common.{◌≡◌, ℕ, zero, suc, ◌+◌, ◌-◌, ◌≤◌, Bool, true, false, List, [], length, get_or, if◌then◌else◌, nat_le, pos, Option, Some, None, ok_or, Result, Ok, Err, arith, ap, ◌∙◌, refl}
 use Rattle.std.proofs.lemmas.Bool.{leb-true}
 use Rattle.std.proofs.Math.Path.{fun_ext}
 use Rattle.rv_expr.specs.declared.faults.ValueFault.{ValueFault}
@@ -10,14 +10,13 @@ use Rattle.rv_expr.specs.declared.tree.LabelReference.{LabelReference}
 use Rattle.rv_expr.specs.declared.tree.LabelReference.TheVariants as reference
 use Rattle.rv_expr.specs.Value.{Environment}
 use Rattle.rv_stmt.specs.Readings.{and_then}
-use Rattle.rv_layout.specs.Sections.{section_number}
 use Rattle.rv_fix.specs.Values.{Entry}
 use Rattle.rv_list.specs.declared.view.DefinitionPlace.{DefinitionPlace}
 use Rattle.rv_list.specs.declared.view.DefinitionPlace.TheVariants.{Nowhere, Label as ByLabel, Equ}
 use Rattle.rv_list.specs.declared.view.LinePlace.{LinePlace}
 use Rattle.rv_program.specs.declared.text_rows.TextRows.{TextRows}
 use Rattle.rv_program.specs.Definitions.{definition_of}
-use Rattle.rv_program.specs.Layout.{section_at, address_at, place_at}
+use Rattle.rv_program.specs.Layout.{address_at, place_at}
 use Rattle.rv_program.specs.internal.LineNames.{address_of_found, label_line_in, names_by}
 use Rattle.rv_program.specs.internal.Locals.{local_line_in}
 use Rattle.rv_program.specs.internal.PairedHighs.{high_in}
@@ -29,7 +28,7 @@ use Rattle.rv_program.specs.internal.TextRows.{no_place, address_in, program_in,
 use Rattle.rv_program.specs.lemmas.DefinitionLaws.{IsWithin, definition-within}
 use Rattle.rv_program.specs.lemmas.EquLaws.{equ_value-stays}
 use Rattle.rv_program.specs.lemmas.LocalLines.{local_line-row}
-use Rattle.rv_program.specs.lemmas.Programs.{length-for_lines, at-line}
+use Rattle.rv_program.specs.lemmas.Programs.{at-line}
 
 -- Rows by lines
 

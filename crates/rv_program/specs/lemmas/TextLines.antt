@@ -1,8 +1,8 @@
 -- Lines of a text, by their numbers.
-use Rattle.std.proofs.Common.{◌≡◌, Bool, true, false, not, ◌&&◌, ◌==◌, nat_le, ℕ, ◌-◌, ◌<◌, ◌≤◌, List, [], ◌∷◌, length, get_or, Option, Some, None, true≢false, arith, ap, sym, ◌∙◌, refl}
+use Rattle.std.proofs.Common.{◌≡◌, Bool, true, false, not, ◌&&◌, ◌||◌, ◌==◌, nat_le, ℕ, ◌-◌, ◌<◌, ◌≤◌, List, [], ◌∷◌, length, get_or, Option, Some, None, true≢false, arith, ap, sym, ◌∙◌, refl}
 use Rattle.std.specs.List.{list_any}
 use Rattle.std.specs.Option.{is_some}
-use Rattle.std.proofs.lemmas.Bool.{leb-true}
+use Rattle.std.proofs.lemmas.Bool.{leb-true, or_parts}
 use Rattle.std.proofs.lemmas.List.{get_or-map}
 use Rattle.rv_expr.specs.Tree.{Tree}
 use Rattle.rv_ops.specs.declared.op.Op.{Op}
@@ -17,6 +17,7 @@ use Rattle.rv_stmt.specs.declared.statement.Body.TheVariants.{Equ, Instr}
 use Rattle.rv_stmt.specs.Statement.{statement_of, operands_of}
 use Rattle.rv_list.specs.declared.view.LinePlace.{LinePlace}
 use Rattle.rv_layout.specs.declared.measured.Measured.{Measured}
+use Rattle.rv_program.specs.internal.HighSymbols.{high_symbol_of}
 use Rattle.rv_program.specs.Jumps.{target_of}
 use Rattle.rv_program.specs.Layout.{shape_at, place_at}
 use Rattle.rv_program.specs.Pairs.{pcrel_high_value, pcrel_high_operand, pcrel_high_of, is_high_in, is_high_among, is_high_alone, low_symbol_of}
@@ -75,8 +76,8 @@ no_definition (Equ d) other = absurd (other d refl)
 no_definition b other = refl
 
 -- a body without a target
-pub no_target : (b : Body) → is_some (target_of b) ≡ false → None ≡ target_of b
-no_target b none = at (target_of b) none
+pub no_target : (b : Body) → (is_some (target_of b) || is_some (high_symbol_of b)) ≡ false → None ≡ target_of b
+no_target b none = at (target_of b) (or_parts (is_some (target_of b)) (is_some (high_symbol_of b)) none).0
   where
     at : (o : Option Tree) → is_some o ≡ false → None ≡ o
     at None h = refl

@@ -1,7 +1,6 @@
-use Rattle.std.proofs.Common.{◌≡◌, Some, None, ap, sym, ◌∙◌}
+use Rattle.std.proofs.Common.{ap, sym, ◌∙◌}
 use Rattle.std.specs.Option.{option_map}
 use Rattle.rv_program.specs.internal.Before.{base_before, lines_before, edit_on}
-use Rattle.rv_program.specs.Changes.{program_after}
 use Rattle.rv_program.specs.Jumps.{target_of}
 use Rattle.rv_program.specs.Pairs.{low_symbol_of, is_high_alone}
 use Rattle.rv_program.specs.Program.{program_of, body_at}

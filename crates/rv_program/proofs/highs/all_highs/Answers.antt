@@ -1,4 +1,4 @@
-use Rattle.std.proofs.Common.{◌≡◌, ◌⊎◌, inl, inr, length, not, ◌==◌, false, arith, ap, ◌∙◌, sym}
+use Rattle.std.proofs.Common.{◌≡◌, inl, inr, length, ap, ◌∙◌, sym}
 use Rattle.std.proofs.lemmas.Bool.{eqb-true, eqb-false}
 use Rattle.rv_program.specs.Layout.{place_at}
 use Rattle.rv_program.specs.internal.TextRows.{program_in}

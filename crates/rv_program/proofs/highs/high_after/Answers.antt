@@ -1,12 +1,11 @@
-use Rattle.std.proofs.Common.{◌≡◌, ◌-◌, ◌==◌, true, false, arith, ap, sym, ◌∙◌, refl}
+use Rattle.std.proofs.Common.{◌≡◌, ◌-◌, true, arith, sym, ◌∙◌, refl}
 use Rattle.std.specs.Option.{is_some}
 use Rattle.rv_program.specs.internal.Before.{base_before, lines_before, edit_on}
-use Rattle.rv_program.specs.Layout.{size_at}
 use Rattle.rv_program.specs.Pairs.{pcrel_high_of}
 use Rattle.rv_program.specs.Program.{body_at}
 use Rattle.rv_program.specs.internal.TextRows.{program_in}
 use Rattle.rv_program.specs.internal.Work.{high_operands}
-use Rattle.rv_program.proofs.HighLaws.{no-own, own-none, own-is, high-counted}
+use Rattle.rv_program.proofs.HighLaws.{no-own, high-counted}
 use Rattle.rv_program.specs.lemmas.WorkLaws.{work-up}
 use Rattle.rv_program.proofs.highs.high_after.Goals as goal
 

@@ -1,4 +1,4 @@
-use Rattle.std.proofs.Common.{◌+◌, ◌++◌, ap, sym, ◌∙◌, subst}
+use Rattle.std.proofs.Common.{◌+◌, ◌++◌, sym, ◌∙◌, subst}
 use Rattle.rv_program.specs.Edits.{edit_of}
 use Rattle.rv_program.specs.internal.Locals.{AreFrom, lines_with}
 use Rattle.rv_program.specs.internal.MovedLocals.{row_after}

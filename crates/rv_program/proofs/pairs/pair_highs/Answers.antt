@@ -1,4 +1,4 @@
-use Rattle.std.proofs.Common.{◌≡◌, ℕ, suc, pos, ◌-◌, ◌<◌, ◌≤◌, length, get_or, set, if◌then◌else◌, Ok, Err, refl, arith, ap, sym, subst, ◌∙◌, get_or-set_other}
+use Rattle.std.proofs.Common.{◌≡◌, suc, pos, ◌-◌, ◌<◌, length, get_or, set, if◌then◌else◌, Ok, Err, refl, arith, ap, sym, subst, ◌∙◌, get_or-set_other}
 use Rattle.std.proofs.lemmas.List.{length-set, get_or_default}
 use Rattle.rv_expr.specs.declared.faults.ValueFault.TheVariants.{NoPartner}
 use Rattle.rv_layout.specs.Sections.{section_number, sections}

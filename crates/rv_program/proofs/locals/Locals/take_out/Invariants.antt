@@ -1,4 +1,4 @@
-use Rattle.std.proofs.Common.{◌≡◌, ◌<◌, ◌≤◌, ℕ, length, get_or}
+use Rattle.std.proofs.Common.{◌≡◌, ◌<◌, ℕ, length, get_or}
 use Rattle.rv_program.specs.declared.local_row.LocalRow.{LocalRow}
 use Rattle.rv_program.specs.internal.Locals.{AreFrom, AreRising, lines_with, lines_below}
 use Rattle.rv_program.proofs.locals.Locals.take_out.Given as goal

@@ -3,7 +3,7 @@ use Rattle.rv_layout.specs.Places.{AreLimited}
 use Rattle.rv_program.specs.internal.Before.{edit_on}
 use Rattle.rv_store.specs.internal.Unmoved.{AreUnmoved}
 use Rattle.rv_store.proofs.SettledShapes.{AreSettled}
-use Rattle.rv_store.proofs.shapes.shapes.Given as goal
+use Rattle.rv_store.proofs.shapes.settled_shapes.Given as goal
 
 -- the rows hold what the lines so far give
 abbrev pub invariant-loop-i : goal.invariant-loop-i
