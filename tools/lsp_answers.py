@@ -1,5 +1,6 @@
-"""What answers of the language server have to be, by the words of the protocol: edits of a rename, tokens, completions."""
+"""What answers of the language server have to be, by the words of the protocol: edits of a rename, tokens, completions, folds, signatures; and sections."""
 import os
+import re
 import subprocess
 
 from lsp_reports import Wrong, assembled, place_of, position_of, reports_of
@@ -29,12 +30,12 @@ def text_after_edits(text, edits, encoding):
     return after + text[at:]
 
 
-def image_of(rvas, folder, text):
-    """The bytes of a text, also where it has faults."""
+def image_of(rvas, folder, text, base=0):
+    """The bytes of a text at a base, also where it has faults."""
     name = os.path.join(folder, "image.s")
     with open(name, "wb") as file:
         file.write(b"\n".join(assembled(text)))
-    return subprocess.run(rvas + ["asm", "--force", "-f", "image", "--no-line-marks", name], capture_output=True, check=False).stdout
+    return subprocess.run(rvas + ["asm", "--force", "-f", "image", "--no-line-marks", f"--base={base}", name], capture_output=True, check=False).stdout
 
 
 def check_rename(rvas, folder, text, name, result, encoding):
@@ -100,3 +101,50 @@ def check_completion(rvas, folder, text, position, items, encoding, random):
     for report in found[0]:
         if report[:2] == (start["line"], start["character"]) and report[4] in ("UnknownName", "Undefined", "RegisterRange") and len(item["label"]) == report[2]:
             raise Wrong(f"{item} at {position}: {report}")
+
+
+# A line that begins a fold, more or less, and one with at most a comment.
+BEGINNING = re.compile(r"[ \t\r]*([\w.$]+[ \t\r]*:|\.(text|rodata|data|bss|section)\b)", re.IGNORECASE)
+COMMENT = re.compile(r"[ \t\r]*((#|//).*)?")
+
+
+def check_folds(text, folds):
+    """Folds are in order and within each other or apart, each of two lines or more, from one that begins it to one with more than a comment."""
+    lines = [line.decode() for line in assembled(text)]
+    around, before = [len(lines)], -1
+    for fold in folds:
+        first, last = fold["startLine"], fold["endLine"]
+        while around and around[-1] < first:
+            around.pop()
+        if set(fold) != {"startLine", "endLine"} or not before < first < last < len(lines) or not around or last > around[-1]:
+            raise Wrong(f"{fold} of {folds}")
+        if not BEGINNING.match(lines[first]) or COMMENT.fullmatch(lines[last]):
+            raise Wrong(f"{fold} from {lines[first]!r} to {lines[last]!r}")
+        around.append(last)
+        before = first
+
+
+def check_signatures(text, position, result, encoding):
+    """Signatures are ways to write what stands before the position, whose operands are in order; the active one is one of them."""
+    at = place_of(text, position, encoding)
+    front = text[text.rfind("\n", 0, at) + 1 : at]
+    for signature in result["signatures"]:
+        label = signature["label"]
+        name, last = label.split(" ")[0], 0
+        if not re.search(rf"(^|[ \t\r:]){re.escape(name)}[^\w.$]", front, re.ASCII):
+            raise Wrong(f"{label} at {front!r}")
+        for parameter in signature["parameters"]:
+            start, end = parameter["label"]
+            if not max(last, len(name)) < start < end <= len(label) or not re.fullmatch(r"[a-z0-9()]+|\.\.\.", label[start:end]):
+                raise Wrong(f"{parameter} of {label}")
+            last = end
+    if not 0 <= result["activeSignature"] < len(result["signatures"]) or not 0 <= result["activeParameter"] <= front.count(","):
+        raise Wrong(f"{result} at {front!r}")
+
+
+def check_sections(rvas, folder, text, base, sections):
+    """The sections are those of the image that are not empty."""
+    rows = re.findall(rb"^(\.[a-z.]+) 0x([0-9a-f]{8}) (\d+)$", image_of(rvas, folder, text, base), re.MULTILINE)
+    wanted = [{"name": name.decode(), "address": int(address, 16), "size": int(size)} for name, address, size in rows if size != b"0"]
+    if sections != wanted:
+        raise Wrong(f"the sections are {wanted}, not {sections}")

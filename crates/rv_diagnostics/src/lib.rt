@@ -12,6 +12,6 @@ mod told;
 pub use diagnostics::{Context, column_at};
 pub use message::Message;
 pub use part::Part;
-pub use publishing::{publish_lines, publish_none};
+pub use publishing::{publish_lines, publish_none, put_nearest};
 pub use ranges::{put_position, put_range};
 pub use told::Told;

@@ -332,9 +332,13 @@ fn put_left_out(
     }
 }
 
-// Writes the diagnostics of a document that are nearest to a line, by its number from 0 on.
+/// Writes the diagnostics of a document, by its bytes and what is shown of it as a text, that are nearest to a line, by its number from 0 on.
+///
+/// # Errors
+///
+/// `AllocError` if there is no memory for them.
 #[tactic(auto, unfolding(crate::specs::Published::diagnostics_of))]
-fn put_nearest<T: Told>(
+pub fn put_nearest<T: Told>(
     m: &mut Message,
     context: &Context<'_>,
     document: &[u8],

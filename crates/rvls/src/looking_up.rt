@@ -1,15 +1,20 @@
 //! Requests about the lines of a document and the names in it.
 
+use crate::assembly::Assembly;
 use crate::completion::put_completions;
 use crate::definition::put_definition;
 use crate::document_symbols::put_document_symbols;
+use crate::folds::put_folds;
 use crate::hints::put_hints;
 use crate::hover::put_hover;
 use crate::name_at::{Named, name_at};
 use crate::places::lines_to;
+use crate::publishing::put_report;
 use crate::references::{PlaceForm, Wanted, put_references};
 use crate::rename::{put_name, put_rename};
+use crate::sections::put_section_places;
 use crate::semantic_tokens::put_semantic_tokens;
+use crate::signature_help::put_signature_help;
 use crate::writing::{Failure, Refusal};
 use rv_diagnostics::{Context, Message};
 use rv_doc::{Position, number_at, position_of, text_at};
@@ -39,6 +44,8 @@ pub enum Wish<'a> {
     Hover,
     /// Which names may be typed there.
     Completion,
+    /// How the statement there can be written.
+    Signatures,
     /// Something about the name there.
     Name(NameWish<'a>),
 }
@@ -48,6 +55,12 @@ pub enum Wish<'a> {
 pub enum Question<'a> {
     /// Which symbols it has.
     Symbols,
+    /// Which of its lines are shown as one.
+    Folds,
+    /// The addresses and sizes of its sections.
+    Sections,
+    /// Which faults and warnings it has.
+    Diagnostics,
     /// What the tokens are of the lines from the first number on and before the second, from 0 on.
     Tokens(u32, u32),
     /// What is shown beside such lines.
@@ -63,27 +76,34 @@ impl Question<'_> {
     }
 }
 
-// What a request asks about the name at a position, if its other parameters are right.
-fn name_wish_in<'a>(method: &str, message: &'a Value) -> Option<NameWish<'a>> {
+// What a request asks about the name at a position.
+fn name_wish_in<'a>(method: &str, message: &'a Value) -> Result<NameWish<'a>, Refusal> {
     match method {
-        "textDocument/definition" => Some(NameWish::Definition),
+        "textDocument/definition" => Ok(NameWish::Definition),
         "textDocument/references" => {
-            let with_definition = message.pointer("/params/context/includeDeclaration")?;
-            Some(NameWish::References(with_definition.as_bool()?))
+            let wanted = message.pointer("/params/context/includeDeclaration");
+            let with_definition = wanted
+                .and_then(Value::as_bool)
+                .ok_or(Refusal::WrongParameters)?;
+            Ok(NameWish::References(with_definition))
         }
-        "textDocument/documentHighlight" => Some(NameWish::Highlights),
-        "textDocument/prepareRename" => Some(NameWish::CanRename),
-        "textDocument/rename" => Some(NameWish::Rename(text_at(message, "/params/newName")?)),
-        _ => None,
+        "textDocument/documentHighlight" => Ok(NameWish::Highlights),
+        "textDocument/prepareRename" => Ok(NameWish::CanRename),
+        "textDocument/rename" => {
+            let new_text = text_at(message, "/params/newName").ok_or(Refusal::WrongParameters)?;
+            Ok(NameWish::Rename(new_text))
+        }
+        _ => Err(Refusal::UnknownMethod),
     }
 }
 
-// What a request asks about a position, if its other parameters are right.
-fn wish_in<'a>(method: &str, message: &'a Value) -> Option<Wish<'a>> {
+// What a request asks about a position.
+fn wish_in<'a>(method: &str, message: &'a Value) -> Result<Wish<'a>, Refusal> {
     match method {
-        "textDocument/hover" => Some(Wish::Hover),
-        "textDocument/completion" => Some(Wish::Completion),
-        _ => Some(Wish::Name(name_wish_in(method, message)?)),
+        "textDocument/hover" => Ok(Wish::Hover),
+        "textDocument/completion" => Ok(Wish::Completion),
+        "textDocument/signatureHelp" => Ok(Wish::Signatures),
+        _ => Ok(Wish::Name(name_wish_in(method, message)?)),
     }
 }
 
@@ -97,22 +117,30 @@ fn lines_in(message: &Value) -> Option<(u32, u32)> {
     }
 }
 
-/// What a request asks about a document, if its parameters are right.
-pub fn question_in<'a>(method: &str, message: &'a Value) -> Option<Question<'a>> {
+/// What a request asks about a document.
+///
+/// # Errors
+///
+/// `UnknownMethod` if it asks for something else, and `WrongParameters` if there is not all that it needs.
+pub fn question_in<'a>(method: &str, message: &'a Value) -> Result<Question<'a>, Refusal> {
     match method {
-        "textDocument/documentSymbol" => Some(Question::Symbols),
-        "textDocument/semanticTokens/full" => Some(Question::Tokens(0, u32::MAX)),
+        "textDocument/documentSymbol" => Ok(Question::Symbols),
+        "textDocument/foldingRange" => Ok(Question::Folds),
+        "rvls/sections" => Ok(Question::Sections),
+        "textDocument/diagnostic" => Ok(Question::Diagnostics),
+        "textDocument/semanticTokens/full" => Ok(Question::Tokens(0, u32::MAX)),
         "textDocument/semanticTokens/range" => {
-            let (from, to) = lines_in(message)?;
-            Some(Question::Tokens(from, to))
+            let (from, to) = lines_in(message).ok_or(Refusal::WrongParameters)?;
+            Ok(Question::Tokens(from, to))
         }
         "textDocument/inlayHint" => {
-            let (from, to) = lines_in(message)?;
-            Some(Question::Hints(from, to))
+            let (from, to) = lines_in(message).ok_or(Refusal::WrongParameters)?;
+            Ok(Question::Hints(from, to))
         }
         _ => {
-            let position = position_of(message)?;
-            Some(Question::Place(position, wish_in(method, message)?))
+            let wish = wish_in(method, message)?;
+            let position = position_of(message).ok_or(Refusal::WrongParameters)?;
+            Ok(Question::Place(position, wish))
         }
     }
 }
@@ -152,7 +180,7 @@ fn put_no_name(m: &mut Message, wish: NameWish<'_>) -> Result<(), Failure> {
 // Writes the answer where no line is.
 fn put_no_line(m: &mut Message, wish: Wish<'_>) -> Result<(), Failure> {
     match wish {
-        Wish::Hover => m.null()?,
+        Wish::Hover | Wish::Signatures => m.null()?,
         Wish::Completion => {
             m.begin_array()?;
             m.end_array()?;
@@ -216,6 +244,7 @@ fn put_about_line<V: View>(
     match wish {
         Wish::Hover => put_hover(m, context, view, number, line, column)?,
         Wish::Completion => put_list(m, context, view, line, position)?,
+        Wish::Signatures => put_signature_help(m, context, line, column)?,
         Wish::Name(wish) => {
             let found = name_at(context.alloc, context.encoding, view, number, line, column)?;
             return match found {
@@ -242,32 +271,32 @@ fn put_about_position<V: View>(
     }
 }
 
-/// Writes the answer to a question.
+/// Writes the answer to a question about a document.
 ///
 /// # Errors
 ///
 /// `Refused` if a name cannot get another one, and `Memory` if there is no memory for the answer.
-pub fn put_answer<V: View>(
+pub fn put_answer(
     m: &mut Message,
     context: &Context<'_>,
-    view: &V,
+    document: &Assembly,
     question: Question<'_>,
 ) -> Result<(), Failure> {
+    let view = &document.store();
     match question {
         Question::Symbols => {
             m.begin_array()?;
             put_document_symbols(m, context, view)?;
             m.end_array()?;
-            Ok(())
         }
-        Question::Tokens(from, to) => {
-            put_semantic_tokens(m, context, view, from, to)?;
-            Ok(())
+        Question::Folds => put_folds(m, context.alloc, view)?,
+        Question::Sections => put_section_places(m, view)?,
+        Question::Diagnostics => put_report(m, context, document, document.edited())?,
+        Question::Tokens(from, to) => put_semantic_tokens(m, context, view, from, to)?,
+        Question::Hints(from, to) => put_hints(m, context, view, from, to)?,
+        Question::Place(position, wish) => {
+            return put_about_position(m, context, view, position, wish);
         }
-        Question::Hints(from, to) => {
-            put_hints(m, context, view, from, to)?;
-            Ok(())
-        }
-        Question::Place(position, wish) => put_about_position(m, context, view, position, wish),
     }
+    Ok(())
 }

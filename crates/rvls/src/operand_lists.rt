@@ -9,8 +9,8 @@ use rv_ops::{
     Op, Reg, RegisterClass, Shape, classes, csr_by_name, is_name, op_by_name, reg_by_name, shape,
 };
 use rv_stmt::{
-    AlignmentUnit, DirectiveForm, DirectiveKind, FORMS, FormRow, Slot, directive_named,
-    operand_slots,
+    AlignmentUnit, DirectiveForm, DirectiveKind, FORMS, FormRow, OperandCount, Slot,
+    directive_named, operand_slots,
 };
 use std::alloc::{AllocError, Global};
 
@@ -139,6 +139,59 @@ pub fn directive_words(form: DirectiveForm) -> &'static str {
         DirectiveKind::Definition => "symbol, expression",
         DirectiveKind::Switch(_) | DirectiveKind::Ignored => "",
     }
+}
+
+/// A way to write an instruction or a directive.
+#[derive(Drop)]
+pub struct Way {
+    /// The words for its operands.
+    pub words: String,
+    pub count: OperandCount,
+}
+
+// Adds the way to write an instruction with these operands.
+fn push_way(ways: &mut Vec<Way>, alloc: Global, slots: &[Slot]) -> Result<(), AllocError> {
+    ways.push(Way {
+        words: slot_words(alloc, slots)?,
+        count: OperandCount::Exactly(slots.len()),
+    })?;
+    Ok(())
+}
+
+// Adds the further ways to write an instruction.
+fn push_forms(
+    ways: &mut Vec<Way>,
+    alloc: Global,
+    name: &[u8],
+    mut rows: &[FormRow],
+) -> Result<(), AllocError> {
+    'rows: while let [row, later @ ..] = rows {
+        if is_name(row.0, name) {
+            push_way(ways, alloc, row.3)?;
+        }
+        rows = later;
+    }
+    Ok(())
+}
+
+/// The ways to write an instruction or a directive, by its name: none where it is unknown.
+///
+/// # Errors
+///
+/// `AllocError` if there is no memory for them.
+pub fn ways_to_write(alloc: Global, name: &[u8]) -> Result<Vec<Way>, AllocError> {
+    let mut ways = Vec::new(alloc);
+    if let Some(form) = directive_named(name) {
+        ways.push(Way {
+            words: String::from_str(alloc, directive_words(form))?,
+            count: form.count,
+        })?;
+    }
+    if let Some(op) = op_by_name(name) {
+        push_way(&mut ways, alloc, operand_slots(shape(op)))?;
+    }
+    push_forms(&mut ways, alloc, name, &FORMS)?;
+    Ok(ways)
 }
 
 // Whether instructions of a shape take the upper part of a value.

@@ -159,15 +159,20 @@ fn put_rename_provider(m: &mut Message, message: &Value) -> Result<(), AllocErro
     ])
 }
 
-// Writes which characters begin a name that can be completed, beside letters.
-fn put_completion_provider(m: &mut Message) -> Result<(), AllocError> {
+// Writes that something can be asked for, and after which characters an editor does so by itself.
+fn put_typing_provider<'a>(
+    m: &mut Message,
+    provider: &'a str,
+    first: &'a str,
+    second: &'a str,
+) -> Result<(), AllocError> {
     m.put_all(&[
-        Part::Key("completionProvider"),
+        Part::Key(provider),
         Part::BeginObject,
         Part::Key("triggerCharacters"),
         Part::BeginArray,
-        Part::Text("."),
-        Part::Text("%"),
+        Part::Text(first),
+        Part::Text(second),
         Part::EndArray,
         Part::EndObject,
     ])
@@ -222,6 +227,8 @@ fn put_simple_capabilities(m: &mut Message, encoding: Encoding) -> Result<(), Al
         Part::Boolean(true),
         Part::Key("documentSymbolProvider"),
         Part::Boolean(true),
+        Part::Key("foldingRangeProvider"),
+        Part::Boolean(true),
     ])
 }
 
@@ -234,7 +241,8 @@ fn put_capabilities(
     m.put_all(&[Part::Key("capabilities"), Part::BeginObject])?;
     put_simple_capabilities(m, encoding)?;
     put_rename_provider(m, message)?;
-    put_completion_provider(m)?;
+    put_typing_provider(m, "completionProvider", ".", "%")?;
+    put_typing_provider(m, "signatureHelpProvider", " ", ",")?;
     put_tokens_provider(m)?;
     m.end_object()
 }
@@ -487,18 +495,7 @@ impl Server {
                 self.phase = Phase::Down;
                 answer_null(self.alloc, id, out)
             }
-            "textDocument/hover"
-            | "textDocument/definition"
-            | "textDocument/references"
-            | "textDocument/documentHighlight"
-            | "textDocument/documentSymbol"
-            | "textDocument/prepareRename"
-            | "textDocument/rename"
-            | "textDocument/completion"
-            | "textDocument/inlayHint"
-            | "textDocument/semanticTokens/full"
-            | "textDocument/semanticTokens/range" => self.look_up(method, message, out),
-            _ => refuse(self.alloc, id, Refusal::UnknownMethod, out),
+            _ => self.look_up(method, message, out),
         }
     }
 
@@ -508,15 +505,13 @@ impl Server {
         method: &str,
         message: &'a Value,
     ) -> Result<(&'a Open, Question<'a>), Refusal> {
+        let question = question_in(method, message)?;
         let Some(uri) = text_at(message, "/params/textDocument/uri") else {
             return Err(Refusal::WrongParameters);
         };
-        let Some(at) = self.place_of(uri) else {
-            return Err(Refusal::NotOpen);
-        };
-        match question_in(method, message) {
-            Some(question) => Ok((&self.documents[at], question)),
-            None => Err(Refusal::WrongParameters),
+        match self.place_of(uri) {
+            Some(at) => Ok((&self.documents[at], question)),
+            None => Err(Refusal::NotOpen),
         }
     }
 
@@ -532,7 +527,7 @@ impl Server {
         }
         let context = self.context(open.uri.as_str());
         let mut m = begin_result(self.alloc, id)?;
-        put_answer(&mut m, &context, &open.document.store(), question)?;
+        put_answer(&mut m, &context, &open.document, question)?;
         Ok(m)
     }
 

@@ -93,7 +93,8 @@ fn typed_by<'a>(front: &'a [u8], mut left: &[Token], mut typed: Typed<'a>) -> Ty
     typed.with_word(u32::try_from(front.len()).unwrap_or(u32::MAX))
 }
 
-/// What stands before the end of the front of a line, if that is in no comment, and behind no lexical fault.
+/// What stands before the end of the front of a line, if that is in no comment, and after no lexical fault. An operand that is a string, a character or
+/// a number and is not complete there is no such fault.
 ///
 /// # Errors
 ///
@@ -104,8 +105,18 @@ pub fn typed_in(alloc: Global, front: &[u8]) -> Result<Option<Typed<'_>>, AllocE
     let Ok(found) = tokens(alloc, front) else {
         return Err(AllocError);
     };
-    if found.fault().is_some() || comment_in(front, &found).is_some() {
+    if comment_in(front, &found).is_some() {
         return Ok(None);
     }
-    Ok(Some(typed_by(front, found.tokens(), Typed::beginning())))
+    let typed = typed_by(front, found.tokens(), Typed::beginning());
+    let Some(fault) = found.fault() else {
+        return Ok(Some(typed));
+    };
+    if typed.expected == Expected::Statement || (fault.span.to as usize) < front.len() {
+        return Ok(None);
+    }
+    Ok(Some(Typed {
+        expected: Expected::Sign,
+        ..typed
+    }))
 }
