@@ -136,7 +136,9 @@ def reports_of(rvas, folder, texts, encoding, base=0):
             continue
         note = FIRST.fullmatch(said[k])
         if note:
-            found[number][-1] = found[number][-1][:-1] + (int(note[2]) - 1,)
+            # An editor shows one row, so that the message says what the note does.
+            *place, message, _ = found[number][-1]
+            found[number][-1] = (*place, f"{message} in line {int(note[2])}", int(note[2]) - 1)
         more = ODD.fullmatch(said[k])
         if more:
             hidden[number] += int(more[1])

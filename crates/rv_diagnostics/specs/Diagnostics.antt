@@ -68,6 +68,16 @@ abbrev pub place_of_fault : Environment → Shown → Line → FaultNumber → S
 place_of_fault given shown line FaultyEqu span = place_of_name shown (faulty_name_of given (operand_of_line line span))
 place_of_fault given shown line number span = shown.definition (part line.text span)
 
+-- what the message of a second definition ends with: the line of the first one
+abbrev pub in_line : DefinitionPlace → List ℕ
+in_line Nowhere = []
+in_line (Label line index) = codes " in line " ++ decimal line
+in_line (Equ line) = codes " in line " ++ decimal line
+
+abbrev pub first_line_of : FaultNumber → DefinitionPlace → List ℕ
+first_line_of Duplicate place = in_line place
+first_line_of number place = []
+
 -- the diagnostic of a fault of a line, which has the number `line.number` from 1 on, with this message, where its name is defined here
 abbrev pub diagnostic_of_fault : Encoding → (uri : List ℕ) → DefinitionPlace → Line → Fault → (message : List ℕ) → List Token
 diagnostic_of_fault encoding uri place line fault message =
@@ -77,7 +87,8 @@ diagnostic_of_fault encoding uri place line fault message =
 -- the diagnostic of a fault of a line
 unfoldable pub fault_diagnostic : Encoding → (uri : List ℕ) → Environment → Shown → Line → Fault → List Token
 fault_diagnostic encoding uri given shown line fault =
-    diagnostic_of_fault encoding uri (place_of_fault given shown line fault.number fault.span) line fault (utf8_lossy (message_of given shown line fault))
+    diagnostic_of_fault encoding uri (place_of_fault given shown line fault.number fault.span) line fault
+    (utf8_lossy (message_of given shown line fault ++ first_line_of fault.number (place_of_fault given shown line fault.number fault.span)))
 
 -- the diagnostic of a warning about a line
 unfoldable pub warning_diagnostic : Encoding → (number : ℕ) → (text : List ℕ) → Warning → List Token

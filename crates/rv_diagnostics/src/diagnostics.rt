@@ -1,6 +1,6 @@
 //! Diagnostics as they are written: faults of lines, warnings about them, and lines past a limit.
 
-ghost use Rattle.std.specs.Prelude.{◌≡◌, ◌≤◌, ◌<◌, ◌^◌, ◌++◌, [], length, option_map, string_bytes, IfOk, OnOk};
+ghost use Rattle.std.specs.Prelude.{◌≡◌, ◌≤◌, ◌<◌, ◌^◌, ◌++◌, [], codes, decimal, length, option_map, string_bytes, IfOk, OnOk};
 ghost use Rattle.std.specs.List.{flat_map};
 ghost use Rattle.std.specs.Str.Lossy.{utf8_lossy};
 ghost use Rattle.rv_list.specs.Faults.{body_faults, found};
@@ -8,7 +8,7 @@ ghost use Rattle.rv_report.specs.FaultyNames.{name_used};
 ghost use Rattle.rv_report.specs.Lines.{line_of};
 ghost use Rattle.rv_report.specs.Messages.{message_of};
 ghost use Rattle.rv_report.specs.Warnings.{warning_message, warning_seen};
-ghost use Rattle.rv_diagnostics.specs.Diagnostics.{column_at, diagnostic, diagnostic_head, diagnostic_of_fault, fault_diagnostic, long_line, many_lines, more_diagnostics, place_of_fault, place_of_name, related_line, related_of, related_place, warning_diagnostic};
+ghost use Rattle.rv_diagnostics.specs.Diagnostics.{column_at, diagnostic, diagnostic_head, diagnostic_of_fault, fault_diagnostic, first_line_of, long_line, many_lines, more_diagnostics, place_of_fault, place_of_name, related_line, related_of, related_place, warning_diagnostic};
 
 use crate::message::Message;
 use crate::part::Part;
@@ -170,20 +170,49 @@ fn put_related(
     }
 }
 
-// The message of a fault as a text.
+// Appends which line a definition is in.
+fn push_line(bytes: &mut Vec<u8>, line: u32) -> Result<(), AllocError>
+    ensures { OnOk result (bytes.new.items ≡ bytes.old.items ++ codes " in line " ++ decimal line) }
+{
+    let mut digits = itoa::Buffer::new();
+    bytes.extend_from_slice(b" in line ")?;
+    bytes.extend_from_slice(digits.format(line).as_bytes())
+}
+
+// Appends which line the first definition is in, for a fault that is about a later one.
+fn push_first_line(
+    bytes: &mut Vec<u8>,
+    number: FaultNumber,
+    place: DefinitionPlace,
+) -> Result<(), AllocError>
+    ensures { OnOk result (bytes.new.items ≡ bytes.old.items ++ first_line_of number place) }
+{
+    if number != FaultNumber::Duplicate {
+        return Ok(());
+    }
+    match place {
+        DefinitionPlace::Nowhere => Ok(()),
+        DefinitionPlace::Label(line, _) => push_line(bytes, line),
+        DefinitionPlace::Equ(line) => push_line(bytes, line),
+    }
+}
+
+// The message of a fault as a text, whose name is defined here.
 fn fault_text<N: Names, V: View>(
     alloc: Global,
     line: &FaultyLine<'_>,
     names: &N,
     view: &V,
+    definition: DefinitionPlace,
     fault: Fault,
 ) -> Result<String, AllocError>
     requires labels { length line.now.stmt.now.labels ≤ 1000 }
     requires text { length line.now.text.now ≤ 1000 }
-    ensures { IfOk result (λ s. string_bytes s ≡ utf8_lossy (message_of (N.environment names.now line.now.address) (V.shown view.now) (line_of line.now) fault)) }
+    ensures { IfOk result (λ s. string_bytes s ≡ utf8_lossy (message_of (N.environment names.now line.now.address) (V.shown view.now) (line_of line.now) fault ++ first_line_of fault.number definition)) }
 {
     let mut bytes = Vec::new(alloc);
     message(&mut bytes, alloc, line, names, view, fault)?;
+    push_first_line(&mut bytes, fault.number, definition)?;
     String::from_utf8_lossy(alloc, bytes.as_slice())
 }
 
@@ -251,8 +280,8 @@ fn put_fault<N: Names, V: View>(
     requires text { length line.now.text.now ≤ 1000 }
     ensures { OnOk result (m.new ≡ m.old ++ fault_diagnostic context.now.encoding context.now.uri.now (N.environment names.now line.now.address) (V.shown view.now) (line_of line.now) fault) }
 {
-    let said = fault_text(context.alloc, line, names, view, fault)?;
     let definition = place_of_fault(line, names, view, fault);
+    let said = fault_text(context.alloc, line, names, view, definition, fault)?;
     put_said(m, context, line, definition, fault, said.as_str())?;
     Ok(())
 }
