@@ -9,6 +9,7 @@ mod codes;
 mod defined;
 mod disassembly;
 mod encodings;
+mod entries;
 mod expressions;
 mod layouts;
 mod lines;
@@ -90,7 +91,7 @@ fn answer_of_expression(alloc: Global, call: &str, arguments: &str) -> Result<St
     }
 }
 
-// Of operations and registers.
+// Of operations and registers, and of what the manual says of names.
 fn answer_of_operation(alloc: Global, call: &str, arguments: &str) -> Result<String, Fail> {
     match call {
         "operation" => operations::operation(alloc, arguments),
@@ -105,6 +106,9 @@ fn answer_of_operation(alloc: Global, call: &str, arguments: &str) -> Result<Str
         "named_csrs" => operations::named_csrs(alloc, arguments),
         "is_name" => operations::is_same_name(alloc, arguments),
         "modifier_named" => operations::modifier_named(alloc, arguments),
+        "entry" => entries::entry(alloc, arguments),
+        "statements_without_entry" => entries::statements_without_entry(alloc, arguments),
+        "registers_without_entry" => entries::registers_without_entry(alloc, arguments),
         _ => answer_of_encoding(alloc, call, arguments),
     }
 }

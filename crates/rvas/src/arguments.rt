@@ -238,14 +238,15 @@ fn disassemble_command<'a>(alloc: Global) -> Made<'a> {
     with_argument(command, file_argument(alloc))
 }
 
-// The name of a fault.
+// The name of a fault or of a word of the language.
 fn name_argument<'a>(alloc: Global) -> Arg<'a> {
-    argument(alloc, "name", "NAME", "The name of a fault, or its number")
+    let help = "The name of a fault, or its number; of an instruction, a directive or a register";
+    argument(alloc, "name", "NAME", help)
 }
 
 fn explain_command<'a>(alloc: Global) -> Made<'a> {
     Command::new(alloc, "explain")
-        .about("Says what a fault means")
+        .about("Says what a fault, or a name of the language, means")
         .arg(name_argument(alloc))
 }
 

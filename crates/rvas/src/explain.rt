@@ -1,8 +1,11 @@
-//! What faults mean.
+//! What faults, and the words of the language, mean.
 
 use crate::failure::Failure;
 use crate::noting::unless_closed;
+use crate::ways::ways_of;
+use rv_manual::{Entry, entry_named};
 use rv_text::number;
+use std::alloc::AllocError;
 use std::io;
 
 /// What a fault means, with lines the last of which has it, and lines that have none.
@@ -204,15 +207,32 @@ fn explain_other(rt: &HostRuntime, name: &str) -> Option<io::Result<()>> {
     None
 }
 
-/// Says what the fault of a name or of a number, the warning or the limit of a name means.
+// Says how a word of the language is written, what it means, and where that is defined.
+fn explain_word(rt: &HostRuntime, entry: &Entry) -> Result<io::Result<()>, AllocError> {
+    let ways = ways_of(rt.alloc(), entry.name)?;
+    let (sentence, source) = (entry.sentence, entry.source.text());
+    Ok(println!(rt; "{ways}{sentence}\n{source}"))
+}
+
+// Says what a name means that is of no fault, if it has a meaning.
+fn explain_name(rt: &HostRuntime, name: &str) -> Result<io::Result<()>, Failure> {
+    if let Some(said) = explain_other(rt, name) {
+        return Ok(said);
+    }
+    match entry_named(name.as_bytes()) {
+        Some(entry) => Ok(explain_word(rt, &entry)?),
+        None => Err(Failure::NoFault),
+    }
+}
+
+/// Says what the fault of a name or of a number, the warning or the limit of a name, or a word of the language means.
 pub fn explain(rt: &HostRuntime, name: &str) -> Result<(), Failure> {
     let said = match explanation_of(name) {
-        Some(explanation) => Some(explain_fault(rt, explanation)),
-        None => explain_other(rt, name),
+        Some(explanation) => explain_fault(rt, explanation),
+        None => explain_name(rt, name)?,
     };
     match said {
-        Some(Ok(())) => Ok(()),
-        Some(Err(error)) => unless_closed(error.kind()),
-        None => Err(Failure::NoFault),
+        Ok(()) => Ok(()),
+        Err(error) => unless_closed(error.kind()),
     }
 }

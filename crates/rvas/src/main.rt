@@ -12,6 +12,7 @@ mod output;
 mod replacement;
 mod sums;
 mod tasks;
+mod ways;
 mod words;
 
 use arguments::{ArgumentFault, Arguments, Task, arguments_from};

@@ -3,12 +3,13 @@
 use crate::comments::{end_of, is_in_sign};
 use crate::name_uses::Expected;
 use crate::names::text_of;
-use crate::operand_lists::{NameKinds, Registers, directive_words, names_taken, slot_words};
+use crate::operand_lists::{NameKinds, Registers, names_taken};
 use crate::typed::{Typed, typed_in};
 use rv_diagnostics::{Context, Message, Part, column_at, put_range};
 use rv_doc::{Position, before_column};
 use rv_files::symbols;
 use rv_list::{LineView, View};
+use rv_manual::{directive_words, entry_named, slot_words};
 use rv_ops::{CSRS, Reg, TABLE, TableRow, reg_name};
 use rv_show::{first_bytes, part};
 use rv_stmt::{
@@ -50,6 +51,17 @@ fn begins_with(name: &str, beginning: &[u8]) -> bool {
     first_bytes(name.as_bytes(), beginning.len()).eq_ignore_ascii_case(beginning)
 }
 
+// Writes what the manual says of the name of an item, if it is no symbol's.
+fn put_documentation(m: &mut Message, name: &str, kind: u64) -> Result<(), AllocError> {
+    if kind != KEYWORD && kind != VARIABLE {
+        return Ok(());
+    }
+    match entry_named(name.as_bytes()) {
+        Some(entry) => m.put_all(&[Part::Key("documentation"), Part::Text(entry.sentence)]),
+        None => Ok(()),
+    }
+}
+
 // Writes a name that may stand in the place of a word, if it begins with it.
 fn put_item<'a>(
     m: &mut Message,
@@ -69,10 +81,9 @@ fn put_item<'a>(
         Part::Number(kind),
         Part::Key("detail"),
         Part::Text(detail),
-        Part::Key("textEdit"),
-        Part::BeginObject,
-        Part::Key("range"),
     ])?;
+    put_documentation(m, name, kind)?;
+    m.put_all(&[Part::Key("textEdit"), Part::BeginObject, Part::Key("range")])?;
     put_range(m, word.line, word.from, word.to)?;
     m.put_all(&[
         Part::Key("newText"),

@@ -1,9 +1,12 @@
-//! What is shown of a line: its address and bytes, the instructions that it stands for, and the value of a name.
+//! What is shown of a line: its address and bytes, the instructions that it stands for, and what a name or a word in it means.
 
+use crate::explained::{entry_at, push_entry};
 use crate::name_at::name_at;
+use crate::names::text_of;
 use crate::symbol_text::push_meaning;
 use rv_diagnostics::{Context, Message, Part};
 use rv_dis::disassemble;
+use rv_doc::before_column;
 use rv_fix::Payload;
 use rv_list::{LineView, View};
 use rv_show::Text;
@@ -94,8 +97,9 @@ fn push_line(text: &mut Text, alloc: Global, line: &LineView<'_>) -> Result<(), 
     }
 }
 
-// Appends what is said at a column of a line: what the name there stands for, if one is there that is defined, and what the line is, if it has bytes.
-fn push_said<V: View>(
+// Appends what is said of the word at a column of a line: what the name there stands for, if one is there that is defined, or what the manual says of the
+// name of an instruction or a directive, or of a register.
+fn push_word<V: View>(
     text: &mut Text,
     context: &Context<'_>,
     view: &V,
@@ -104,17 +108,33 @@ fn push_said<V: View>(
     column: u32,
 ) -> Result<(), AllocError> {
     let alloc = context.alloc;
-    let name = name_at(alloc, context.encoding, view, number, line, column)?;
-    if let Some(name) = name {
-        push_meaning(text, view, &name.meaning)?;
+    if let Some(name) = name_at(alloc, context.encoding, view, number, line, column)? {
+        return push_meaning(text, view, &name.meaning);
     }
+    let at = before_column(context.encoding, text_of(line), column);
+    match entry_at(alloc, view, line, at)? {
+        Some(entry) => push_entry(text, &entry),
+        None => Ok(()),
+    }
+}
+
+// Appends what is said at a column of a line: of the word there, and of the line, if it has bytes.
+fn push_said<V: View>(
+    text: &mut Text,
+    context: &Context<'_>,
+    view: &V,
+    number: u32,
+    line: &LineView<'_>,
+    column: u32,
+) -> Result<(), AllocError> {
+    push_word(text, context, view, number, line, column)?;
     if line.place.size == 0 {
         return Ok(());
     }
     if !text.bytes().is_empty() {
         text.push(b"\n")?;
     }
-    push_line(text, alloc, line)
+    push_line(text, context.alloc, line)
 }
 
 /// Writes what is said at a column of a line, by its number from 1 on, or null.

@@ -15,10 +15,15 @@ pub struct Named<'a> {
     pub span: Span,
 }
 
-// The first name that a place touches: one that ends there counts.
+/// Whether a place is in a span. One that ends there counts.
+pub fn touches(span: Span, at: usize) -> bool {
+    span.from as usize <= at && at <= span.to as usize
+}
+
+// The first name that a place touches.
 fn touched(mut names: &[NameSpan], at: usize) -> Option<NameSpan> {
     'names: while let [name, later @ ..] = names {
-        if name.span.from as usize <= at && at <= name.span.to as usize {
+        if touches(name.span, at) {
             return Some(*name);
         }
         names = later;

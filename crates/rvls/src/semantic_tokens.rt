@@ -148,6 +148,20 @@ fn token_type<V: View>(
     }
 }
 
+/// Whether a token that belongs to no label is the name of an instruction or a directive, or a register, by what stands before it.
+pub fn is_of_language<V: View>(
+    view: &V,
+    body: &Body,
+    typed: &Typed<'_>,
+    token: &Token,
+    text: &[u8],
+) -> bool {
+    matches!(
+        token_type(view, body, typed, token, text),
+        Some(KEYWORD | MACRO | VARIABLE)
+    )
+}
+
 // What a token of a label is.
 fn label_type(kind: TokenKind) -> Option<u64> {
     if kind == TokenKind::Punctuation {

@@ -3,11 +3,11 @@
 use crate::comments::is_in_sign;
 use crate::name_uses::Expected;
 use crate::names::text_of;
-use crate::operand_lists::{Way, ways_to_write};
 use crate::typed::{Typed, typed_in};
 use rv_diagnostics::{Context, Message, Part};
 use rv_doc::before_column;
 use rv_list::LineView;
+use rv_manual::{Way, ways_to_write};
 use rv_show::{Text, first_bytes};
 use rv_stmt::OperandCount;
 use std::alloc::{AllocError, Global};

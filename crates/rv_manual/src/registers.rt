@@ -1,0 +1,351 @@
+//! The registers.
+
+use crate::entry::{ManualRow, Source};
+
+/// The registers by both names: their roles in the calling convention, and who saves them.
+pub const REGISTERS: [ManualRow; 32] = [
+    (
+        &["zero", "x0"],
+        Source::RegisterConvention,
+        "x0, which reads as 0; what is written to it is lost.",
+    ),
+    (
+        &["ra", "x1"],
+        Source::RegisterConvention,
+        "x1, the return address; a caller that needs it saves it.",
+    ),
+    (
+        &["sp", "x2"],
+        Source::RegisterConvention,
+        "x2, the stack pointer, a multiple of 16 at a call; a callee that changes it saves it.",
+    ),
+    (
+        &["gp", "x3"],
+        Source::RegisterConvention,
+        "x3, the global pointer; functions leave it as it is.",
+    ),
+    (
+        &["tp", "x4"],
+        Source::RegisterConvention,
+        "x4, the thread pointer; functions leave it as it is.",
+    ),
+    (
+        &["t0", "x5"],
+        Source::RegisterConvention,
+        "x5, a temporary, or the alternate link register; a caller that needs it saves it.",
+    ),
+    (
+        &["t1", "x6"],
+        Source::RegisterConvention,
+        "x6, a temporary; a caller that needs it saves it.",
+    ),
+    (
+        &["t2", "x7"],
+        Source::RegisterConvention,
+        "x7, a temporary; a caller that needs it saves it.",
+    ),
+    (
+        &["s0", "fp", "x8"],
+        Source::RegisterConvention,
+        "x8, a saved register, or the frame pointer; a callee that changes it saves it.",
+    ),
+    (
+        &["s1", "x9"],
+        Source::RegisterConvention,
+        "x9, a saved register; a callee that changes it saves it.",
+    ),
+    (
+        &["a0", "x10"],
+        Source::RegisterConvention,
+        "x10, the first argument and the first result; a caller that needs it saves it.",
+    ),
+    (
+        &["a1", "x11"],
+        Source::RegisterConvention,
+        "x11, the second argument and the second result; a caller that needs it saves it.",
+    ),
+    (
+        &["a2", "x12"],
+        Source::RegisterConvention,
+        "x12, the third argument; a caller that needs it saves it.",
+    ),
+    (
+        &["a3", "x13"],
+        Source::RegisterConvention,
+        "x13, the fourth argument; a caller that needs it saves it.",
+    ),
+    (
+        &["a4", "x14"],
+        Source::RegisterConvention,
+        "x14, the fifth argument; a caller that needs it saves it.",
+    ),
+    (
+        &["a5", "x15"],
+        Source::RegisterConvention,
+        "x15, the sixth argument; a caller that needs it saves it.",
+    ),
+    (
+        &["a6", "x16"],
+        Source::RegisterConvention,
+        "x16, the seventh argument; a caller that needs it saves it.",
+    ),
+    (
+        &["a7", "x17"],
+        Source::RegisterConvention,
+        "x17, the eighth argument; a caller that needs it saves it.",
+    ),
+    (
+        &["s2", "x18"],
+        Source::RegisterConvention,
+        "x18, a saved register; a callee that changes it saves it.",
+    ),
+    (
+        &["s3", "x19"],
+        Source::RegisterConvention,
+        "x19, a saved register; a callee that changes it saves it.",
+    ),
+    (
+        &["s4", "x20"],
+        Source::RegisterConvention,
+        "x20, a saved register; a callee that changes it saves it.",
+    ),
+    (
+        &["s5", "x21"],
+        Source::RegisterConvention,
+        "x21, a saved register; a callee that changes it saves it.",
+    ),
+    (
+        &["s6", "x22"],
+        Source::RegisterConvention,
+        "x22, a saved register; a callee that changes it saves it.",
+    ),
+    (
+        &["s7", "x23"],
+        Source::RegisterConvention,
+        "x23, a saved register; a callee that changes it saves it.",
+    ),
+    (
+        &["s8", "x24"],
+        Source::RegisterConvention,
+        "x24, a saved register; a callee that changes it saves it.",
+    ),
+    (
+        &["s9", "x25"],
+        Source::RegisterConvention,
+        "x25, a saved register; a callee that changes it saves it.",
+    ),
+    (
+        &["s10", "x26"],
+        Source::RegisterConvention,
+        "x26, a saved register; a callee that changes it saves it.",
+    ),
+    (
+        &["s11", "x27"],
+        Source::RegisterConvention,
+        "x27, a saved register; a callee that changes it saves it.",
+    ),
+    (
+        &["t3", "x28"],
+        Source::RegisterConvention,
+        "x28, a temporary; a caller that needs it saves it.",
+    ),
+    (
+        &["t4", "x29"],
+        Source::RegisterConvention,
+        "x29, a temporary; a caller that needs it saves it.",
+    ),
+    (
+        &["t5", "x30"],
+        Source::RegisterConvention,
+        "x30, a temporary; a caller that needs it saves it.",
+    ),
+    (
+        &["t6", "x31"],
+        Source::RegisterConvention,
+        "x31, a temporary; a caller that needs it saves it.",
+    ),
+];
+
+/// The control and status registers.
+pub const CSRS: [ManualRow; 24] = [
+    (
+        &["cycle"],
+        Source::BaseCounters,
+        "The lower 32 bits of the number of clock cycles since some time; read-only.",
+    ),
+    (
+        &["time"],
+        Source::BaseCounters,
+        "The lower 32 bits of the real time since some time, in ticks; read-only.",
+    ),
+    (
+        &["instret"],
+        Source::BaseCounters,
+        "The lower 32 bits of the number of instructions that this hart has retired; read-only.",
+    ),
+    (
+        &[
+            "hpmcounter3",
+            "hpmcounter4",
+            "hpmcounter5",
+            "hpmcounter6",
+            "hpmcounter7",
+            "hpmcounter8",
+            "hpmcounter9",
+            "hpmcounter10",
+            "hpmcounter11",
+            "hpmcounter12",
+            "hpmcounter13",
+            "hpmcounter14",
+            "hpmcounter15",
+            "hpmcounter16",
+            "hpmcounter17",
+            "hpmcounter18",
+            "hpmcounter19",
+            "hpmcounter20",
+            "hpmcounter21",
+            "hpmcounter22",
+            "hpmcounter23",
+            "hpmcounter24",
+            "hpmcounter25",
+            "hpmcounter26",
+            "hpmcounter27",
+            "hpmcounter28",
+            "hpmcounter29",
+            "hpmcounter30",
+            "hpmcounter31",
+        ],
+        Source::PerformanceCounters,
+        "The lower 32 bits of a counter of platform-specific events; read-only.",
+    ),
+    (
+        &["cycleh"],
+        Source::BaseCounters,
+        "The upper 32 bits of the number of clock cycles since some time; read-only.",
+    ),
+    (
+        &["timeh"],
+        Source::BaseCounters,
+        "The upper 32 bits of the real time since some time, in ticks; read-only.",
+    ),
+    (
+        &["instreth"],
+        Source::BaseCounters,
+        "The upper 32 bits of the number of instructions that this hart has retired; read-only.",
+    ),
+    (
+        &[
+            "hpmcounter3h",
+            "hpmcounter4h",
+            "hpmcounter5h",
+            "hpmcounter6h",
+            "hpmcounter7h",
+            "hpmcounter8h",
+            "hpmcounter9h",
+            "hpmcounter10h",
+            "hpmcounter11h",
+            "hpmcounter12h",
+            "hpmcounter13h",
+            "hpmcounter14h",
+            "hpmcounter15h",
+            "hpmcounter16h",
+            "hpmcounter17h",
+            "hpmcounter18h",
+            "hpmcounter19h",
+            "hpmcounter20h",
+            "hpmcounter21h",
+            "hpmcounter22h",
+            "hpmcounter23h",
+            "hpmcounter24h",
+            "hpmcounter25h",
+            "hpmcounter26h",
+            "hpmcounter27h",
+            "hpmcounter28h",
+            "hpmcounter29h",
+            "hpmcounter30h",
+            "hpmcounter31h",
+        ],
+        Source::PerformanceCounters,
+        "The upper 32 bits of a counter of platform-specific events; read-only.",
+    ),
+    (
+        &["mstatus"],
+        Source::MachineRegisters,
+        "Whether interrupts are enabled, what the last trap saved, and other state of the hart.",
+    ),
+    (
+        &["misa"],
+        Source::MachineRegisters,
+        "The width of the hart's registers, and a bit for each extension that it has.",
+    ),
+    (
+        &["medeleg"],
+        Source::MachineRegisters,
+        "A bit for each exception that is delegated to supervisor mode.",
+    ),
+    (
+        &["mideleg"],
+        Source::MachineRegisters,
+        "A bit for each interrupt that is delegated to supervisor mode.",
+    ),
+    (
+        &["mie"],
+        Source::MachineRegisters,
+        "A bit for each interrupt that is enabled.",
+    ),
+    (
+        &["mtvec"],
+        Source::MachineRegisters,
+        "The address of the trap handler; its lowest two bits say whether interrupts are vectored.",
+    ),
+    (
+        &["mcounteren"],
+        Source::MachineRegisters,
+        "A bit for each counter that the next lower mode may read.",
+    ),
+    (
+        &["mscratch"],
+        Source::MachineRegisters,
+        "A word for the trap handler's own use.",
+    ),
+    (
+        &["mepc"],
+        Source::MachineRegisters,
+        "The address of the instruction that a trap interrupted; mret returns to it.",
+    ),
+    (
+        &["mcause"],
+        Source::MachineRegisters,
+        "The cause of the last trap into machine mode; bit 31 is 1 if it was an interrupt.",
+    ),
+    (
+        &["mtval"],
+        Source::MachineRegisters,
+        "What more is known of the last trap, as the address of a faulting access, or 0.",
+    ),
+    (
+        &["mip"],
+        Source::MachineRegisters,
+        "A bit for each interrupt that is pending.",
+    ),
+    (
+        &["mvendorid"],
+        Source::MachineRegisters,
+        "The number of the vendor, or 0; read-only.",
+    ),
+    (
+        &["marchid"],
+        Source::MachineRegisters,
+        "The number of the microarchitecture, or 0; read-only.",
+    ),
+    (
+        &["mimpid"],
+        Source::MachineRegisters,
+        "The number of the implementation's version, or 0; read-only.",
+    ),
+    (
+        &["mhartid"],
+        Source::MachineRegisters,
+        "The number of this hart; read-only.",
+    ),
+];
