@@ -169,7 +169,7 @@ fn say_failure(rt: &HostRuntime, failure: Failure, file: &str, other: &str) -> i
             )
         }
         Failure::NoLabel => say_missing(rt, "label", other),
-        Failure::NoFault => say_missing(rt, "fault", file),
+        Failure::NoFault => say_missing(rt, "fault, instruction, directive or register", file),
         Failure::Read(reason) => say_about(rt, shown_file(file), "cannot be read", reason),
         Failure::Write(reason) => say_about(rt, Shown(other), "cannot be written", reason),
         Failure::Memory => say(rt, "out of memory"),
