@@ -76,6 +76,8 @@ pub struct Arguments<'a> {
     pub werror: bool,
     /// Whether reports give the lines of the file that was read, whatever marks it has.
     pub has_own_lines: bool,
+    /// Whether the fields of instructions are shown.
+    pub fields: bool,
 }
 
 // A command, if there was memory for it.
@@ -233,8 +235,10 @@ fn disassemble_command<'a>(alloc: Global) -> Made<'a> {
         "V",
         "The address of the first byte [default: 0]",
     );
+    let fields = switch(alloc, "fields", "Show the fields of each instruction below it");
     let command = Command::new(alloc, "dis").about("Disassembles a file of raw bytes");
     let command = with_argument(Ok(command), base);
+    let command = with_argument(command, fields);
     with_argument(command, file_argument(alloc))
 }
 
@@ -399,6 +403,7 @@ fn arguments_of<'a>(
         warnings: matches.get_str("warnings") != Some("off"),
         werror: matches.get_flag("werror"),
         has_own_lines: matches.get_flag("no-line-marks"),
+        fields: matches.get_flag("fields"),
     })
 }
 

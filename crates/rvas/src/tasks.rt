@@ -15,6 +15,7 @@ use crate::sums::Sums;
 use rv_dis::{DisRow, first_row};
 use rv_files::{Counts, ReportError, Wanted, line_marks, report_counts, write_reports};
 use rv_list::write_listing;
+use rv_manual::{encoded_fields, instruction_of};
 use rv_show::{LineMark, Page, Style};
 use rv_store::Store;
 use rv_text::StdSink;
@@ -339,8 +340,20 @@ fn write_row<W: Write>(out: &mut W, row: &DisRow) -> io::Result<()> {
     }
 }
 
-// Writes the rows of some bytes from an address on, one after another.
-fn write_rows<W: Write>(out: &mut W, bytes: &[u8], base: u32) -> io::Result<()> {
+// Writes the fields of the instruction of a row, if it is one, from the highest bit on.
+fn write_fields<W: Write>(out: &mut W, row: &DisRow) -> io::Result<()> {
+    let Some(ins) = instruction_of(row.value, row.len) else {
+        return Ok(());
+    };
+    for field in encoded_fields(&ins).as_slice() {
+        let field = field.row(&ins);
+        writeln!(out, "  {field}")?;
+    }
+    Ok(())
+}
+
+// Writes the rows of some bytes from an address on, one after another, each with the fields of its instruction if that is asked for.
+fn write_rows<W: Write>(out: &mut W, bytes: &[u8], base: u32, fields: bool) -> io::Result<()> {
     let mut rest = bytes;
     let mut address = base;
     for _ in 0..bytes.len() {
@@ -348,6 +361,9 @@ fn write_rows<W: Write>(out: &mut W, bytes: &[u8], base: u32) -> io::Result<()> 
             return out.flush();
         };
         write_row(out, &row)?;
+        if fields {
+            write_fields(out, &row)?;
+        }
         address = address.wrapping_add(u32::from(row.len));
         (_, rest) = rest.split_at(usize::from(row.len));
     }
@@ -360,7 +376,7 @@ fn is_elf(bytes: &[u8]) -> bool {
 }
 
 // Writes the rows of a file of raw bytes.
-fn write_bytes(rt: &HostRuntime, file: &str, base: u32) -> Result<(), Failure> {
+fn write_bytes(rt: &HostRuntime, arguments: &Arguments<'_>, file: &str) -> Result<(), Failure> {
     let bytes = read(rt, file)?;
     if is_elf(bytes.as_slice()) {
         let _ = say_about(
@@ -373,7 +389,7 @@ fn write_bytes(rt: &HostRuntime, file: &str, base: u32) -> Result<(), Failure> {
     let Ok(mut out) = io::BufWriter::new(rt.alloc(), io::writer(rt)) else {
         return Err(Failure::Memory);
     };
-    match write_rows(&mut out, bytes.as_slice(), base) {
+    match write_rows(&mut out, bytes.as_slice(), arguments.base, arguments.fields) {
         Ok(()) => Ok(()),
         Err(error) => unless_closed(error.kind()),
     }
@@ -382,7 +398,7 @@ fn write_bytes(rt: &HostRuntime, file: &str, base: u32) -> Result<(), Failure> {
 /// Disassembles a file of raw bytes, and gives the status.
 pub fn disassemble_file(rt: &HostRuntime, arguments: &Arguments<'_>) -> u8 {
     let file = first_name(arguments);
-    status_of(rt, write_bytes(rt, file, arguments.base), file, "-")
+    status_of(rt, write_bytes(rt, arguments, file), file, "-")
 }
 
 /// Says what a fault means, and gives the status.

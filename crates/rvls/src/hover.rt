@@ -1,16 +1,15 @@
 //! What is shown of a line: its address and bytes, the instructions that it stands for, and what a name or a word in it means.
 
+use crate::encoding::{instruction_rows, push_fields};
 use crate::explained::{entry_at, push_entry};
 use crate::name_at::name_at;
 use crate::names::text_of;
 use crate::symbol_text::push_meaning;
 use rv_diagnostics::{Context, Message, Part};
-use rv_dis::disassemble;
 use rv_doc::before_column;
 use rv_fix::Payload;
 use rv_list::{LineView, View};
 use rv_show::Text;
-use rv_stmt::Body;
 use rv_text::OutputRow;
 use std::alloc::{AllocError, Global};
 
@@ -47,22 +46,19 @@ fn push_place(text: &mut Text, line: &LineView<'_>, most: usize) -> Result<(), A
     push_bytes(text, &line.code.payload, most)
 }
 
-// Appends the instructions that a line stands for.
+// Appends the instructions that a line stands for, each with its fields.
 fn push_instructions(
     text: &mut Text,
     alloc: Global,
     line: &LineView<'_>,
 ) -> Result<(), AllocError> {
-    let mut bytes = Vec::new(alloc);
-    line.code.payload.append_to(&mut bytes)?;
-    let Ok(rows) = disassemble(alloc, bytes.as_slice(), line.place.address) else {
-        return Err(AllocError);
-    };
+    let rows = instruction_rows(alloc, line)?;
     for row in rows.as_slice() {
         text.push(b"\n")?;
         text.push_word(row.address)?;
         text.push(b"  ")?;
         text.push(row.text.as_str().as_bytes())?;
+        push_fields(text, alloc, row)?;
     }
     Ok(())
 }
@@ -78,7 +74,8 @@ pub fn hint_text(alloc: Global, line: &LineView<'_>) -> Result<String, AllocErro
     String::from_utf8_lossy(alloc, text.bytes())
 }
 
-// Appends what is said of a line: its address, its bytes, how many they are, and the instructions, unless it has a fault.
+// Appends what is said of a line: its address, its bytes, how many they are, and, unless it has a fault, the instructions
+// with their fields.
 fn push_line(text: &mut Text, alloc: Global, line: &LineView<'_>) -> Result<(), AllocError> {
     push_place(text, line, HOVER_BYTES)?;
     text.push(b" (")?;
@@ -89,12 +86,7 @@ fn push_line(text: &mut Text, alloc: Global, line: &LineView<'_>) -> Result<(), 
         b" bytes)".as_slice()
     };
     text.push(unit)?;
-    match &line.stmt.body {
-        Body::Instr(_) | Body::Pseudo(_) if line.code.fault.is_none() => {
-            push_instructions(text, alloc, line)
-        }
-        _ => Ok(()),
-    }
+    push_instructions(text, alloc, line)
 }
 
 // Appends what is said of the word at a column of a line: what the name there stands for, if one is there that is defined, or what the manual says of the

@@ -4,6 +4,7 @@ use crate::assembly::Assembly;
 use crate::completion::put_completions;
 use crate::definition::put_definition;
 use crate::document_symbols::put_document_symbols;
+use crate::encoding::put_encoding;
 use crate::folds::put_folds;
 use crate::hints::put_hints;
 use crate::hover::put_hover;
@@ -46,6 +47,8 @@ pub enum Wish<'a> {
     Completion,
     /// How the statement there can be written.
     Signatures,
+    /// Which instructions the line there stands for, with their fields.
+    Encoding,
     /// Something about the name there.
     Name(NameWish<'a>),
 }
@@ -103,6 +106,7 @@ fn wish_in<'a>(method: &str, message: &'a Value) -> Result<Wish<'a>, Refusal> {
         "textDocument/hover" => Ok(Wish::Hover),
         "textDocument/completion" => Ok(Wish::Completion),
         "textDocument/signatureHelp" => Ok(Wish::Signatures),
+        "rvls/encoding" => Ok(Wish::Encoding),
         _ => Ok(Wish::Name(name_wish_in(method, message)?)),
     }
 }
@@ -181,7 +185,7 @@ fn put_no_name(m: &mut Message, wish: NameWish<'_>) -> Result<(), Failure> {
 fn put_no_line(m: &mut Message, wish: Wish<'_>) -> Result<(), Failure> {
     match wish {
         Wish::Hover | Wish::Signatures => m.null()?,
-        Wish::Completion => {
+        Wish::Completion | Wish::Encoding => {
             m.begin_array()?;
             m.end_array()?;
         }
@@ -245,6 +249,7 @@ fn put_about_line<V: View>(
         Wish::Hover => put_hover(m, context, view, number, line, column)?,
         Wish::Completion => put_list(m, context, view, line, position)?,
         Wish::Signatures => put_signature_help(m, context, line, column)?,
+        Wish::Encoding => put_encoding(m, context.alloc, line)?,
         Wish::Name(wish) => {
             let found = name_at(context.alloc, context.encoding, view, number, line, column)?;
             return match found {

@@ -9,6 +9,7 @@ mod comments;
 mod completion;
 mod definition;
 mod document_symbols;
+mod encoding;
 mod explained;
 mod folds;
 mod frame;

@@ -1,0 +1,2 @@
+mod FieldSteps
+mod FormatFacts

@@ -1,0 +1,117 @@
+//! The fields of the instructions that a line stands for.
+
+use rv_code::Ins;
+use rv_diagnostics::{Message, Part};
+use rv_dis::{DisRow, disassemble};
+use rv_list::LineView;
+use rv_manual::{EncodedField, encoded_fields, instruction_of};
+use rv_show::Text;
+use rv_stmt::Body;
+use std::alloc::{AllocError, Global};
+
+/// The rows of the instructions that a line stands for: none if it stands for none or has a fault.
+///
+/// # Errors
+///
+/// `AllocError` if there is no memory for them.
+pub fn instruction_rows(alloc: Global, line: &LineView<'_>) -> Result<Vec<DisRow>, AllocError> {
+    let mut bytes = Vec::new(alloc);
+    match &line.stmt.body {
+        Body::Instr(_) | Body::Pseudo(_) if line.code.fault.is_none() => {
+            line.code.payload.append_to(&mut bytes)?;
+        }
+        _ => {}
+    }
+    let Ok(rows) = disassemble(alloc, bytes.as_slice(), line.place.address) else {
+        return Err(AllocError);
+    };
+    Ok(rows)
+}
+
+/// Appends the fields of the instruction of a row, each on a line.
+///
+/// # Errors
+///
+/// `AllocError` if there is no memory for them.
+pub fn push_fields(text: &mut Text, alloc: Global, row: &DisRow) -> Result<(), AllocError> {
+    let Some(ins) = instruction_of(row.value, row.len) else {
+        return Ok(());
+    };
+    for field in encoded_fields(&ins).as_slice() {
+        let said = format!(in alloc; "\n  {}", field.row(&ins))?;
+        text.push(said.as_bytes())?;
+    }
+    Ok(())
+}
+
+// Writes a field of an instruction.
+fn put_field(
+    m: &mut Message,
+    alloc: Global,
+    ins: &Ins,
+    field: &EncodedField,
+) -> Result<(), AllocError> {
+    let label = format!(in alloc; "{}", field.label())?;
+    let digits = format!(in alloc; "{}", field.digits())?;
+    let meaning = format!(in alloc; "{}", field.meaning(ins))?;
+    m.put_all(&[
+        Part::BeginObject,
+        Part::Key("highest"),
+        Part::Number(u64::from(field.highest())),
+        Part::Key("lowest"),
+        Part::Number(u64::from(field.lowest())),
+        Part::Key("name"),
+        Part::Text(label.as_str()),
+        Part::Key("bits"),
+        Part::Text(digits.as_str()),
+        Part::Key("meaning"),
+        Part::Text(meaning.as_str()),
+        Part::EndObject,
+    ])
+}
+
+// Writes the fields of an instruction, from the highest bit on.
+fn put_fields(m: &mut Message, alloc: Global, ins: &Ins) -> Result<(), AllocError> {
+    for field in encoded_fields(ins).as_slice() {
+        put_field(m, alloc, ins, field)?;
+    }
+    Ok(())
+}
+
+// Writes an instruction of a line: where it lies, its text and its fields.
+fn put_instruction(m: &mut Message, alloc: Global, row: &DisRow) -> Result<(), AllocError> {
+    let Some(ins) = instruction_of(row.value, row.len) else {
+        return Ok(());
+    };
+    m.put_all(&[
+        Part::BeginObject,
+        Part::Key("address"),
+        Part::Number(u64::from(row.address)),
+        Part::Key("size"),
+        Part::Number(u64::from(row.len)),
+        Part::Key("text"),
+        Part::Text(row.text.as_str()),
+        Part::Key("fields"),
+        Part::BeginArray,
+    ])?;
+    put_fields(m, alloc, &ins)?;
+    m.put_all(&[Part::EndArray, Part::EndObject])
+}
+
+/// Writes the instructions that a line stands for, each with its fields.
+///
+/// # Errors
+///
+/// `AllocError` if there is no memory for them.
+pub fn put_encoding(
+    m: &mut Message,
+    alloc: Global,
+    line: &LineView<'_>,
+) -> Result<(), AllocError> {
+    m.begin_array()?;
+    let rows = instruction_rows(alloc, line)?;
+    for row in rows.as_slice() {
+        put_instruction(m, alloc, row)?;
+    }
+    m.end_array()
+}
