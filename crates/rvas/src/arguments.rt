@@ -235,7 +235,11 @@ fn disassemble_command<'a>(alloc: Global) -> Made<'a> {
         "V",
         "The address of the first byte [default: 0]",
     );
-    let fields = switch(alloc, "fields", "Show the fields of each instruction below it");
+    let fields = switch(
+        alloc,
+        "fields",
+        "Show the fields of each instruction below it",
+    );
     let command = Command::new(alloc, "dis").about("Disassembles a file of raw bytes");
     let command = with_argument(Ok(command), base);
     let command = with_argument(command, fields);

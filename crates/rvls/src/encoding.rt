@@ -103,11 +103,7 @@ fn put_instruction(m: &mut Message, alloc: Global, row: &DisRow) -> Result<(), A
 /// # Errors
 ///
 /// `AllocError` if there is no memory for them.
-pub fn put_encoding(
-    m: &mut Message,
-    alloc: Global,
-    line: &LineView<'_>,
-) -> Result<(), AllocError> {
+pub fn put_encoding(m: &mut Message, alloc: Global, line: &LineView<'_>) -> Result<(), AllocError> {
     m.begin_array()?;
     let rows = instruction_rows(alloc, line)?;
     for row in rows.as_slice() {
