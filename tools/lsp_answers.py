@@ -1,9 +1,9 @@
-"""What answers of the language server have to be, by the words of the protocol: edits of a rename, tokens, completions, folds, signatures; and sections."""
+"""What answers of the language server have to be, by the words of the protocol: edits of a rename, tokens, completions, folds, signatures; sections and encodings."""
 import os
 import re
 import subprocess
 
-from lsp_reports import Wrong, assembled, place_of, position_of, reports_of
+from lsp_reports import Wrong, assembled, listed_hints, place_of, position_of, reports_of
 
 # The types of tokens that a name can have, by their numbers: function, enumMember.
 NAME_TYPES = (3, 4)
@@ -148,3 +148,21 @@ def check_sections(rvas, folder, text, base, sections):
     wanted = [{"name": name.decode(), "address": int(address, 16), "size": int(size)} for name, address, size in rows if size != b"0"]
     if sections != wanted:
         raise Wrong(f"the sections are {wanted}, not {sections}")
+
+
+def check_encoding(rvas, folder, text, base, position, instructions, encoding):
+    """The fields of each instruction cover each bit once, from the highest on, and together the bits are the bytes of the line."""
+    code = b""
+    for instruction in instructions:
+        end, bits = 8 * instruction["size"], ""
+        for field in instruction["fields"]:
+            if field["highest"] != end - 1 or len(field["bits"]) != end - field["lowest"] or not field["name"] or not field["meaning"]:
+                raise Wrong(f"{field} below bit {end} of {instruction}")
+            end, bits = field["lowest"], bits + field["bits"]
+        if end or instruction["address"] != instructions[0]["address"] + len(code):
+            raise Wrong(f"{instruction} of {instructions}")
+        code += int(bits, 2).to_bytes(instruction["size"], "little")
+    if instructions:
+        _, address, listed = listed_hints(rvas, folder, text, encoding, base)[position["line"]]
+        if (address, listed) != (f"{instructions[0]['address']:08x}", code.hex(" ")):
+            raise Wrong(f"{code.hex(' ')} of {instructions}, not {listed} at {address}")

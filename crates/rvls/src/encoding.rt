@@ -8,6 +8,7 @@ use rv_manual::{EncodedField, encoded_fields, instruction_of};
 use rv_show::Text;
 use rv_stmt::Body;
 use std::alloc::{AllocError, Global};
+use std::fmt::Display;
 
 /// The rows of the instructions that a line stands for: none if it stands for none or has a fault.
 ///
@@ -44,6 +45,17 @@ pub fn push_fields(text: &mut Text, alloc: Global, row: &DisRow) -> Result<(), A
     Ok(())
 }
 
+// Writes what is shown of a field, under a key.
+fn put_shown<D: Display + Copy>(
+    m: &mut Message,
+    alloc: Global,
+    key: &'static str,
+    shown: D,
+) -> Result<(), AllocError> {
+    let text = format!(in alloc; "{shown}")?;
+    m.put_string(key, text.as_str())
+}
+
 // Writes a field of an instruction.
 fn put_field(
     m: &mut Message,
@@ -51,23 +63,17 @@ fn put_field(
     ins: &Ins,
     field: &EncodedField,
 ) -> Result<(), AllocError> {
-    let label = format!(in alloc; "{}", field.label())?;
-    let digits = format!(in alloc; "{}", field.digits())?;
-    let meaning = format!(in alloc; "{}", field.meaning(ins))?;
     m.put_all(&[
         Part::BeginObject,
         Part::Key("highest"),
         Part::Number(u64::from(field.highest())),
         Part::Key("lowest"),
         Part::Number(u64::from(field.lowest())),
-        Part::Key("name"),
-        Part::Text(label.as_str()),
-        Part::Key("bits"),
-        Part::Text(digits.as_str()),
-        Part::Key("meaning"),
-        Part::Text(meaning.as_str()),
-        Part::EndObject,
-    ])
+    ])?;
+    put_shown(m, alloc, "name", field.label())?;
+    put_shown(m, alloc, "bits", field.digits())?;
+    put_shown(m, alloc, "meaning", field.meaning(ins))?;
+    m.end_object()
 }
 
 // Writes the fields of an instruction, from the highest bit on.
