@@ -1,6 +1,6 @@
 -- The fields of encodings: each stretch of one is a slice of the layout of its shape, or a stretch of fixed bits.
 use denote.Enum.Declared.{tag_of}
-use Rattle.std.specs.Prelude.{ℕ, zero, suc, ◌+◌, ◌-◌, ◌*◌, ◌/◌, ◌%◌, ◌^◌, Bool, nat_eq, nat_le, ◌&&◌, List, [], ◌∷◌, map, slice_index_or, Option, Some, None, if◌then◌else◌}
+use Rattle.std.specs.Prelude.{◌≡◌, ℕ, zero, suc, ◌+◌, ◌-◌, ◌*◌, ◌/◌, ◌%◌, ◌^◌, Bool, nat_eq, nat_le, ◌&&◌, List, [], ◌∷◌, map, slice_index_or, Option, Some, None, if◌then◌else◌}
 use Rattle.rv_ops.specs.declared.op.Op.{Op}
 use Rattle.rv_ops.specs.declared.op.Op.TheVariants.{FenceTso, FenceI, CNop, CMv}
 use Rattle.rv_ops.specs.declared.layouts.Field.{Field}
@@ -10,6 +10,8 @@ use Rattle.rv_ops.specs.contracts.op.Shape.{the_type as shape_type}
 use Rattle.rv_ops.specs.Table.{is_full, shape_of, slices_of}
 use Rattle.rv_code.specs.declared.instruction.Fields.{Fields}
 use Rattle.rv_code.specs.Encoding.{encoding_of}
+use Rattle.rv_code.specs.declared.word.Word.{Word}
+use Rattle.rv_code.specs.declared.word.Word.TheVariants.{Half, Full}
 use Rattle.rv_manual.specs.declared.formats.FieldName.{FieldName}
 use Rattle.rv_manual.specs.declared.formats.FieldName.TheVariants as name
 use Rattle.rv_manual.specs.declared.formats.FieldNames.{FieldNames}
@@ -124,3 +126,8 @@ bits_together (f ∷ fs) = f.bits * 2 ^ f.stretch.word_bit + bits_together fs
 abbrev pub bits_of_stretches : List Stretch → ℕ
 bits_of_stretches [] = 0
 bits_of_stretches (s ∷ ss) = (2 ^ s.width - 1) * 2 ^ s.word_bit + bits_of_stretches ss
+
+-- a number of so many bytes is the word
+abbrev pub IsWord : (number size : ℕ) → Word → Type 0
+IsWord number size (Half n) = (size ≡ 2) × (n ≡ number)
+IsWord number size (Full n) = (size ≡ 4) × (n ≡ number)

@@ -1,5 +1,7 @@
 //! What fields of encodings are called, and what their bits mean.
 
+ghost use Rattle.std.specs.Prelude.{◌≡◌, ◌+◌, ◌<◌, ◌^◌};
+
 use crate::fields::EncodedField;
 use crate::formats::{FieldKind, FieldName};
 use rv_code::Ins;
@@ -51,7 +53,8 @@ pub struct FieldMeaning {
     value: i32,
 }
 
-// The name of an opcode: RISC-V Unprivileged ISA 20191213, table 24.1, and of two bits those of section 16.2.
+// The name of an opcode of seven bits, the last two of which are 11: RISC-V Unprivileged ISA 20191213, table 24.1; or of one of two bits: the figures of
+// sections 16.3 to 16.5.
 fn opcode_name(bits: u32) -> &'static str {
     match bits {
         0x00 => "C0",
@@ -150,20 +153,26 @@ impl Display for FieldRow {
 
 impl EncodedField {
     /// Its lowest bit in the encoding.
-    pub fn lowest(&self) -> u32 {
+    pub fn lowest(&self) -> u32
+        ensures { result ≡ self.now.stretch.word_bit }
+    {
         self.stretch.word_bit
     }
 
     /// Its highest bit in the encoding.
-    pub fn highest(&self) -> u32 {
-        (self.stretch.word_bit.saturating_add(self.stretch.width)).saturating_sub(1)
+    pub fn highest(&self) -> u32
+        ensures { 0 < self.now.stretch.width → self.now.stretch.width + self.now.stretch.word_bit < 2 ^ 32 → result + 1 ≡ self.now.stretch.width + self.now.stretch.word_bit }
+    {
+        let end = self.stretch.word_bit.saturating_add(self.stretch.width);
+        end.saturating_sub(1)
     }
 
     /// What it is called.
     pub fn label(&self) -> FieldLabel {
+        let end = self.stretch.field_bit.saturating_add(self.stretch.width);
         FieldLabel {
             name: self.stretch.name,
-            highest: (self.stretch.field_bit.saturating_add(self.stretch.width)).saturating_sub(1),
+            highest: end.saturating_sub(1),
             lowest: self.stretch.field_bit,
         }
     }

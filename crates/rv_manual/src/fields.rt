@@ -1,13 +1,14 @@
 //! The fields of encoded instructions.
 
-ghost use Rattle.std.specs.Prelude.{◌≡◌, ◌+◌, ◌<◌, ◌≤◌, ◌^◌, ◌++◌, [], IfSome, IsTrue, length, map, slice_index_or};
+ghost use Rattle.std.specs.Prelude.{◌≡◌, ◌+◌, ◌*◌, ◌<◌, ◌≤◌, ◌^◌, ◌++◌, [], IfSome, Some, IsTrue, length, map, slice_index_or};
 ghost use Rattle.std.specs.List.{list_all};
 ghost use Rattle.arrayvec.specs.ArrayVec.{array_vec_len};
 ghost use Rattle.rv_ops.specs.Room.{is_slice};
 ghost use Rattle.rv_ops.specs.Table.{mask_of};
 ghost use Rattle.rv_ops.specs.declared.op.Op.{Op};
-ghost use Rattle.rv_code.specs.Encoding.{encoding_of};
-ghost use Rattle.rv_manual.specs.Fields.{before, bits_of_stretches, bits_together, covers, field_of, fields_of, fixed_below, format_number, format_of, is_stretch, no_format, size_of, slice_below, stretch_below, stretch_of_slice};
+ghost use Rattle.rv_code.specs.declared.instruction.Fields.{Fields};
+ghost use Rattle.rv_code.specs.Encoding.{Fits, encoding_of, word_of};
+ghost use Rattle.rv_manual.specs.Fields.{IsWord, before, bits_of_stretches, bits_together, covers, field_of, fields_of, fixed_below, format_number, format_of, is_stretch, no_format, size_of, slice_below, stretch_below, stretch_of_slice};
 
 use crate::formats::{FORMATS, FieldNames, FormatRow, Stretch};
 use arrayvec::ArrayVec;
@@ -183,11 +184,19 @@ pub fn formats_have_the_fixed_bits()
     ensures { (o : Op) → bits_of_stretches (format_of o).1.now ≡ mask_of o }
 {}
 
-/// The instruction that a word encodes, by its number and how many bytes it has, if it does.
-pub fn instruction_of(word: u32, size: u8) -> Option<Ins> {
+/// The instruction that a number of so many bytes encodes, the lowest byte first in memory, if it does.
+pub fn instruction_of(number: u32, size: u8) -> Option<Ins>
+    // What is found is an instruction, and the number is its encoding.
+    ensures found { IfSome result (λ i. Fits i.0 i.1 × IsWord number size (word_of i.0 i.1)) }
+    // Whatever instruction has the number as its encoding is the one that is found.
+    ensures only { number < 2 ^ (8 * size) → (o : Op) (f : Fields) → Fits o f → IsWord number size (word_of o f) → result ≡ Some (o, f) }
+{
     match size {
-        4 => decode32(word),
-        2 => decode16(u16::try_from(word).ok()?),
+        4 => decode32(number),
+        2 => match u16::try_from(number) {
+            Ok(number) => decode16(number),
+            Err(_) => None,
+        },
         _ => None,
     }
 }
