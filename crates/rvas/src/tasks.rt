@@ -352,7 +352,17 @@ fn write_fields<W: Write>(out: &mut W, row: &DisRow) -> io::Result<()> {
     Ok(())
 }
 
-// Writes the rows of some bytes from an address on, one after another, each with the fields of its instruction if that is asked for.
+// Writes a row, and the fields of its instruction if they are asked for.
+fn write_shown<W: Write>(out: &mut W, row: &DisRow, fields: bool) -> io::Result<()> {
+    write_row(out, row)?;
+    if fields {
+        write_fields(out, row)
+    } else {
+        Ok(())
+    }
+}
+
+// Writes the rows of some bytes from an address on, one after another, each with the fields of its instruction if they are asked for.
 fn write_rows<W: Write>(out: &mut W, bytes: &[u8], base: u32, fields: bool) -> io::Result<()> {
     let mut rest = bytes;
     let mut address = base;
@@ -360,10 +370,7 @@ fn write_rows<W: Write>(out: &mut W, bytes: &[u8], base: u32, fields: bool) -> i
         let Some(row) = first_row(rest, address) else {
             return out.flush();
         };
-        write_row(out, &row)?;
-        if fields {
-            write_fields(out, &row)?;
-        }
+        write_shown(out, &row, fields)?;
         address = address.wrapping_add(u32::from(row.len));
         (_, rest) = rest.split_at(usize::from(row.len));
     }
