@@ -5,3 +5,4 @@ pub mod Edited
 pub mod Examples
 pub mod Rooms
 pub mod ChangedTexts
+pub mod Blocks

@@ -6,12 +6,37 @@ ghost use Rattle.rv_doc.specs.Borders.{IsLineStart, IsLineEnd};
 
 use memchr::{memchr, memrchr};
 
+/// How many bytes are looked at for line breaks at once.
+pub(crate) const BLOCK: usize = 128;
+
+// How many line breaks a block has.
+pub(crate) fn breaks_in(block: &[u8]) -> u8
+    requires { length block.now ≤ BLOCK }
+    ensures value { result ≡ count_by (λ b. b == 10) block.now }
+    ensures within { result ≤ length block.now }
+{
+    let mut breaks = 0;
+    let mut rest = block;
+    'bytes: while let [byte, others @ ..] = rest {
+        breaks += u8::from(*byte == b'\n');
+        rest = others;
+    }
+    breaks
+}
+
 // How many line breaks there are.
 pub(crate) fn line_breaks(text: &[u8]) -> usize
     ensures value { result ≡ count_by (λ b. b == 10) text.now }
     ensures within { result ≤ length text.now }
 {
-    text.iter().filter(|b| **b == b'\n').count()
+    let mut breaks = 0;
+    let mut rest = text;
+    'pieces: while rest.len() > BLOCK {
+        let (block, later) = rest.split_at(BLOCK);
+        breaks += usize::from(breaks_in(block));
+        rest = later;
+    }
+    breaks + usize::from(breaks_in(rest))
 }
 
 /// How many lines a text has: one more than line breaks.
