@@ -6,3 +6,4 @@ pub mod Examples
 pub mod Rooms
 pub mod ChangedTexts
 pub mod Blocks
+pub mod LongLines

@@ -1,6 +1,7 @@
 //! Where the lines of a text begin and end.
 
-ghost use Rattle.std.specs.Prelude.{◌≡◌, ◌+◌, ◌≤◌, length, count_by, ◌==◌};
+ghost use Rattle.std.specs.Prelude.{◌≡◌, ◌+◌, ◌<◌, ◌≤◌, ◌^◌, length, count_by, nat_lt, ◌==◌, false};
+ghost use Rattle.std.specs.List.{list_any};
 ghost use Rattle.rv_doc.specs.Positions.{lines_of};
 ghost use Rattle.rv_doc.specs.Borders.{IsLineStart, IsLineEnd};
 
@@ -72,4 +73,21 @@ pub(crate) fn line_end_behind(text: &[u8], at: usize) -> usize
         None => text.len(),
         Some(k) => at + k,
     }
+}
+
+/// Whether a text may have a line of more bytes than so many. It has none where each line is found to begin not far behind the one before.
+pub fn may_have_longer_line(text: &[u8], most: usize) -> bool
+    requires { most < 2 ^ 63 }
+    ensures { result ≡ false → list_any (λ line. nat_lt most (length line)) (lines_of text.now) ≡ false }
+{
+    let mut rest = text;
+    'starts: while rest.len() > most {
+        let start = line_start_before(rest, most + 1);
+        if start == 0 {
+            return true;
+        }
+        let (_, later) = rest.split_at(start);
+        rest = later;
+    }
+    false
 }
