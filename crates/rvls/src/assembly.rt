@@ -1,6 +1,6 @@
 //! A document with its assembly.
 
-ghost use Rattle.std.specs.Prelude.{◌≡◌, ◌+◌, ◌≤◌, length, map, IfOk};
+ghost use Rattle.std.specs.Prelude.{◌≡◌, ◌+◌, ◌≤◌, ℕ, List, length, map, IfOk};
 ghost use Rattle.std.specs.Option.{option_map};
 ghost use Rattle.serde_json.specs.View.{view};
 ghost use Rattle.rv_doc.specs.Edits.{spliced, text_after_all};
@@ -11,7 +11,7 @@ ghost use Rattle.rvls.specs.PlacedDocuments.{changed_by, placed, text_of};
 
 use crate::base::Base;
 use crate::loading::load;
-use rv_changes::put_lines;
+use rv_changes::change_lines;
 use rv_doc::{Document, Encoding, Lines, Touched, change_all, line_count, touched_lines};
 use rv_store::{MAX_LINES, Store};
 use rv_text::MAX_LINE_LENGTH;
@@ -40,34 +40,54 @@ impl Model for Assembly {
     ghost invariant = { λ a. a.store ≡ assembled a.base a.document };
 }
 
-// How many lines are edited one by one at most: where more change, the text is put into a new store. That takes about 4
-// microseconds a line; an edit that moves the lines after it, up to a tenth of a microsecond for each of them.
+// How many lines are edited one by one in any case, where no more than these change. An edit that moves the lines after it takes up to a tenth
+// of a microsecond for each of them.
 const MOST_EDITS: usize = 128;
+
+// How many such edits, or definitions, there may be where more lines are gone over. A text that is put into a new store takes about 2 microseconds a line,
+// as an edit does that moves no line.
+const MOST_DEAR: usize = 32;
+
+// How many of the edits of some lines may take a look at each line, unless the text is put into a new store at once.
+fn most_dear(touched: &Touched<'_>, added: usize) -> Option<usize> {
+    if touched.count.max(added) <= MOST_EDITS {
+        Some(usize::MAX)
+    } else if touched.count == added {
+        Some(MOST_DEAR)
+    } else {
+        None
+    }
+}
 
 // The store of a document that has changed, by the store of what it was.
 fn store_after(
     alloc: Global,
     base: Base,
     mut store: Store,
-    old: &[u8],
     new: &[u8],
     touched: &Touched<'_>,
 ) -> Result<Store, AllocError>
-    requires store { store ≡ assembled base old.now }
-    requires lines { lines_of new.now ≡ spliced (lines_of old.now) touched.now.first touched.now.count (lines_of touched.now.new.now) }
-    requires within { touched.now.first + touched.now.count ≤ length (lines_of old.now) }
-    ensures { IfOk result (λ s. s ≡ assembled base new.now) }
+    ensures { (old : List ℕ) → store ≡ assembled base old → lines_of new.now ≡ spliced (lines_of old) touched.now.first touched.now.count (lines_of touched.now.new.now) → touched.now.first + touched.now.count ≤ length (lines_of old) → IfOk result (λ s. s ≡ assembled base new.now) }
 {
-    if line_count(old) > MAX_LINES || line_count(new) > MAX_LINES {
+    let added = line_count(touched.new);
+    let Some(most) = most_dear(touched, added) else {
         return load(alloc, base, new);
-    }
-    let count = line_count(touched.new);
-    if touched.count.max(count) > MOST_EDITS {
-        return load(alloc, base, new);
-    }
+    };
     let lines = Lines::new(touched.new);
-    put_lines(&mut store, touched.first, touched.count, lines)?;
-    Ok(store)
+    let all = Lines::new(new);
+    if change_lines(
+        &mut store,
+        touched.first,
+        touched.count,
+        lines,
+        added,
+        all,
+        most,
+    )? {
+        Ok(store)
+    } else {
+        load(alloc, base, new)
+    }
 }
 
 impl Assembly {
@@ -150,7 +170,7 @@ impl Assembly {
         } = self;
         let touched = touched_lines(document.text(), new.text());
         let edited = u32::try_from(touched.first).unwrap_or(u32::MAX);
-        let store = store_after(alloc, base, store, document.text(), new.text(), &touched)?;
+        let store = store_after(alloc, base, store, new.text(), &touched)?;
         Ok(Assembly {
             base,
             document: new,
