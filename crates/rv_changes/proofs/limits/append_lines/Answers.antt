@@ -1,7 +1,7 @@
-use Rattle.std.proofs.Common.{◌≡◌, ◌-◌, ◌<◌, ◌≤◌, ◌++◌, length, map, take, ap, ◌∙◌, sym, arith}
+use Rattle.std.proofs.Common.{◌<◌, length, ap, ◌∙◌, arith}
 use Rattle.rv_program.specs.Text.{Text}
 use Rattle.rv_changes.specs.Assembled.{assembled_line}
-use Rattle.rv_changes.proofs.Kept.{appended_more, appended_all}
+use Rattle.rv_changes.proofs.Kept.{appended_more}
 use Rattle.rv_changes.proofs.limits.append_lines.Goals as goal
 
 pub lines-preserved : goal.lines-preserved

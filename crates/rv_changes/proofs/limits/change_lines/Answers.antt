@@ -1,6 +1,5 @@
-use Rattle.std.proofs.Common.{◌≡◌, ◌+◌, ◌<◌, ◌≤◌, length, map, take, ap, ◌∙◌, sym, arith}
+use Rattle.std.proofs.Common.{◌+◌, ◌<◌, ◌≤◌, length, ap, ◌∙◌, arith}
 use Rattle.std.proofs.lemmas.Grind.{common_steps}
-use Rattle.rv_program.specs.Text.{Text}
 use Rattle.rv_changes.specs.Assembled.{assembled_line}
 use Rattle.rv_changes.proofs.Kept.{all_kept}
 use Rattle.rv_changes.proofs.limits.change_lines.Goals as goal

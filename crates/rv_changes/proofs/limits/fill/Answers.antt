@@ -1,5 +1,4 @@
-use Rattle.std.proofs.Common.{◌≡◌, ◌≤◌, ◌-◌, ◌++◌, length, map, take, drop, ap, ◌∙◌, sym, arith}
-use Rattle.rv_program.specs.Text.{Text}
+use Rattle.std.proofs.Common.{◌≡◌, ◌≤◌, ◌-◌, ◌++◌, length, map, take, drop, ap, ◌∙◌, arith}
 use Rattle.rv_changes.specs.Assembled.{assembled_line}
 use Rattle.rv_changes.proofs.Kept.{filled}
 use Rattle.rv_changes.proofs.limits.fill.Goals as goal
