@@ -72,9 +72,9 @@ fn change_at_limit(
     Ok(done)
 }
 
-/// Makes a text what a document is after `count` of its lines, from number `first` on, counted from 0 on, are replaced by `added` others. `all`
-/// are the lines of the document then, of which a text has as many as it may. A line that stays where it is is not made anew. It gives up,
-/// and says so, where more than `most` of the edits may each take a look at each line: then the text is none that means anything.
+/// Brings a text to what a document is after `count` of its lines, from number `first` on, counted from 0 on, are replaced by `added` others. `all`
+/// are the lines of the document then, of which a text has as many as it may. It gives up, and says so, where more than `most` of the edits may
+/// each take a look at each line: then the text is of no use.
 ///
 /// # Errors
 ///

@@ -142,13 +142,13 @@ pub(crate) fn put_lines(
 {
     let mut at = first;
     let mut left = count;
-    let mut dear = most;
+    let mut costly = most;
     'lines: while let Some(line) = lines.next_line() {
         if put_line(store, at, left, line)? {
-            if dear == 0 {
+            if costly == 0 {
                 return Ok(false);
             }
-            dear -= 1;
+            costly -= 1;
         }
         at += 1;
         left = left.saturating_sub(1);

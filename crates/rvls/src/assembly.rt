@@ -46,16 +46,16 @@ impl Model for Assembly {
 // of a microsecond for each of them.
 const MOST_EDITS: usize = 128;
 
-// How many such edits, or definitions, there may be where more lines are gone over. A text that is put into a new store takes about 2 microseconds a line,
-// as an edit does that moves no line.
-const MOST_DEAR: usize = 32;
+// How many such edits, or definitions, there may be where more lines are gone over. A text that is put into a new store takes about 2 microseconds
+// a line, as an edit does that moves no line.
+const MOST_COSTLY: usize = 32;
 
 // How many of the edits of some lines may take a look at each line, unless the text is put into a new store at once.
-fn most_dear(touched: &Touched<'_>, added: usize) -> Option<usize> {
+fn most_costly(touched: &Touched<'_>, added: usize) -> Option<usize> {
     if touched.count.max(added) <= MOST_EDITS {
         Some(usize::MAX)
-    } else if touched.count == added {
-        Some(MOST_DEAR)
+    } else if touched.count == added && touched.first.saturating_add(added) <= MAX_LINES {
+        Some(MOST_COSTLY)
     } else {
         None
     }
@@ -71,7 +71,7 @@ fn are_steps(count: usize, old: &[u8], new: &[u8]) -> bool {
         return false;
     }
     let touched = touched_lines(old, new);
-    most_dear(&touched, line_count(touched.new)).is_none()
+    most_costly(&touched, line_count(touched.new)).is_none()
 }
 
 // How many lines stand before those in which two texts differ.
@@ -90,7 +90,7 @@ fn store_after(
     ensures { (old : List ℕ) → store ≡ assembled base old → lines_of new.now ≡ spliced (lines_of old) touched.now.first touched.now.count (lines_of touched.now.new.now) → touched.now.first + touched.now.count ≤ length (lines_of old) → IfOk result (λ s. s ≡ assembled base new.now) }
 {
     let added = line_count(touched.new);
-    let Some(most) = most_dear(touched, added) else {
+    let Some(most) = most_costly(touched, added) else {
         return load(alloc, base, new);
     };
     let lines = Lines::new(touched.new);
