@@ -2,7 +2,8 @@
 #![tactic(auto)]
 
 mod assembled;
+mod limits;
 mod syncing;
 
 pub use assembled::assembled_line;
-pub use syncing::put_lines;
+pub use limits::change_lines;

@@ -1,6 +1,6 @@
 //! Lines of a text that are replaced where its document changes.
 
-ghost use Rattle.std.specs.Prelude.{◌≡◌, ◌+◌, ◌-◌, ◌<◌, ◌≤◌, ◌++◌, ◌∷◌, ◌==◌, ℕ, List, [], false, true, length, map, insert, remove, set, OnOk};
+ghost use Rattle.std.specs.Prelude.{◌≡◌, ◌+◌, ◌-◌, ◌<◌, ◌≤◌, ◌++◌, ◌∷◌, ◌==◌, ℕ, List, [], false, true, length, map, insert, remove, set, IfOk, OnOk};
 ghost use Rattle.std.specs.List.{list_any};
 ghost use Rattle.rv_doc.specs.Edits.{spliced};
 ghost use Rattle.rv_changes.specs.Assembled.{assembled_line};
@@ -44,7 +44,7 @@ fn set_line(store: &mut Store, at: usize, line: &[u8]) -> Result<(), AllocError>
 }
 
 // Puts a line in.
-fn insert_line(store: &mut Store, at: usize, line: &[u8]) -> Result<(), AllocError>
+pub(crate) fn insert_line(store: &mut Store, at: usize, line: &[u8]) -> Result<(), AllocError>
     requires place { at ≤ length store.old.lines }
     requires few { length store.old.lines < MAX_LINES }
     requires unbroken { list_any (λ b. b == 10) line.now ≡ false }
@@ -58,7 +58,7 @@ fn insert_line(store: &mut Store, at: usize, line: &[u8]) -> Result<(), AllocErr
 }
 
 // Takes a line out.
-fn delete_line(store: &mut Store, at: usize) -> Result<(), AllocError>
+pub(crate) fn delete_line(store: &mut Store, at: usize) -> Result<(), AllocError>
     requires { at < length store.old.lines }
     ensures { OnOk result (store.new ≡ record { base = store.old.base; lines = remove store.old.lines at }) }
 {
@@ -82,8 +82,34 @@ fn delete_lines(store: &mut Store, first: usize, count: usize) -> Result<(), All
     Ok(())
 }
 
-// Puts a line in the place of the first of so many that are left to replace, or in front of what stands behind them.
-fn put_line(store: &mut Store, at: usize, left: usize, line: &[u8]) -> Result<(), AllocError>
+// Whether an edit of a line may define something else: it has a label, or a directive.
+fn may_define(line: &[u8]) -> bool {
+    line.contains(&b':') || line.contains(&b'.')
+}
+
+// The address of the last line.
+fn last_address(store: &Store) -> Option<u32> {
+    store.address(store.len() as u32)
+}
+
+// Puts a line in the place of another, and says whether that may have taken a look at each line: it defines something, or others move.
+fn replace_line(store: &mut Store, at: usize, line: &[u8]) -> Result<bool, AllocError>
+    requires place { at < length store.old.lines }
+    requires unbroken { list_any (λ b. b == 10) line.now ≡ false }
+    ensures { OnOk result (store.new ≡ record { base = store.old.base; lines = set store.old.lines at (assembled_line line.now) }) }
+{
+    let last = last_address(store);
+    let defined = match store.line(number_at(store, at)) {
+        Some(old) => may_define(old),
+        None => true,
+    };
+    set_line(store, at, line)?;
+    Ok(defined || may_define(line) || last_address(store) != last)
+}
+
+// Puts a line in the place of the first of so many that are left to replace, or in front of what stands behind them, and says whether that
+// may have taken a look at each line.
+fn put_line(store: &mut Store, at: usize, left: usize, line: &[u8]) -> Result<bool, AllocError>
     requires place { at + left ≤ length store.old.lines }
     requires few { length store.old.lines + 1 ≤ MAX_LINES + left }
     requires unbroken { list_any (λ b. b == 10) line.now ≡ false }
@@ -93,36 +119,40 @@ fn put_line(store: &mut Store, at: usize, left: usize, line: &[u8]) -> Result<()
 {
     if left == 0 {
         insert_line(store, at, line)?;
-        return Ok(());
+        return Ok(true);
     }
     if has_line(store, at, assembled_line(line)) {
-        return Ok(());
+        return Ok(false);
     }
-    set_line(store, at, line)?;
-    Ok(())
+    replace_line(store, at, line)
 }
 
-/// Puts lines in the place of some lines of a text.
-///
-/// # Errors
-///
-/// `AllocError` if there is no memory for them.
-pub fn put_lines(
+// Puts lines in the place of some lines of a text. It gives up, and says so, where more than so many of the edits may each take a look at each
+// line.
+pub(crate) fn put_lines(
     store: &mut Store,
     first: usize,
     count: usize,
     mut lines: Lines<'_>,
-) -> Result<(), AllocError>
+    most: usize,
+) -> Result<bool, AllocError>
     requires place { first + count ≤ length store.old.lines }
     requires few { length store.old.lines + length lines ≤ MAX_LINES + count }
-    ensures { OnOk result (store.new ≡ record { base = store.old.base; lines = spliced store.old.lines first count (map assembled_line lines.entry) }) }
+    ensures { IfOk result (λ done. done ≡ true → store.new ≡ record { base = store.old.base; lines = spliced store.old.lines first count (map assembled_line lines.entry) }) }
 {
     let mut at = first;
     let mut left = count;
+    let mut costly = most;
     'lines: while let Some(line) = lines.next_line() {
-        put_line(store, at, left, line)?;
+        if put_line(store, at, left, line)? {
+            if costly == 0 {
+                return Ok(false);
+            }
+            costly -= 1;
+        }
         at += 1;
         left = left.saturating_sub(1);
     }
-    delete_lines(store, at, left)
+    delete_lines(store, at, left)?;
+    Ok(true)
 }

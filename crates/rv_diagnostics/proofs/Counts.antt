@@ -1,6 +1,8 @@
 -- Rows of lines that are counted.
-use Rattle.std.proofs.Common.{◌≡◌, ℕ, suc, ◌+◌, ◌-◌, ◌<◌, nat_lt, Bool, true, false, List, [], ◌∷◌, length, take, drop, min, filter, if◌then◌else◌, refl, ap, sym, ◌∙◌, arith}
+use Rattle.std.proofs.Common.{◌≡◌, ℕ, zero, suc, true≢false, ◌+◌, ◌-◌, ◌<◌, nat_lt, Bool, true, false, List, [], ◌∷◌, length, take, drop, min, filter, if◌then◌else◌, refl, ap, sym, ◌∙◌, arith}
 use Rattle.std.proofs.lemmas.Bool.Decides.{nat_tests}
+use Rattle.std.specs.Prelude.{◌||◌}
+use Rattle.std.specs.List.{list_any}
 use Rattle.rv_list.specs.Joined.{joined}
 use Rattle.rv_list.specs.JoinedLaws.{length_of_more}
 use Rattle.rv_diagnostics.specs.Published.{is_long, long_count}
@@ -69,6 +71,32 @@ before_by at limit k here old new total line later lines false test lt is one wa
 pub long_before : (at limit k here old new total : ℕ) (line : List ℕ) (later lines : List (List ℕ)) → k < limit → lines ≡ line ∷ later → here ≡ long_count (line ∷ []) → old + long_count (take (at - k) (take (limit - k) lines)) ≡ total → new ≡ (if nat_lt k at then old + here else old) → new + long_count (take (at - (k + 1)) (take (limit - (k + 1)) later)) ≡ total
 long_before at limit k here old new total line later lines lt is one was now =
     before_by at limit k here old new total line later lines (nat_lt k at) refl lt is one was now
+
+-- Lines none of which is too long
+
+either : (a b : Bool) → (a || b) ≡ false → (a ≡ false) × (b ≡ false)
+either true b e = absurd (true≢false e)
+either false b e = (refl, e)
+
+none_by : {A : Type 0} (p : A → Bool) (x : A) (xs : List A) → p x ≡ false → filter p xs ≡ [] → filter p (x ∷ xs) ≡ []
+none_by p x xs e none = rw e none
+
+none_filtered : {A : Type 0} (p : A → Bool) (n : ℕ) (xs : List A) → list_any p xs ≡ false → filter p (take n xs) ≡ []
+none_filtered p zero xs none = refl
+none_filtered p (suc n) [] none = refl
+none_filtered p (suc n) (x ∷ xs) none = let both = either (p x) (list_any p xs) none in none_by p x (take n xs) both.0 (none_filtered p n xs both.1)
+
+any_taken : {A : Type 0} (p : A → Bool) (n : ℕ) (xs : List A) → list_any p xs ≡ false → list_any p (take n xs) ≡ false
+any_taken p zero xs none = refl
+any_taken p (suc n) [] none = refl
+any_taken p (suc n) (x ∷ xs) none = let both = either (p x) (list_any p xs) none in rw (both.0, any_taken p n xs both.1) refl
+
+-- none of the first lines is counted where no line is too long
+pub none_long : (n : ℕ) (lines : List (List ℕ)) → list_any is_long lines ≡ false → 0 ≡ long_count (take n lines)
+none_long n lines none = sym (ap length (none_filtered is_long n lines none))
+
+pub none_long_before : (at n : ℕ) (lines : List (List ℕ)) → list_any is_long lines ≡ false → 0 ≡ long_count (take at (take n lines))
+none_long_before at n lines none = none_long at (take n lines) (any_taken is_long n lines none)
 
 -- Lines past the limit
 

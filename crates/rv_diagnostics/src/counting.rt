@@ -6,7 +6,7 @@ ghost use Rattle.rv_report.specs.Warnings.{warning_of};
 ghost use Rattle.rv_diagnostics.specs.Published.{are_lines, fault_count, faults_before, is_long, long_count, optional, warning_count, warnings_before};
 
 use arrayvec::ArrayVec;
-use rv_doc::{Lines, line_count};
+use rv_doc::{Lines, line_count, may_have_longer_line};
 use rv_list::{LineSource, MAX_FAULTS, TestedLines, View, find_faults};
 use rv_program::MAX_LINES;
 use rv_report::find_warning;
@@ -107,8 +107,8 @@ fn long_on(line: &[u8]) -> usize
     if is_long(line) { 1 } else { 0 }
 }
 
-/// How many lines of a document are too long, and how many of them stand before a line, by its number from 0 on.
-pub fn count_long_lines(mut lines: Lines<'_>, at: u32) -> Counted
+// The same of some lines, each of which is looked at.
+fn count_long_lines(mut lines: Lines<'_>, at: u32) -> Counted
     ensures all { result.all ≡ long_count (take MAX_LINES lines.entry) }
     ensures before { result.before ≡ long_count (take at (take MAX_LINES lines.entry)) }
     ensures few { result.all ≤ 16384 }
@@ -121,6 +121,19 @@ pub fn count_long_lines(mut lines: Lines<'_>, at: u32) -> Counted
         counted.add(long_on(line), k < at);
     }
     counted
+}
+
+/// How many of the lines that are assembled of a document are too long, and how many of them stand before a line, by its number from 0 on. Most
+/// documents have none, which is found out without going over each line.
+pub fn count_long(document: &[u8], at: u32) -> Counted
+    ensures all { result.all ≡ long_count (take MAX_LINES (lines_of document.now)) }
+    ensures before { result.before ≡ long_count (take at (take MAX_LINES (lines_of document.now))) }
+    ensures few { result.all ≤ 16384 }
+{
+    if !may_have_longer_line(document, MAX_LINE_LENGTH) {
+        return Counted::new();
+    }
+    count_long_lines(Lines::new(document), at)
 }
 
 // Whether what stands behind some line breaks is a line or more. Behind the last one it is a line if it is not empty.

@@ -11,7 +11,7 @@ ghost use Rattle.rv_diagnostics.specs.Json.{frame};
 ghost use Rattle.rv_diagnostics.specs.Published.{all_diagnostics, all_warnings, diagnostics_of, fault_count, fault_diagnostics, gravest_left_out, left_out, line_diagnostic, long_count, long_lines, publication, publication_head, searched_names, shown_in, some_long, some_warnings, too_many, version_member, warning_count, warning_diagnostics};
 ghost use Rattle.rv_doc.specs.Windows.{passed};
 
-use crate::counting::{count_faults, count_long_lines, count_warnings, has_many_lines, is_long};
+use crate::counting::{count_faults, count_long, count_warnings, has_many_lines, is_long};
 use crate::diagnostics::{
     Context, ERROR, WARNING, put_faults, put_long_line, put_many_lines, put_more, put_warning,
 };
@@ -300,7 +300,7 @@ fn put_long_list(
     ensures count { IfOk result (λ all. all ≡ long_count (take MAX_LINES (lines_of document.now))) }
     ensures few { IfOk result (λ all. all ≤ 16384) }
 {
-    let counted = count_long_lines(Lines::new(document), at);
+    let counted = count_long(document, at);
     let mut window = Window::nearest(MOST, counted.before, counted.all);
     put_some_long(m, &mut window, context, document, counted.all)?;
     Ok(counted.all)

@@ -5,3 +5,5 @@ pub mod Edited
 pub mod Examples
 pub mod Rooms
 pub mod ChangedTexts
+pub mod Blocks
+pub mod LongLines

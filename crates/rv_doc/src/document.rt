@@ -1,6 +1,6 @@
 //! Documents.
 
-ghost use Rattle.std.specs.Prelude.{◌≡◌, ◌≤◌, length, IfOk, OnOk, OnErr};
+ghost use Rattle.std.specs.Prelude.{◌≡◌, ◌+◌, ◌≤◌, length, IfOk, OnOk, OnErr};
 ghost use Rattle.rv_doc.specs.Edits.{replaced, text_after, text_after_range};
 
 use crate::encoding::Encoding;
@@ -39,6 +39,16 @@ impl Document {
         self.text.as_slice()
     }
 
+    // Puts other bytes from a place on, in the place of as many.
+    fn overwrite(&mut self, from: usize, with: &[u8])
+        requires { from + length with.now ≤ length self.old }
+        ensures { self.new ≡ replaced self.old from (from + length with.now) with.now }
+    {
+        let (_, rest) = self.text.as_mut_slice().split_at_mut(from);
+        let (place, _) = rest.split_at_mut(with.len());
+        place.copy_from_slice(with);
+    }
+
     // Puts other bytes between two places.
     fn replace(&mut self, from: usize, to: usize, with: &[u8]) -> Result<(), AllocError>
         requires order { from ≤ to }
@@ -46,6 +56,10 @@ impl Document {
         ensures ok { OnOk result (self.new ≡ replaced self.old from to with.now) }
         ensures err { OnErr result (self.new ≡ self.old) }
     {
+        if with.len() == to - from {
+            self.overwrite(from, with);
+            return Ok(());
+        }
         let (front, rest) = self.text.as_slice().split_at(from);
         let (_, back) = rest.split_at(to - from);
         let mut text = Vec::new(self.alloc);

@@ -18,7 +18,7 @@ pub use changing::change_all;
 pub use document::Document;
 pub use encoding::{Encoding, before_column, column_of};
 pub use laws::{columns_have_room, lines_begin_there};
-pub use lines::line_count;
+pub use lines::{line_count, may_have_longer_line};
 pub use lines_left::Lines;
 pub use position::{Position, Range, offset_of, without_return};
 pub use reading::{Change, change_in, number_at, position_at, position_of, text_at};

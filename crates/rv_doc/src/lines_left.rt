@@ -1,6 +1,6 @@
 //! The lines of a document, one after another.
 
-ghost use Rattle.std.specs.Prelude.{◌≡◌, ◌∷◌, [], ◌==◌, false, IfSome, IfNone, length, ◌≤◌};
+ghost use Rattle.std.specs.Prelude.{◌≡◌, ◌∷◌, [], ◌==◌, false, IfSome, IfNone, length, drop, ◌≤◌};
 ghost use Rattle.std.specs.List.{list_any};
 ghost use Rattle.rv_doc.specs.Positions.{lines_of};
 
@@ -36,6 +36,7 @@ impl<'a> Lines<'a> {
         ensures line { IfSome result (λ line. self.old ≡ line.now ∷ self.new) }
         ensures unbroken { IfSome result (λ line. list_any (λ b. b == 10) line.now ≡ false) }
         ensures end { IfNone result (self.old ≡ []) }
+        ensures ended { IfNone result (self.new ≡ []) }
     {
         let rest = self.rest?;
         let Some(at) = memchr(b'\n', rest) else {
@@ -46,5 +47,19 @@ impl<'a> Lines<'a> {
         let (_, later) = ended.split_at(1);
         self.rest = Some(later);
         Some(line)
+    }
+
+    /// Those behind so many of them.
+    pub fn behind(mut self, count: usize) -> Lines<'a>
+        ensures { result ≡ drop count self.entry }
+    {
+        let mut left = count;
+        'lines: while left > 0 {
+            let Some(_) = self.next_line() else {
+                return self;
+            };
+            left -= 1;
+        }
+        self
     }
 }

@@ -1,9 +1,10 @@
 //! Positions in a text.
 
 ghost use Rattle.std.specs.Prelude.{◌≡◌, ◌+◌, ◌≤◌, length, drop};
-ghost use Rattle.rv_doc.specs.Positions.{lines_of, line_at, line_start, without_return, offset};
+ghost use Rattle.rv_doc.specs.Positions.{lines_of, line_at, line_start, size_of_lines, without_return, offset};
 
 use crate::encoding::{Encoding, before_column};
+use crate::lines::{BLOCK, breaks_in};
 use memchr::memchr;
 
 /// A line and a column, both from 0 on.
@@ -20,15 +21,36 @@ pub struct Range {
     pub end: Position,
 }
 
+// How many bytes the blocks have that end before a line begins, and how many line breaks are behind them before that line.
+fn blocks_before(text: &[u8], line: u32) -> (usize, u32)
+    ensures within { result.0 ≤ length text.now }
+    ensures size { size_of_lines (lines_of text.now) line ≡ result.0 + size_of_lines (lines_of (drop result.0 text.now)) result.1 }
+    ensures line { line_at (lines_of text.now) line ≡ line_at (lines_of (drop result.0 text.now)) result.1 }
+{
+    let mut rest = text;
+    let mut left = line;
+    let mut at = 0;
+    'pieces: while rest.len() > BLOCK {
+        let (block, later) = rest.split_at(BLOCK);
+        let breaks = u32::from(breaks_in(block));
+        if left <= breaks {
+            return (at, left);
+        }
+        rest = later;
+        at += BLOCK;
+        left -= breaks;
+    }
+    (at, left)
+}
+
 // Where a line begins, or the end of the text where there are fewer lines.
 fn line_start(text: &[u8], line: u32) -> usize
     ensures value { result ≡ line_start text.now line }
     ensures within { result ≤ length text.now }
     ensures line { line_at (lines_of (drop result text.now)) 0 ≡ line_at (lines_of text.now) line }
 {
-    let mut rest = text;
-    let mut left = line;
-    let mut at = 0;
+    let (mut at, mut left) = blocks_before(text, line);
+    let (_, mut rest) = text.split_at(at);
     'lines: while left > 0 {
         let Some(k) = memchr(b'\n', rest) else {
             return text.len();

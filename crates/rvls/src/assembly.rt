@@ -1,6 +1,6 @@
 //! A document with its assembly.
 
-ghost use Rattle.std.specs.Prelude.{◌≡◌, ◌+◌, ◌≤◌, length, map, IfOk};
+ghost use Rattle.std.specs.Prelude.{◌≡◌, ◌+◌, ◌≤◌, ℕ, List, length, map, Some, IfOk};
 ghost use Rattle.std.specs.Option.{option_map};
 ghost use Rattle.serde_json.specs.View.{view};
 ghost use Rattle.rv_doc.specs.Edits.{spliced, text_after_all};
@@ -11,8 +11,10 @@ ghost use Rattle.rvls.specs.PlacedDocuments.{changed_by, placed, text_of};
 
 use crate::base::Base;
 use crate::loading::load;
-use rv_changes::put_lines;
-use rv_doc::{Document, Encoding, Lines, Touched, change_all, line_count, touched_lines};
+use rv_changes::change_lines;
+use rv_doc::{
+    Document, Encoding, Lines, Touched, change_all, change_in, line_count, touched_lines,
+};
 use rv_store::{MAX_LINES, Store};
 use rv_text::MAX_LINE_LENGTH;
 use serde_json::Value;
@@ -40,34 +42,72 @@ impl Model for Assembly {
     ghost invariant = { λ a. a.store ≡ assembled a.base a.document };
 }
 
-// How many lines are edited one by one at most: where more change, the text is put into a new store. That takes about 4
-// microseconds a line; an edit that moves the lines after it, up to a tenth of a microsecond for each of them.
+// How many lines are edited one by one in any case, where no more than these change. An edit that moves the lines after it takes up to a tenth
+// of a microsecond for each of them.
 const MOST_EDITS: usize = 128;
+
+// How many such edits, or definitions, there may be where more lines are gone over. A text that is put into a new store takes about 2 microseconds
+// a line, as an edit does that moves no line.
+const MOST_COSTLY: usize = 32;
+
+// How many of the edits of some lines may take a look at each line, unless the text is put into a new store at once.
+fn most_costly(touched: &Touched<'_>, added: usize) -> Option<usize> {
+    if touched.count.max(added) <= MOST_EDITS {
+        Some(usize::MAX)
+    } else if touched.count == added && touched.first.saturating_add(added) <= MAX_LINES {
+        Some(MOST_COSTLY)
+    } else {
+        None
+    }
+}
+
+// How many changes of a message are made in the store one after another at most. Each takes as long as one that is sent alone.
+const MOST_STEPS: usize = 16;
+
+// Whether some changes of a message are made in the store one after another, since the lines from the first one that they touch to the last are
+// many and others are put in or taken out.
+fn are_steps(count: usize, old: &[u8], new: &[u8]) -> bool {
+    if !(2..=MOST_STEPS).contains(&count) {
+        return false;
+    }
+    let touched = touched_lines(old, new);
+    most_costly(&touched, line_count(touched.new)).is_none()
+}
+
+// How many lines stand before those in which two texts differ.
+fn first_touched(old: &[u8], new: &[u8]) -> u32 {
+    u32::try_from(touched_lines(old, new).first).unwrap_or(u32::MAX)
+}
 
 // The store of a document that has changed, by the store of what it was.
 fn store_after(
     alloc: Global,
     base: Base,
     mut store: Store,
-    old: &[u8],
     new: &[u8],
     touched: &Touched<'_>,
 ) -> Result<Store, AllocError>
-    requires store { store ≡ assembled base old.now }
-    requires lines { lines_of new.now ≡ spliced (lines_of old.now) touched.now.first touched.now.count (lines_of touched.now.new.now) }
-    requires within { touched.now.first + touched.now.count ≤ length (lines_of old.now) }
-    ensures { IfOk result (λ s. s ≡ assembled base new.now) }
+    ensures { (old : List ℕ) → store ≡ assembled base old → lines_of new.now ≡ spliced (lines_of old) touched.now.first touched.now.count (lines_of touched.now.new.now) → touched.now.first + touched.now.count ≤ length (lines_of old) → IfOk result (λ s. s ≡ assembled base new.now) }
 {
-    if line_count(old) > MAX_LINES || line_count(new) > MAX_LINES {
+    let added = line_count(touched.new);
+    let Some(most) = most_costly(touched, added) else {
         return load(alloc, base, new);
-    }
-    let count = line_count(touched.new);
-    if touched.count.max(count) > MOST_EDITS {
-        return load(alloc, base, new);
-    }
+    };
     let lines = Lines::new(touched.new);
-    put_lines(&mut store, touched.first, touched.count, lines)?;
-    Ok(store)
+    let all = Lines::new(new);
+    if change_lines(
+        &mut store,
+        touched.first,
+        touched.count,
+        lines,
+        added,
+        all,
+        most,
+    )? {
+        Ok(store)
+    } else {
+        load(alloc, base, new)
+    }
 }
 
 impl Assembly {
@@ -150,13 +190,66 @@ impl Assembly {
         } = self;
         let touched = touched_lines(document.text(), new.text());
         let edited = u32::try_from(touched.first).unwrap_or(u32::MAX);
-        let store = store_after(alloc, base, store, document.text(), new.text(), &touched)?;
+        let store = store_after(alloc, base, store, new.text(), &touched)?;
         Ok(Assembly {
             base,
             document: new,
             store,
             edited,
         })
+    }
+
+    // The document with the place of its last edit.
+    fn edited_at(self, edited: u32) -> Assembly
+        ensures { result ≡ self }
+    {
+        Assembly {
+            base: self.base,
+            document: self.document,
+            store: self.store,
+            edited,
+        }
+    }
+
+    // The document after the changes of a message, each of which is well formed and is made in the store before the next one.
+    fn changed_in_steps(
+        self,
+        alloc: Global,
+        encoding: Encoding,
+        mut changes: &[Value],
+    ) -> Result<Assembly, AllocError>
+        ensures { (new : List ℕ) → Some new ≡ option_map (text_after_all encoding self.document) (changes_of (map view changes.entry.now)) → IfOk result (λ a. a ≡ placed self.base new) }
+    {
+        let mut made = self;
+        'changes: while let Some((json, later)) = changes.split_first() {
+            let Some(change) = change_in(json) else {
+                return Ok(made);
+            };
+            let mut document = Document::new(alloc, made.text())?;
+            document.change(encoding, change.range, change.text.as_bytes())?;
+            made = made.with_text(alloc, document)?;
+            changes = later;
+        }
+        Ok(made)
+    }
+
+    // The document with the text that the changes of a message make.
+    fn with_changes(
+        self,
+        alloc: Global,
+        encoding: Encoding,
+        changes: &[Value],
+        new: Document,
+    ) -> Result<Assembly, AllocError>
+        requires { Some new ≡ option_map (text_after_all encoding self.document) (changes_of (map view changes.now)) }
+        ensures { IfOk result (λ a. a ≡ placed self.base new) }
+    {
+        if !are_steps(changes.len(), self.text(), new.text()) {
+            return self.with_text(alloc, new);
+        }
+        let edited = first_touched(self.text(), new.text());
+        let made = self.changed_in_steps(alloc, encoding, changes)?;
+        Ok(made.edited_at(edited))
     }
 
     /// The document after the changes of a message, if each is well formed, and else the document as it is.
@@ -173,7 +266,7 @@ impl Assembly {
         ensures { IfOk result (λ new. new ≡ changed_by (option_map (text_after_all encoding self.document) (changes_of (map view changes.now))) self) }
     {
         match self.text_after(alloc, encoding, changes)? {
-            Some(document) => Ok(Ok(self.with_text(alloc, document)?)),
+            Some(document) => Ok(Ok(self.with_changes(alloc, encoding, changes, document)?)),
             None => Ok(Err(self)),
         }
     }

@@ -26,8 +26,8 @@ lines-preserved c =
     let sizes = ap (λ n. size_of_lines (lines_of rest) n) more ∙ size_found rest k n c.in-Some.ensures in
     let lines = ap (λ n. line_at (lines_of rest) n) more ∙ line_found rest k n c.in-Some.ensures in
     record {
-      value = rw c.split_at.ensures.back (let room : length (drop (k + 1) rest) ≡ length rest - (k + 1) = grind (arith, common_steps) in omega (arith, c.lines.invariant.value, sizes, room, c.in-Some.ensures.0.high));
-      line = c.lines.invariant.line ∙ lines ∙ rw c.split_at.ensures.back refl;
-      rest = grind (arith, common_steps, c.lines.invariant.rest, c.split_at.ensures.back);
-      within = grind (arith, common_steps, c.lines.invariant.within, c.split_at.ensures.back);
+      value = rw c.split_at-in-lines.ensures.back (let room : length (drop (k + 1) rest) ≡ length rest - (k + 1) = grind (arith, common_steps) in omega (arith, c.lines.invariant.value, sizes, room, c.in-Some.ensures.0.high));
+      line = c.lines.invariant.line ∙ lines ∙ rw c.split_at-in-lines.ensures.back refl;
+      rest = grind (arith, common_steps, c.lines.invariant.rest, c.split_at-in-lines.ensures.back);
+      within = grind (arith, common_steps, c.lines.invariant.within, c.split_at-in-lines.ensures.back);
     }
