@@ -1,0 +1,93 @@
+//! A line with a fault, for which changes are looked for.
+
+ghost use Rattle.std.specs.Prelude.{◌≤◌, length};
+
+use rv_show::part;
+use rv_text::{Fault, Span, Token, TokenKind};
+use std::alloc::{AllocError, Global};
+
+/// A line with a fault, and the tokens of its statement, which stand after the labels.
+#[derive(Clone, Copy)]
+pub struct BrokenLine<'a> {
+    pub alloc: Global,
+    pub text: &'a [u8],
+    pub fault: Fault,
+    pub tokens: &'a [Token],
+}
+
+/// An empty place of a line.
+pub fn place(at: u32) -> Span {
+    Span { from: at, to: at }
+}
+
+impl<'a> BrokenLine<'a> {
+    /// The bytes at the fault.
+    pub fn wrong(&self) -> &'a [u8] {
+        part(self.text, self.fault.span)
+    }
+
+    /// Where the name of the statement stands; an empty place at the beginning of a line without one.
+    pub fn name_span(&self) -> Span {
+        match self.tokens {
+            [name, ..] if name.kind == TokenKind::Identifier => name.span,
+            _ => place(0),
+        }
+    }
+
+    /// The name of the statement.
+    pub fn name(&self) -> &'a [u8] {
+        part(self.text, self.name_span())
+    }
+
+    /// Where the whole statement stands.
+    pub fn statement_span(&self) -> Span {
+        let name = self.name_span();
+        match self.tokens {
+            [.., last] => Span {
+                from: name.from,
+                to: last.span.to,
+            },
+            [] => name,
+        }
+    }
+
+    // Where the operands of some tokens stand, of which the first one begins here.
+    fn push_operands(&self, spans: &mut Vec<Span>, mut left: &[Token]) -> Result<(), AllocError> {
+        let mut depth = 0u32;
+        let mut operand: Option<Span> = None;
+        'tokens: while let [token, later @ ..] = left {
+            match part(self.text, token.span) {
+                b"(" => depth = depth.saturating_add(1),
+                b")" => depth = depth.saturating_sub(1),
+                _ => {}
+            }
+            if depth == 0 && part(self.text, token.span) == b",".as_slice() {
+                spans.push(operand.unwrap_or(place(token.span.from)))?;
+                operand = None;
+            } else {
+                operand = Some(Span {
+                    from: operand.unwrap_or(token.span).from,
+                    to: token.span.to,
+                });
+            }
+            left = later;
+        }
+        if let Some(span) = operand {
+            spans.push(span)?;
+        }
+        Ok(())
+    }
+
+    /// The operands of the statement, as they are written.
+    ///
+    /// # Errors
+    ///
+    /// `AllocError` if there is no memory for them.
+    pub fn operand_spans(&self) -> Result<Vec<Span>, AllocError> {
+        let mut spans = Vec::new(self.alloc);
+        if let [_, operands @ ..] = self.tokens {
+            self.push_operands(&mut spans, operands)?;
+        }
+        Ok(spans)
+    }
+}
