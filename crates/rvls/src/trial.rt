@@ -1,6 +1,9 @@
 //! Changes of a line that are tried before they are offered.
 
-ghost use Rattle.std.specs.Prelude.{◌≡◌, ◌≤◌, length};
+ghost use Rattle.std.specs.Prelude.{◌≡◌, ◌≤◌, List, Some, true, length, map, IfOk, OnOk};
+ghost use Rattle.std.specs.List.{list_all};
+ghost use Rattle.rv_list.specs.Shown.{shown_line};
+ghost use Rattle.rvls.specs.QuickFixes.{changed, count_after, is_right_line, may_stay, takes_away, with_line};
 
 use crate::broken_line::BrokenLine;
 use crate::fixes::Fix;
@@ -15,21 +18,26 @@ use rv_text::{Fault, MAX_LINE_LENGTH, Tally};
 use std::alloc::AllocError;
 
 // Whether a fault of a line may stay: it begins at a place or after it, and is not that a register stands there.
-fn may_stay(text: &[u8], fault: Fault, at: usize) -> bool {
+fn may_stay(text: &[u8], fault: Fault, at: usize) -> bool
+    ensures { result ≡ may_stay text.now at fault }
+{
     fault.span.from as usize >= at && reg_by_name(part(text, fault.span)).is_none()
 }
 
 // Whether all of some faults of a line may stay.
-fn may_all_stay(text: &[u8], faults: &[Option<Fault>], at: usize) -> bool {
+fn may_all_stay(text: &[u8], faults: &[Option<Fault>], at: usize) -> bool
+    ensures { (found : List Fault) → faults.now ≡ map Some found → result ≡ list_all (may_stay text.now at) found }
+{
     faults.iter().all(|fault| match fault {
         Some(fault) => may_stay(text, *fault, at),
         None => true,
     })
 }
 
-// Whether a line has no fault of its statement, and no other one that begins before a place.
-fn is_fixed<V: View>(view: &V, number: u32, line: &LineView<'_>, at: usize) -> bool
+// Whether a line has no fault of its statement, and no other one that may not stay.
+fn is_right_line<V: View>(view: &V, number: u32, line: &LineView<'_>, at: usize) -> bool
     requires { length line.now.stmt.now.labels ≤ 1000 }
+    ensures { result ≡ is_right_line (V.shown view.now) number at (shown_line line.now) }
 {
     if let Body::Faulty(_) = line.stmt.body {
         return false;
@@ -40,7 +48,9 @@ fn is_fixed<V: View>(view: &V, number: u32, line: &LineView<'_>, at: usize) -> b
 }
 
 // A line after a change.
-fn changed(line: &BrokenLine<'_>, fix: &Fix) -> Result<Text, AllocError> {
+fn changed(line: &BrokenLine<'_>, fix: &Fix) -> Result<Text, AllocError>
+    ensures { IfOk result (λ text. text ≡ changed line.now.text.now fix.now.span fix.now.text) }
+{
     let mut text = Text::new(line.alloc);
     text.push(first_bytes(line.text, fix.span.from as usize))?;
     text.push(fix.text.bytes())?;
@@ -49,7 +59,9 @@ fn changed(line: &BrokenLine<'_>, fix: &Fix) -> Result<Text, AllocError> {
 }
 
 // How many bytes of a line stand after a change and the fault that it is for.
-fn count_after(line: &BrokenLine<'_>, fix: &Fix) -> usize {
+fn count_after(line: &BrokenLine<'_>, fix: &Fix) -> usize
+    ensures { result ≡ count_after line.now.text.now line.now.fault.span fix.now.span }
+{
     let to = line.fault.span.to.max(fix.span.to) as usize;
     line.text.len().saturating_sub(to)
 }
@@ -59,7 +71,9 @@ fn count_after(line: &BrokenLine<'_>, fix: &Fix) -> usize {
 /// # Errors
 ///
 /// `AllocError` if there is no memory for it.
-pub fn put_line(store: &mut Store, number: u32, line: &[u8]) -> Result<(), AllocError> {
+pub fn put_line(store: &mut Store, number: u32, line: &[u8]) -> Result<(), AllocError>
+    ensures { OnOk result (store.new ≡ with_line store.old number line.now) }
+{
     match store.replace(number, line, &mut Tally::new()) {
         Ok(_) => Ok(()),
         Err(_) => Err(AllocError),
@@ -77,7 +91,9 @@ pub fn takes_fault_away(
     number: u32,
     line: &BrokenLine<'_>,
     fix: &Fix,
-) -> Result<bool, AllocError> {
+) -> Result<bool, AllocError>
+    ensures { IfOk result (λ gone. gone ≡ true → takes_away store.old number line.now.text.now line.now.fault.span fix.now.span fix.now.text ≡ true) }
+{
     let text = changed(line, fix)?;
     let length = text.bytes().len();
     if length > MAX_LINE_LENGTH {
@@ -89,5 +105,5 @@ pub fn takes_fault_away(
         return Ok(false);
     };
     let at = length.saturating_sub(count_after(line, fix));
-    Ok(is_fixed(&view, number, &lines.line(), at))
+    Ok(is_right_line(&view, number, &lines.line(), at))
 }
