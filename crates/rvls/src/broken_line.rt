@@ -1,7 +1,5 @@
 //! A line with a fault, for which changes are looked for.
 
-ghost use Rattle.std.specs.Prelude.{◌≤◌, length};
-
 use rv_show::part;
 use rv_text::{Fault, Span, Token, TokenKind};
 use std::alloc::{AllocError, Global};
@@ -51,17 +49,24 @@ impl<'a> BrokenLine<'a> {
         }
     }
 
-    // Where the operands of some tokens stand, of which the first one begins here.
-    fn push_operands(&self, spans: &mut Vec<Span>, mut left: &[Token]) -> Result<(), AllocError> {
+    /// The operands of the statement, as they are written.
+    ///
+    /// # Errors
+    ///
+    /// `AllocError` if there is no memory for them.
+    pub fn operand_spans(&self) -> Result<Vec<Span>, AllocError> {
+        let mut spans = Vec::new(self.alloc);
+        let (_, mut left) = self.tokens.split_at(self.tokens.len().min(1));
         let mut depth = 0u32;
         let mut operand: Option<Span> = None;
         'tokens: while let [token, later @ ..] = left {
-            match part(self.text, token.span) {
+            let text = part(self.text, token.span);
+            match text {
                 b"(" => depth = depth.saturating_add(1),
                 b")" => depth = depth.saturating_sub(1),
                 _ => {}
             }
-            if depth == 0 && part(self.text, token.span) == b",".as_slice() {
+            if depth == 0 && text == b",".as_slice() {
                 spans.push(operand.unwrap_or(place(token.span.from)))?;
                 operand = None;
             } else {
@@ -74,19 +79,6 @@ impl<'a> BrokenLine<'a> {
         }
         if let Some(span) = operand {
             spans.push(span)?;
-        }
-        Ok(())
-    }
-
-    /// The operands of the statement, as they are written.
-    ///
-    /// # Errors
-    ///
-    /// `AllocError` if there is no memory for them.
-    pub fn operand_spans(&self) -> Result<Vec<Span>, AllocError> {
-        let mut spans = Vec::new(self.alloc);
-        if let [_, operands @ ..] = self.tokens {
-            self.push_operands(&mut spans, operands)?;
         }
         Ok(spans)
     }

@@ -65,17 +65,4 @@ impl Fixes {
         }
         Ok(())
     }
-
-    /// Adds a change for each of some texts in the place of a part of the line.
-    ///
-    /// # Errors
-    ///
-    /// `AllocError` if there is no memory for them.
-    pub fn add_each(&mut self, span: Span, mut texts: &[&[u8]]) -> Result<(), AllocError> {
-        'texts: while let [text, later @ ..] = texts {
-            self.add(span, &[*text])?;
-            texts = later;
-        }
-        Ok(())
-    }
 }

@@ -1,7 +1,5 @@
 //! Numbers, strings and characters that may be meant in a line with a lexical fault.
 
-ghost use Rattle.std.specs.Prelude.{◌≤◌, length};
-
 use crate::broken_line::{BrokenLine, place};
 use crate::fixes::Fixes;
 use rv_doc::without_return;

@@ -1,7 +1,5 @@
 //! Names that may be meant in a line with a fault.
 
-ghost use Rattle.std.specs.Prelude.{◌≤◌, length};
-
 use crate::broken_line::{BrokenLine, place};
 use crate::fixes::Fixes;
 use rv_list::{DefinitionPlace, View};
@@ -60,7 +58,12 @@ fn add_near(
     names: &[&[u8]],
 ) -> Result<(), AllocError> {
     let near = suggestions(line.alloc, word, names)?;
-    fixes.add_each(span, first_few(near.as_slice()))
+    let mut left = first_few(near.as_slice());
+    'names: while let [name, later @ ..] = left {
+        fixes.add(span, &[*name])?;
+        left = later;
+    }
+    Ok(())
 }
 
 // Adds the name of the instruction of RV32 that does with 32 bits what one of RV64 does.

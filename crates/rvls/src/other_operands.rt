@@ -1,7 +1,5 @@
 //! Operands that may be meant in a line with a fault.
 
-ghost use Rattle.std.specs.Prelude.{◌≤◌, length};
-
 use crate::broken_line::{BrokenLine, place};
 use crate::fixes::Fixes;
 use memchr::memchr;
@@ -96,20 +94,16 @@ fn add_without_hash(fixes: &mut Fixes, line: &BrokenLine<'_>) -> Result<(), Allo
     fixes.add(Span { from, to }, &[])
 }
 
-// Whether a directive takes strings.
-fn takes_strings(name: &[u8]) -> bool {
-    is_name(".ascii", name) || is_name(".asciz", name) || is_name(".string", name)
-}
-
 // Adds an operand by how it is written: without what other assemblers write into it.
 fn add_by_form(fixes: &mut Fixes, line: &BrokenLine<'_>) -> Result<(), AllocError> {
     let span = line.fault.span;
     match line.wrong() {
         b"0" => fixes.add(span, &[b"zero"]),
         [b'[', register @ .., b']'] => fixes.add(span, &[b"0(", register, b")"]),
-        [first, ..] if first.is_ascii_digit() && takes_strings(line.name()) => {
-            fixes.add(line.name_span(), &[b".byte"])
-        }
+        [first, ..] if first.is_ascii_digit() => match line.name() {
+            b".ascii" | b".asciz" | b".string" => fixes.add(line.name_span(), &[b".byte"]),
+            _ => Ok(()),
+        },
         wrong => match memchr(b'@', wrong) {
             Some(at) => fixes.add(span, &[first_bytes(wrong, at)]),
             None => Ok(()),

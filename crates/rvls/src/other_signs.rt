@@ -5,7 +5,7 @@ ghost use Rattle.std.specs.Prelude.{◌≤◌, length};
 use crate::broken_line::{BrokenLine, place};
 use crate::fixes::Fixes;
 use rv_show::{Text, bytes_from, part};
-use rv_stmt::{Body, StmtError, read_line};
+use rv_stmt::{Body, read_line};
 use rv_text::{Span, Tally, Token, TokenKind};
 use std::alloc::AllocError;
 
@@ -56,16 +56,6 @@ pub fn add_commas(fixes: &mut Fixes, line: &BrokenLine<'_>) -> Result<(), AllocE
     }
 }
 
-// Whether some bytes are a statement.
-fn is_statement(line: &BrokenLine<'_>, bytes: &[u8]) -> Result<bool, AllocError>
-    requires { length bytes.now ≤ 1000 }
-{
-    match read_line(line.alloc, bytes, &mut Tally::new()) {
-        Ok(stmt) => Ok(!matches!(stmt.body, Body::Faulty(_) | Body::Empty)),
-        Err(StmtError::Memory) => Err(AllocError),
-    }
-}
-
 // Adds the comment that a text from a place on may be meant as, unless another statement stands there.
 fn add_after_semicolon(
     fixes: &mut Fixes,
@@ -78,10 +68,13 @@ fn add_after_semicolon(
     if comment.trim_ascii().is_empty() {
         return fixes.add(sign, &[]);
     }
-    if is_statement(line, comment)? {
-        return Ok(());
+    let Ok(stmt) = read_line(line.alloc, comment, &mut Tally::new()) else {
+        return Err(AllocError);
+    };
+    match stmt.body {
+        Body::Faulty(_) | Body::Empty => fixes.add(sign, &[b"#"]),
+        _ => Ok(()),
     }
-    fixes.add(sign, &[b"#"])
 }
 
 // Adds the comment that a text from `/*` on is, if it ends in that line.

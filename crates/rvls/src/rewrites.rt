@@ -1,7 +1,5 @@
 //! Statements that are written in another way.
 
-ghost use Rattle.std.specs.Prelude.{◌≤◌, length};
-
 use crate::broken_line::BrokenLine;
 use crate::fixes::Fixes;
 use rv_ops::is_name;
@@ -91,11 +89,6 @@ fn add_by_rows(
     Ok(())
 }
 
-// Whether a fault says that an operand of another kind is wanted.
-fn takes_other_operand(number: FaultNumber) -> bool {
-    matches!(number, FaultNumber::BadRegister | FaultNumber::BadOperand)
-}
-
 /// Adds other ways to write a statement with its operands: two of them the other way round, and `li` for `addi` with the register zero.
 ///
 /// # Errors
@@ -104,9 +97,10 @@ fn takes_other_operand(number: FaultNumber) -> bool {
 pub fn add_rewrites(fixes: &mut Fixes, line: &BrokenLine<'_>) -> Result<(), AllocError> {
     let spans = line.operand_spans()?;
     let span = line.statement_span();
+    let number = line.fault.number;
     add_by_rows(fixes, line, spans.as_slice(), &REWRITES)?;
     match spans.as_slice() {
-        [first, second] if takes_other_operand(line.fault.number) => {
+        [first, second] if matches!(number, FaultNumber::BadRegister | FaultNumber::BadOperand) => {
             let (first, second) = (part(line.text, *first), part(line.text, *second));
             fixes.add(span, &[line.name(), b" ", second, b", ", first])
         }
