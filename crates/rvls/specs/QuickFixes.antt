@@ -22,8 +22,9 @@ abbrev pub count_after : (line : List ℕ) → (fault span : Span) → ℕ
 count_after line fault span = length line - max fault.to span.to
 
 -- A fault of a line may stay: it begins at a place or after it, and is not that a register stands there.
-abbrev pub may_stay : (line : List ℕ) → (at : ℕ) → Fault → Bool
-may_stay line at fault = nat_le at fault.span.from && not (is_some (register_named (part line fault.span)))
+abbrev pub may_stay : (line : List ℕ) → (at : ℕ) → Option Fault → Bool
+may_stay line at None = true
+may_stay line at (Some fault) = nat_le at fault.span.from && not (is_some (register_named (part line fault.span)))
 
 abbrev pub is_statement : Body → Bool
 is_statement (body.Faulty fault) = false
@@ -32,7 +33,7 @@ is_statement other = true
 -- a line of a text, by its number, has no fault of its statement, and no other one that may not stay
 abbrev pub is_right_line : Shown → (number at : ℕ) → ShownLine → Bool
 is_right_line shown number at line =
-    is_statement line.stmt.body && list_all (may_stay line.text at) (faults_of shown number line)
+    is_statement line.stmt.body && list_all (λ fault. may_stay line.text at (Some fault)) (faults_of shown number line)
 
 -- the text with another line of this number, from 1 on
 abbrev pub with_line : Text → (number : ℕ) → (line : List ℕ) → Text

@@ -60,7 +60,9 @@ fn add_near(
     let near = suggestions(line.alloc, word, names)?;
     let mut left = first_few(near.as_slice());
     'names: while let [name, later @ ..] = left {
-        fixes.add(span, &[*name])?;
+        let mut text = Text::new(line.alloc);
+        text.push(name)?;
+        fixes.add_text(span, text)?;
         left = later;
     }
     Ok(())

@@ -35,16 +35,22 @@ fn add_modifier<V: View>(
     line: &BrokenLine<'_>,
     view: &V,
 ) -> Result<(), AllocError> {
-    let modifier = modifier_of(line.name());
+    let span = line.fault.span;
     let wrong = line.wrong();
+    let mut text = Text::new(line.alloc);
+    text.push(modifier_of(line.name()))?;
     if let [b'%', ..] = wrong {
         let size = memchr(b'(', wrong).unwrap_or(wrong.len());
-        return fixes.add(line.fault.span, &[modifier, bytes_from(wrong, size)]);
+        text.push(bytes_from(wrong, size))?;
+        return fixes.add_text(span, text);
     }
     match view.definition(wrong) {
         DefinitionPlace::Label(_, _) => {
-            fixes.add(line.fault.span, &[modifier, b"(", wrong, b")"])?;
-            fixes.add(place(line.fault.span.to), &[b", t0"])
+            text.push(b"(")?;
+            text.push(wrong)?;
+            text.push(b")")?;
+            fixes.add_text(span, text)?;
+            fixes.add(place(span.to), &[b", t0"])
         }
         _ => Ok(()),
     }

@@ -1,6 +1,6 @@
 //! Changes of a line that are tried before they are offered.
 
-ghost use Rattle.std.specs.Prelude.{◌≡◌, ◌≤◌, List, Some, true, length, map, IfOk, OnOk};
+ghost use Rattle.std.specs.Prelude.{◌≡◌, ◌≤◌, true, length, IfOk, OnOk};
 ghost use Rattle.std.specs.List.{list_all};
 ghost use Rattle.rv_list.specs.Shown.{shown_line};
 ghost use Rattle.rvls.specs.QuickFixes.{changed, count_after, is_right_line, may_stay, takes_away, with_line};
@@ -18,23 +18,26 @@ use rv_text::{Fault, MAX_LINE_LENGTH, Tally};
 use std::alloc::AllocError;
 
 // Whether a fault of a line may stay: it begins at a place or after it, and is not that a register stands there.
-fn may_stay(text: &[u8], fault: Fault, at: usize) -> bool
+fn may_stay(text: &[u8], fault: Option<Fault>, at: usize) -> bool
     ensures { result ≡ may_stay text.now at fault }
 {
-    fault.span.from as usize >= at && reg_by_name(part(text, fault.span)).is_none()
+    match fault {
+        Some(fault) => {
+            fault.span.from as usize >= at && reg_by_name(part(text, fault.span)).is_none()
+        }
+        None => true,
+    }
 }
 
 // Whether all of some faults of a line may stay.
 fn may_all_stay(text: &[u8], faults: &[Option<Fault>], at: usize) -> bool
-    ensures { (found : List Fault) → faults.now ≡ map Some found → result ≡ list_all (may_stay text.now at) found }
+    ensures { result ≡ list_all (may_stay text.now at) faults.now }
 {
-    faults.iter().all(|fault| match fault {
-        Some(fault) => may_stay(text, *fault, at),
-        None => true,
-    })
+    faults.iter().all(|fault| may_stay(text, *fault, at))
 }
 
 // Whether a line has no fault of its statement, and no other one that may not stay.
+#[tactic(auto, using(crate::proofs::QuickFixes::all_some))]
 fn is_right_line<V: View>(view: &V, number: u32, line: &LineView<'_>, at: usize) -> bool
     requires { length line.now.stmt.now.labels ≤ 1000 }
     ensures { result ≡ is_right_line (V.shown view.now) number at (shown_line line.now) }

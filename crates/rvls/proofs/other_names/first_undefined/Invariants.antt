@@ -2,4 +2,4 @@ use Rattle.std.proofs.Common.{length}
 use Rattle.rvls.proofs.other_names.first_undefined.Given as goal
 
 abbrev pub decreases-tokens : goal.decreases-tokens
-decreases-tokens l = length l.left
+decreases-tokens g l = length l.left
