@@ -10,8 +10,6 @@ use Rattle.rv_stmt.specs.declared.statement.Body.TheVariants as body
 use Rattle.rv_list.specs.Faults.{faults_of}
 use Rattle.rv_list.specs.Shown.{Shown, ShownLine}
 use Rattle.rv_show.specs.Parts.{part}
-use Rattle.rv_program.specs.Text.{Text}
-use Rattle.rv_store.specs.Shown.{shown_of}
 
 -- a line with a text in the place of one of its spans
 abbrev pub changed : (line : List ℕ) → Span → (text : List ℕ) → List ℕ
@@ -34,13 +32,3 @@ is_statement other = true
 abbrev pub is_right_line : Shown → (number at : ℕ) → ShownLine → Bool
 is_right_line shown number at line =
     is_statement line.stmt.body && list_all (λ fault. may_stay line.text at (Some fault)) (faults_of shown number line)
-
--- the text with another line of this number, from 1 on
-abbrev pub with_line : Text → (number : ℕ) → (line : List ℕ) → Text
-with_line text number line = record { base = text.base; lines = set text.lines (number - 1) line }
-
--- A change of a line of a text takes a fault away: afterwards it is a line of these, up to the bytes that stand after the change and the fault.
-abbrev pub takes_away : Text → (number : ℕ) → (line : List ℕ) → (fault span : Span) → (new : List ℕ) → Bool
-takes_away text number line fault span new =
-    is_right_line (shown_of (with_line text number (changed line span new))) number (length (changed line span new) - count_after line fault span)
-    ((shown_of (with_line text number (changed line span new))).line number)

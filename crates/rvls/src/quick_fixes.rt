@@ -74,9 +74,9 @@ fn put_fix(
         Part::BeginObject,
         Part::Key("changes"),
         Part::BeginObject,
-        Part::Key(context.uri),
-        Part::BeginArray,
     ])?;
+    m.key(context.uri)?;
+    m.begin_array()?;
     put_edit(
         m,
         context.encoding,

