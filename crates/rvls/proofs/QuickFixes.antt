@@ -1,5 +1,5 @@
 -- Lines that are right after a change.
-use Rattle.std.proofs.Common.{◌≡◌, ℕ, Bool, true, List, map, ap, sym, ◌∙◌}
+use Rattle.std.proofs.Common.{◌≡◌, ℕ, true, List, map, ap, sym, ◌∙◌}
 use Rattle.std.specs.Prelude.{Option, Some, ◌&&◌}
 use Rattle.std.specs.List.{list_all}
 use Rattle.std.proofs.lemmas.List.Folds.{list_all-map}

@@ -1,5 +1,5 @@
 -- Which changes of a line take its fault away. (docs/EDITORS.md, Quick fixes)
-use Rattle.std.specs.Prelude.{ℕ, ◌-◌, ◌&&◌, nat_le, max, not, Bool, true, false, Option, None, Some, List, ◌++◌, length, take, drop, set}
+use Rattle.std.specs.Prelude.{ℕ, ◌-◌, ◌&&◌, nat_le, max, not, Bool, true, false, Option, None, Some, List, ◌++◌, length, take, drop}
 use Rattle.std.specs.List.{list_all}
 use Rattle.std.specs.Option.{is_some}
 use Rattle.rv_text.specs.declared.faults.Fault.{Fault}
