@@ -47,6 +47,7 @@ local function attached(client, buffer)
     gd = vim.lsp.buf.definition,
     gr = vim.lsp.buf.references,
     grn = vim.lsp.buf.rename,
+    gra = vim.lsp.buf.code_action,
     gl = vim.diagnostic.open_float,
   }
   for keys, action in pairs(actions) do

@@ -23,12 +23,13 @@ vim.api.nvim_create_autocmd('LspAttach', {
     end
     -- Faults are shown while one types, and not only after Escape.
     vim.diagnostic.config({ update_in_insert = true }, vim.lsp.diagnostic.get_namespace(client.id))
-    -- Neovim 0.11 has K for hover by itself, grr for references, and grn for another name. gl lists all faults of a line.
+    -- Neovim 0.11 has K for hover by itself, grr for references, grn for another name, and gra for quick fixes. gl lists all faults of a line.
     local actions = {
       K = vim.lsp.buf.hover,
       gd = vim.lsp.buf.definition,
       gr = vim.lsp.buf.references,
       grn = vim.lsp.buf.rename,
+      gra = vim.lsp.buf.code_action,
       gl = vim.diagnostic.open_float,
     }
     for keys, action in pairs(actions) do

@@ -1,9 +1,13 @@
-"""What answers of the language server have to be, by the words of the protocol: edits of a rename, tokens, completions, folds, signatures; sections and encodings."""
+"""What answers of the language server have to be, by the words of the protocol: edits of a rename and of quick fixes, tokens, completions, folds, signatures; sections and encodings."""
 import os
 import re
 import subprocess
 
 from lsp_reports import Wrong, assembled, listed_hints, place_of, position_of, reports_of
+
+# The faults of statements, and those that no quick fix is for. (docs/LANGUAGE.md)
+OF_STATEMENTS = {"BadByte", "BadNumber", "BadString", "NoStatement", "UnknownName", "OperandCount", "BadRegister", "RegisterRange", "BadOperand", "TooDeep"}
+OF_PLACES = {"Duplicate", "OddAddress", "InBss"}
 
 # The types of tokens that a name can have, by their numbers: function, enumMember.
 NAME_TYPES = (3, 4)
@@ -49,6 +53,23 @@ def check_rename(rvas, folder, text, name, result, encoding):
     before, now = ([(item[0], item[3], item[4]) for item in items] for items in found)
     if before != now:
         raise Wrong(f"{now}, not {before}, of {after!r}")
+
+
+def check_fixes(rvas, folder, text, name, line, actions, encoding, base):
+    """Each quick fix is an edit of the line, after which that has no fault of its statement, and not the fault that the fix is for."""
+    after = []
+    for action in actions:
+        if action["kind"] != "quickfix" or list(action["edit"]["changes"]) != [name]:
+            raise Wrong(f"no quick fix of this document: {action}")
+        (edit,) = action["edit"]["changes"][name]
+        if edit["range"]["start"]["line"] != line:
+            raise Wrong(f"a quick fix of another line: {action}")
+        after.append(text_after_edits(text, [edit], encoding))
+    (before, *found), _ = reports_of(rvas, folder, [text, *after], encoding, base)
+    for action, items in zip(actions, found):
+        left = [item for item in items if item[0] == line and item[3] == 1 and (item[4] in OF_STATEMENTS or item in before and item[4] not in OF_PLACES)]
+        if left:
+            raise Wrong(f"{action} leaves {left} in {text!r}")
 
 
 def check_prepared(text, result, encoding):

@@ -28,3 +28,22 @@ advice OperandGiven name = advice_in (map (λ row. (map (λ n. n.now) row.0.now,
 advice RegisterLetter name = advice_in (map (λ row. (map (λ n. n.now) row.0.now, row.1.now)) REGISTER_LETTERS) name
 advice RangeExceeded name = advice_in (map (λ row. (map (λ n. n.now) row.0.now, row.1.now)) RANGE_EXCEEDED) name
 advice Character name = advice_in (map (λ row. (map (λ n. n.now) row.0.now, row.1.now)) CHARACTERS) name
+
+-- what can take the place of a name: the words of the first row that has it
+abbrev pub replacements_in : List (List (List ℕ) × List (List ℕ)) → List ℕ → List (List ℕ)
+replacements_in [] name = []
+replacements_in (row ∷ rows) name = if is_any row.0 name then row.1 else replacements_in rows name
+
+-- what can take the place of a name that a message advises about
+unfoldable pub replacements : Topic → List ℕ → List (List ℕ)
+replacements OtherDirective name = replacements_in (map (λ row. (map (λ n. n.now) row.0.now, map (λ n. n.now) row.2.now)) OTHER_DIRECTIVES) name
+replacements OtherMnemonic name = replacements_in (map (λ row. (map (λ n. n.now) row.0.now, map (λ n. n.now) row.2.now)) OTHER_MNEMONICS) name
+replacements RegisterGiven name = replacements_in (map (λ row. (map (λ n. n.now) row.0.now, map (λ n. n.now) row.2.now)) REGISTER_GIVEN) name
+replacements LabelGiven name = replacements_in (map (λ row. (map (λ n. n.now) row.0.now, map (λ n. n.now) row.2.now)) LABEL_GIVEN) name
+replacements NumberGiven name = replacements_in (map (λ row. (map (λ n. n.now) row.0.now, map (λ n. n.now) row.2.now)) NUMBER_GIVEN) name
+replacements RangeExceeded name = replacements_in (map (λ row. (map (λ n. n.now) row.0.now, map (λ n. n.now) row.2.now)) RANGE_EXCEEDED) name
+replacements Character name = replacements_in (map (λ row. (map (λ n. n.now) row.0.now, map (λ n. n.now) row.2.now)) CHARACTERS) name
+replacements Rv64Mnemonic name = []
+replacements NameGiven name = []
+replacements OperandGiven name = []
+replacements RegisterLetter name = []

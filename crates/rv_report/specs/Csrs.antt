@@ -31,9 +31,17 @@ number_or None text = text
 unfoldable pub near_csrs : List ℕ → List ℕ
 near_csrs name = did_you_mean 0 (suggestions (map to_ascii_lowercase name) csr_list)
 
+abbrev pub first_number : Option ℕ → Option ℕ → Option ℕ
+first_number (Some n) other = Some n
+first_number None other = other
+
+-- the number of the register or the counter of this name that the standard has
+abbrev pub number_of_csr : List ℕ → Option ℕ
+number_of_csr name = first_number (standard_number name) (counter_number name)
+
 -- its number where the standard has a register of the name, or else the names near it
 abbrev pub csr_help : List ℕ → List ℕ
-csr_help name = number_or (standard_number name) (number_or (counter_number name) (near_csrs name))
+csr_help name = number_or (number_of_csr name) (near_csrs name)
 
 unfoldable pub unknown_csr : List ℕ → List ℕ
 unknown_csr name = about (codes "no control and status register is called ") name [] ++ csr_help name

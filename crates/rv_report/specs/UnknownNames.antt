@@ -1,5 +1,5 @@
 -- The messages of names that no instruction and no directive has.
-use Rattle.std.specs.Prelude.{ℕ, Bool, true, false, ◌==◌, ◌&&◌, bytes_eq, is_some, List, ◌∷◌, ◌++◌, length, map, Result, Ok, Err, codes, if◌then◌else◌}
+use Rattle.std.specs.Prelude.{ℕ, Bool, true, false, not, ◌==◌, ◌&&◌, bytes_eq, is_some, List, ◌∷◌, ◌++◌, length, map, Result, Ok, Err, codes, if◌then◌else◌}
 use Rattle.std.specs.Char.{to_ascii_lowercase}
 use Rattle.rv_text.specs.declared.faults.FaultNumber.{FaultNumber}
 use Rattle.rv_text.specs.declared.faults.FaultNumber.TheVariants.{UnknownName}
@@ -60,6 +60,10 @@ other_mnemonic name =
 -- what is written in the place of a name that other assemblers have
 unfoldable pub replacement : List ℕ → List ℕ
 replacement name = if is_directive_name name then advice OtherDirective name else other_mnemonic name
+
+-- the name is one that other assemblers or processors have
+abbrev pub is_of_others : List ℕ → Bool
+is_of_others name = not (length (replacement name) == 0)
 
 abbrev pub help_with_name : (name next : List ℕ) → (behind : ℕ) → List ℕ
 help_with_name name next behind =

@@ -1,7 +1,7 @@
 //! What messages advise, by the names that they are about.
 
 ghost use Rattle.std.specs.Prelude.{◌≡◌, map};
-ghost use Rattle.rv_report.specs.Advice.{advice, advice_in, is_any};
+ghost use Rattle.rv_report.specs.Advice.{advice, advice_in, is_any, replacements, replacements_in};
 
 use crate::advice_tables::{
     AdviceRow, CHARACTERS, LABEL_GIVEN, NAME_GIVEN, NUMBER_GIVEN, OPERAND_GIVEN, OTHER_DIRECTIVES,
@@ -79,5 +79,36 @@ pub fn advice(topic: Topic, name: &[u8]) -> &'static [u8]
         Topic::RegisterLetter => advice_in(&REGISTER_LETTERS, name),
         Topic::RangeExceeded => advice_in(&RANGE_EXCEEDED, name),
         Topic::Character => advice_in(&CHARACTERS, name),
+    }
+}
+
+// What can take the place of a name: the words of the first row that has it, and none for other names.
+fn replacements_in(mut rows: &'static [AdviceRow], name: &[u8]) -> &'static [&'static str]
+    ensures { map (λ n. n.now) result.now ≡ replacements_in (map (λ row. (map (λ n. n.now) row.0.now, map (λ n. n.now) row.2.now)) rows.entry.now) name.now }
+{
+    'rows: while let [row, rest @ ..] = rows {
+        if is_any(row.0, name) {
+            return row.2;
+        }
+        rows = rest;
+    }
+    &[]
+}
+
+/// What can take the place of a name that a message advises about, where nothing else in the line changes: where it is empty, that of the
+/// whole statement. A statement with it means what was meant if it has no fault.
+#[tactic(auto, unfolding(crate::specs::Advice::replacements))]
+pub fn replacements(topic: Topic, name: &[u8]) -> &'static [&'static str]
+    ensures { map (λ n. n.now) result.now ≡ replacements topic name.now }
+{
+    match topic {
+        Topic::OtherDirective => replacements_in(&OTHER_DIRECTIVES, name),
+        Topic::OtherMnemonic => replacements_in(&OTHER_MNEMONICS, name),
+        Topic::RegisterGiven => replacements_in(&REGISTER_GIVEN, name),
+        Topic::LabelGiven => replacements_in(&LABEL_GIVEN, name),
+        Topic::NumberGiven => replacements_in(&NUMBER_GIVEN, name),
+        Topic::RangeExceeded => replacements_in(&RANGE_EXCEEDED, name),
+        Topic::Character => replacements_in(&CHARACTERS, name),
+        Topic::Rv64Mnemonic | Topic::NameGiven | Topic::OperandGiven | Topic::RegisterLetter => &[],
     }
 }

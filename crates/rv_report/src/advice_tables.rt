@@ -1,49 +1,66 @@
 //! The tables of what messages advise.
 
-/// The columns: some names, and what the end of a message about them says.
-pub type AdviceRow = (&'static [&'static str], &'static str);
+/// The columns: some names, what the end of a message about them says, and what can take the place of the name where nothing else in the line
+/// changes: where it is empty, that of the whole statement.
+pub type AdviceRow = (
+    &'static [&'static str],
+    &'static str,
+    &'static [&'static str],
+);
 
 /// The directives of GNU as, section 7, and of other assemblers that are none here, and what is written in their place.
 pub const OTHER_DIRECTIVES: [AdviceRow; 15] = [
     (
         &[".comm", ".lcomm"],
         "; write '.bss', the label with '.zero' and its size, and then the section before",
+        &[],
     ),
     (
         &[".quad", ".dword", ".8byte"],
         "; write two '.word', the lower first",
+        &[],
     ),
-    (&[".octa"], "; write four '.word', the lowest first"),
+    (&[".octa"], "; write four '.word', the lowest first", &[]),
     (
         &[".float", ".double", ".insn"],
         "; write '.word' with the encoding",
+        &[],
     ),
     (
         &[".fill", ".org"],
         "; write '.space' with the number of bytes",
+        &[],
     ),
     (
         &[".pushsection", ".popsection", ".previous"],
         "; write the section by its name, as in '.data'",
+        &[],
     ),
-    (&[".sdata"], "; write '.section .sdata'"),
+    (
+        &[".sdata"],
+        "; write '.section .sdata'",
+        &[".section .sdata"],
+    ),
     (
         &[".macro", ".endm", ".rept", ".irp", ".endr"],
         "; there are no macros: write the lines that it stands for",
+        &[],
     ),
     (
         &[".if", ".ifdef", ".ifndef", ".else", ".endif"],
         "; there are no conditions: write the lines that count",
+        &[],
     ),
     (
         &[".include", ".incbin"],
         "; no file is included: write what is in it",
+        &[],
     ),
-    (&[".eqv", ".equiv"], "; write '.equ'"),
-    (&[".end", ".extern", ".arch"], "; leave it out"),
-    (&[".hword"], "; write '.half'"),
-    (&[".int"], "; write '.word'"),
-    (&[".asciiz"], "; write '.asciz'"),
+    (&[".eqv", ".equiv"], "; write '.equ'", &[".equ"]),
+    (&[".end", ".extern", ".arch"], "; leave it out", &[""]),
+    (&[".hword"], "; write '.half'", &[".half"]),
+    (&[".int"], "; write '.word'", &[".word"]),
+    (&[".asciiz"], "; write '.asciz'", &[".asciz"]),
 ];
 
 /// The instructions of extensions and of other processors that are none here, and what is written in their place.
@@ -51,58 +68,84 @@ pub const OTHER_MNEMONICS: [AdviceRow; 24] = [
     (
         &["move", "mov"],
         "; write 'mv' for a register, or 'li' for a number",
+        &["mv", "li"],
     ),
-    (&["jmp", "b", "br", "goto"], "; write 'j'"),
-    (&["bl", "bal"], "; write 'call'"),
-    (&["lea"], "; write 'la'"),
-    (&["ldr"], "; write 'lw'"),
-    (&["str"], "; write 'sw'"),
+    (&["jmp", "b", "br", "goto"], "; write 'j'", &["j"]),
+    (&["bl", "bal"], "; write 'call'", &["call"]),
+    (&["lea"], "; write 'la'", &["la"]),
+    (&["ldr"], "; write 'lw'", &["lw"]),
+    (&["str"], "; write 'sw'", &["sw"]),
     (
         &["jz", "je", "bz"],
         "; write 'beqz', or 'beq' with two registers",
+        &["beqz", "beq"],
     ),
     (
         &["jnz", "jne", "bnz"],
         "; write 'bnez', or 'bne' with two registers",
+        &["bnez", "bne"],
     ),
     (
         &["subi", "inc", "dec"],
         "; write 'addi', with a negative number to subtract",
+        &[],
     ),
     (
         &["muli", "divi"],
         "; load the number by 'li' into a register",
+        &[],
     ),
     (
         &["cmp", "test"],
         "; there are no flags: a branch compares two registers",
+        &[],
     ),
     (
         &["push", "pop"],
         "; move 'sp' by 'addi', and write 'sw' or 'lw'",
+        &[],
     ),
-    (&["seq", "sne"], "; write 'sub', and then 'seqz' or 'snez'"),
+    (
+        &["seq", "sne"],
+        "; write 'sub', and then 'seqz' or 'snez'",
+        &[],
+    ),
     (
         &["sext.b", "sext.h", "zext.h"],
         "; write 'slli', and then 'srai' or 'srli'",
+        &[],
     ),
-    (&["zext.b"], "; write 'andi' with 255"),
-    (&["syscall", "svc", "int"], "; write 'ecall'"),
-    (&["break", "bkpt"], "; write 'ebreak'"),
-    (&["halt", "hlt"], "; write 'wfi' in a loop"),
-    (&["iret", "eret"], "; write 'mret'"),
-    (&["uret"], "; write '.word 0x00200073'"),
+    (&["zext.b"], "; write 'andi' with 255", &[]),
+    (&["syscall", "svc", "int"], "; write 'ecall'", &["ecall"]),
+    (&["break", "bkpt"], "; write 'ebreak'", &["ebreak"]),
+    (&["halt", "hlt"], "; write 'wfi' in a loop", &[]),
+    (&["iret", "eret"], "; write 'mret'", &["mret"]),
+    (
+        &["uret"],
+        "; write '.word 0x00200073'",
+        &[".word 0x00200073"],
+    ),
     (
         &["sfence.vma"],
         "; write '.word 0x12000073' for all addresses",
+        &[".word 0x12000073"],
     ),
-    (&["unimp"], "; write '.word 0xC0001073'"),
-    (&["pause"], "; write '.word 0x0100000F'"),
+    (
+        &["unimp"],
+        "; write '.word 0xC0001073'",
+        &[".word 0xC0001073"],
+    ),
+    (
+        &["pause"],
+        "; write '.word 0x0100000F'",
+        &[".word 0x0100000F"],
+    ),
     (
         &[
             "flw", "fsw", "fld", "fsd", "fadd.s", "fsub.s", "fmul.s", "fdiv.s",
         ],
         "; there is no floating point",
+        &[],
     ),
 ];
 
@@ -114,6 +157,7 @@ pub const RV64_MNEMONICS: [AdviceRow; 2] = [
             "sraiw", "mulw", "divw", "divuw", "remw", "remuw", "sext.w", "negw",
         ],
         "; it belongs to RV64, and this is RV32",
+        &[],
     ),
     (
         &[
@@ -130,80 +174,89 @@ pub const RV64_MNEMONICS: [AdviceRow; 2] = [
             "amomaxu.d",
         ],
         "; it belongs to RV64, and this is RV32: write it with '.w'",
+        &[],
     ),
 ];
 
 /// The statements that take a number or an address where a register stands, and what takes a register.
 pub const REGISTER_GIVEN: [AdviceRow; 24] = [
-    (&["addi"], "; did you mean 'add'?"),
-    (&["andi"], "; did you mean 'and'?"),
-    (&["ori"], "; did you mean 'or'?"),
-    (&["xori"], "; did you mean 'xor'?"),
-    (&["slti"], "; did you mean 'slt'?"),
-    (&["sltiu"], "; did you mean 'sltu'?"),
-    (&["slli"], "; did you mean 'sll'?"),
-    (&["srli"], "; did you mean 'srl'?"),
-    (&["srai"], "; did you mean 'sra'?"),
-    (&["csrrwi"], "; did you mean 'csrrw'?"),
-    (&["csrrsi"], "; did you mean 'csrrs'?"),
-    (&["csrrci"], "; did you mean 'csrrc'?"),
-    (&["csrwi"], "; did you mean 'csrw'?"),
-    (&["csrsi"], "; did you mean 'csrs'?"),
-    (&["csrci"], "; did you mean 'csrc'?"),
-    (&["li", "la", "lla", "lui"], "; did you mean 'mv'?"),
-    (&["j", "tail"], "; did you mean 'jr'?"),
-    (&["jal", "call"], "; did you mean 'jalr'?"),
-    (&["c.addi"], "; did you mean 'c.add'?"),
-    (&["c.andi"], "; did you mean 'c.and'?"),
-    (&["c.li"], "; did you mean 'c.mv'?"),
-    (&["c.j"], "; did you mean 'c.jr'?"),
-    (&["c.jal"], "; did you mean 'c.jalr'?"),
+    (&["addi"], "; did you mean 'add'?", &["add"]),
+    (&["andi"], "; did you mean 'and'?", &["and"]),
+    (&["ori"], "; did you mean 'or'?", &["or"]),
+    (&["xori"], "; did you mean 'xor'?", &["xor"]),
+    (&["slti"], "; did you mean 'slt'?", &["slt"]),
+    (&["sltiu"], "; did you mean 'sltu'?", &["sltu"]),
+    (&["slli"], "; did you mean 'sll'?", &["sll"]),
+    (&["srli"], "; did you mean 'srl'?", &["srl"]),
+    (&["srai"], "; did you mean 'sra'?", &["sra"]),
+    (&["csrrwi"], "; did you mean 'csrrw'?", &["csrrw"]),
+    (&["csrrsi"], "; did you mean 'csrrs'?", &["csrrs"]),
+    (&["csrrci"], "; did you mean 'csrrc'?", &["csrrc"]),
+    (&["csrwi"], "; did you mean 'csrw'?", &["csrw"]),
+    (&["csrsi"], "; did you mean 'csrs'?", &["csrs"]),
+    (&["csrci"], "; did you mean 'csrc'?", &["csrc"]),
+    (&["li", "la", "lla", "lui"], "; did you mean 'mv'?", &["mv"]),
+    (&["j", "tail"], "; did you mean 'jr'?", &["jr"]),
+    (&["jal", "call"], "; did you mean 'jalr'?", &["jalr"]),
+    (&["c.addi"], "; did you mean 'c.add'?", &["c.add"]),
+    (&["c.andi"], "; did you mean 'c.and'?", &["c.and"]),
+    (&["c.li"], "; did you mean 'c.mv'?", &["c.mv"]),
+    (&["c.j"], "; did you mean 'c.jr'?", &["c.jr"]),
+    (&["c.jal"], "; did you mean 'c.jalr'?", &["c.jalr"]),
     (
         &["lb", "lh", "lw", "lbu", "lhu", "sb", "sh", "sw"],
         "; write an address in a register as '0(REGISTER)'",
+        &[],
     ),
 ];
 
 /// The statements that take a constant where a label stands, and what takes a label.
-pub const LABEL_GIVEN: [AdviceRow; 1] = [(&["li"], "; write 'la' for the address of a label")];
+pub const LABEL_GIVEN: [AdviceRow; 1] = [(
+    &["li"],
+    "; write 'la' for the address of a label",
+    &["la"],
+)];
 
 /// The statements that take a register where a number stands, and what takes a number.
 pub const NUMBER_GIVEN: [AdviceRow; 23] = [
-    (&["add"], "; did you mean 'addi'?"),
-    (&["and"], "; did you mean 'andi'?"),
-    (&["or"], "; did you mean 'ori'?"),
-    (&["xor"], "; did you mean 'xori'?"),
-    (&["slt"], "; did you mean 'slti'?"),
-    (&["sltu"], "; did you mean 'sltiu'?"),
-    (&["sll"], "; did you mean 'slli'?"),
-    (&["srl"], "; did you mean 'srli'?"),
-    (&["sra"], "; did you mean 'srai'?"),
-    (&["sub"], "; write 'addi' with the negative number"),
-    (&["csrrw"], "; did you mean 'csrrwi'?"),
-    (&["csrrs"], "; did you mean 'csrrsi'?"),
-    (&["csrrc"], "; did you mean 'csrrci'?"),
-    (&["csrw"], "; did you mean 'csrwi'?"),
-    (&["csrs"], "; did you mean 'csrsi'?"),
-    (&["csrc"], "; did you mean 'csrci'?"),
-    (&["mv"], "; did you mean 'li'?"),
-    (&["c.add"], "; did you mean 'c.addi'?"),
-    (&["c.and"], "; did you mean 'c.andi'?"),
-    (&["c.mv"], "; did you mean 'c.li'?"),
+    (&["add"], "; did you mean 'addi'?", &["addi"]),
+    (&["and"], "; did you mean 'andi'?", &["andi"]),
+    (&["or"], "; did you mean 'ori'?", &["ori"]),
+    (&["xor"], "; did you mean 'xori'?", &["xori"]),
+    (&["slt"], "; did you mean 'slti'?", &["slti"]),
+    (&["sltu"], "; did you mean 'sltiu'?", &["sltiu"]),
+    (&["sll"], "; did you mean 'slli'?", &["slli"]),
+    (&["srl"], "; did you mean 'srli'?", &["srli"]),
+    (&["sra"], "; did you mean 'srai'?", &["srai"]),
+    (&["sub"], "; write 'addi' with the negative number", &[]),
+    (&["csrrw"], "; did you mean 'csrrwi'?", &["csrrwi"]),
+    (&["csrrs"], "; did you mean 'csrrsi'?", &["csrrsi"]),
+    (&["csrrc"], "; did you mean 'csrrci'?", &["csrrci"]),
+    (&["csrw"], "; did you mean 'csrwi'?", &["csrwi"]),
+    (&["csrs"], "; did you mean 'csrsi'?", &["csrsi"]),
+    (&["csrc"], "; did you mean 'csrci'?", &["csrci"]),
+    (&["mv"], "; did you mean 'li'?", &["li"]),
+    (&["c.add"], "; did you mean 'c.addi'?", &["c.addi"]),
+    (&["c.and"], "; did you mean 'c.andi'?", &["c.andi"]),
+    (&["c.mv"], "; did you mean 'c.li'?", &["c.li"]),
     (
         &[
             "beq", "bne", "blt", "bge", "bltu", "bgeu", "bgt", "ble", "bgtu", "bleu",
         ],
         "; write 'zero' for 0, and load any other number by 'li'",
+        &[],
     ),
     (
         &["sb", "sh", "sw"],
         "; write '(REGISTER)' behind the offset",
+        &[],
     ),
     (
         &[
             "mul", "mulh", "mulhsu", "mulhu", "div", "divu", "rem", "remu",
         ],
         "; load the number by 'li' into a register",
+        &[],
     ),
 ];
 
@@ -212,6 +265,7 @@ pub const NAME_GIVEN: [AdviceRow; 2] = [
     (
         &["sb", "sh", "sw"],
         "; a store to a name takes a third operand, a scratch register, as in 'NAME, t0'",
+        &[],
     ),
     (
         &[
@@ -261,6 +315,7 @@ pub const NAME_GIVEN: [AdviceRow; 2] = [
             "amomaxu.w.aqrl",
         ],
         "; write the register with the address in parentheses",
+        &[],
     ),
 ];
 
@@ -269,54 +324,67 @@ pub const OPERAND_GIVEN: [AdviceRow; 8] = [
     (
         &[".section"],
         "; the sections are .text.init, .text, .rodata, .data, .sdata and .bss",
+        &[],
     ),
     (
         &[".ascii", ".asciz", ".string"],
         "; a string stands in double quotation marks",
+        &[],
     ),
     (
         &[".equ", ".set"],
         "; write a name, a comma and an expression",
+        &[],
     ),
-    (&["fence"], "; a set has letters of 'iorw', in this order"),
+    (
+        &["fence"],
+        "; a set has letters of 'iorw', in this order",
+        &[],
+    ),
     (
         &["lui", "auipc"],
         "; write an expression, '%hi(..)' or '%pcrel_hi(..)'",
+        &[],
     ),
     (
         &["addi", "andi", "ori", "xori", "slti", "sltiu"],
         "; write an expression, '%lo(..)' or '%pcrel_lo(..)'",
+        &[],
     ),
     (
         &["lb", "lh", "lw", "lbu", "lhu", "sb", "sh", "sw"],
         "; write OFFSET(REGISTER) or an address",
+        &[],
     ),
     (
         &["call", "tail", "j", "jal", "la", "lla"],
         "; write a label or an expression",
+        &[],
     ),
 ];
 
 /// The letters that names of registers begin with, and the registers that there are.
 pub const REGISTER_LETTERS: [AdviceRow; 5] = [
-    (&["a"], "; there are 'a0' to 'a7'"),
-    (&["s"], "; there are 's0' to 's11'"),
-    (&["t"], "; there are 't0' to 't6'"),
-    (&["x", "r"], "; there are 'x0' to 'x31'"),
-    (&["f"], "; there is no floating point"),
+    (&["a"], "; there are 'a0' to 'a7'", &[]),
+    (&["s"], "; there are 's0' to 's11'", &[]),
+    (&["t"], "; there are 't0' to 't6'", &[]),
+    (&["x", "r"], "; there are 'x0' to 'x31'", &[]),
+    (&["f"], "; there is no floating point", &[]),
 ];
 
 /// The statements, and what takes a value that is out of their range.
 pub const RANGE_EXCEEDED: [AdviceRow; 14] = [
-    (&["lui"], "; write '%hi(..)', or 'li'"),
-    (&["auipc"], "; write '%pcrel_hi(..)', or 'la'"),
+    (&["lui"], "; write '%hi(..)', or 'li'", &["li"]),
+    (&["auipc"], "; write '%pcrel_hi(..)', or 'la'", &[]),
     (
         &["addi", "andi", "ori", "xori", "slti", "sltiu"],
         "; load the number by 'li' into a register",
+        &[],
     ),
     (
         &["lb", "lh", "lw", "lbu", "lhu", "sb", "sh", "sw"],
         "; add the offset to the register first",
+        &[],
     ),
     (
         &[
@@ -324,21 +392,31 @@ pub const RANGE_EXCEEDED: [AdviceRow; 14] = [
             "bnez", "blez", "bgez", "bltz", "bgtz",
         ],
         "; write the opposite branch over a 'j'",
+        &[],
     ),
-    (&["j"], "; write 'tail', which uses 't1'"),
-    (&["jal"], "; write 'call', which links in 'ra'"),
-    (&[".byte"], "; write '.half' or '.word'"),
-    (&[".half", ".short", ".2byte"], "; write '.word'"),
+    (&["j"], "; write 'tail', which uses 't1'", &["tail"]),
+    (&["jal"], "; write 'call', which links in 'ra'", &["call"]),
+    (
+        &[".byte"],
+        "; write '.half' or '.word'",
+        &[".half", ".word"],
+    ),
+    (
+        &[".half", ".short", ".2byte"],
+        "; write '.word'",
+        &[".word"],
+    ),
     (
         &[
             "c.beqz", "c.bnez", "c.j", "c.jal", "c.li", "c.lui", "c.lw", "c.sw",
         ],
         "; write the instruction without 'c.'",
+        &[],
     ),
-    (&["c.addi"], "; write 'addi' with the register twice"),
-    (&["c.andi"], "; write 'andi' with the register twice"),
-    (&["c.lwsp"], "; write 'lw'"),
-    (&["c.swsp"], "; write 'sw'"),
+    (&["c.addi"], "; write 'addi' with the register twice", &[]),
+    (&["c.andi"], "; write 'andi' with the register twice", &[]),
+    (&["c.lwsp"], "; write 'lw'", &["lw"]),
+    (&["c.swsp"], "; write 'sw'", &["sw"]),
 ];
 
 /// Characters that text processors put into texts, and what is written in their place.
@@ -346,20 +424,28 @@ pub const CHARACTERS: [AdviceRow; 5] = [
     (
         &["\u{2018}", "\u{2019}"],
         "; write ' in the place of a typographic quotation mark",
+        &["'"],
     ),
     (
         &["\u{201c}", "\u{201d}", "\u{201e}"],
         "; write \" in the place of a typographic quotation mark",
+        &["\""],
     ),
     (
         &["\u{2212}", "\u{2013}", "\u{2014}"],
         "; write - in the place of a minus sign or a dash",
+        &["-"],
     ),
     (
         &["\u{a0}"],
         "; write a space in the place of a no-break space",
+        &[" "],
     ),
-    (&["\u{feff}"], "; save the file without a byte order mark"),
+    (
+        &["\u{feff}"],
+        "; save the file without a byte order mark",
+        &[""],
+    ),
 ];
 
 /// The numbers of the control and status registers that have no name here, but for the counters of [`COUNTER_NUMBERS`]:

@@ -1,7 +1,7 @@
 //! The messages of names of no control and status register.
 
 ghost use Rattle.std.specs.Prelude.{◌≡◌, ◌++◌, map, IfOk, OnOk};
-ghost use Rattle.rv_report.specs.Csrs.{counter_number, csr_help, csr_list, its_number, near_csrs, standard_number, unknown_csr};
+ghost use Rattle.rv_report.specs.Csrs.{counter_number, csr_help, csr_list, its_number, near_csrs, number_of_csr, standard_number, unknown_csr};
 
 use crate::advice_tables::{COUNTER_NUMBERS, CSR_NUMBERS};
 use rv_ops::{CSRS, first_named};
@@ -23,9 +23,9 @@ fn names_of_rows(
     Ok(names)
 }
 
-// The names of the control and status registers, in the order of their table.
+/// The names of the control and status registers, in the order of their table.
 #[tactic(auto, unfolding(crate::specs::Csrs::csr_list))]
-fn csr_list(alloc: Global) -> Result<Vec<&'static [u8]>, AllocError>
+pub fn csr_list(alloc: Global) -> Result<Vec<&'static [u8]>, AllocError>
     ensures { IfOk result (λ v. map (λ t. t.now) v.items ≡ csr_list) }
 {
     names_of_rows(alloc, &CSRS)
@@ -67,17 +67,24 @@ fn push_near_csrs(out: &mut Text, alloc: Global, name: &[u8]) -> Result<(), Allo
     push_did_you_mean(out, alloc, lower.as_slice(), names.as_slice())
 }
 
+/// The number of the control and status register or the counter of a name that the standard has, and that is no name here.
+pub fn number_of_csr(name: &[u8]) -> Option<u16>
+    ensures { result ≡ number_of_csr name.now }
+{
+    match standard_number(name) {
+        Some(number) => Some(number),
+        None => counter_number(name),
+    }
+}
+
 // Appends the number of a register, or the question about names near its name.
 fn push_csr_help(out: &mut Text, alloc: Global, name: &[u8]) -> Result<(), AllocError>
     ensures { OnOk result (out.new ≡ out.old ++ csr_help name.now) }
 {
-    if let Some(number) = standard_number(name) {
-        return push_its_number(out, number);
+    match number_of_csr(name) {
+        Some(number) => push_its_number(out, number),
+        None => push_near_csrs(out, alloc, name),
     }
-    if let Some(number) = counter_number(name) {
-        return push_its_number(out, number);
-    }
-    push_near_csrs(out, alloc, name)
 }
 
 /// Appends that no control and status register has a name.

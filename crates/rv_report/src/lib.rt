@@ -26,10 +26,14 @@ mod value_messages;
 mod wanted;
 mod warnings;
 
+pub use advice::{Topic, replacements};
+pub use csr_messages::{csr_list, number_of_csr};
 pub use faulty_line::FaultyLine;
 pub use faulty_names::UsedName;
+pub use language_names::names_like;
 pub use laws::limits_are_those_of_range;
 pub use messages::message;
 pub use name_messages::faulty_name_at;
 pub use reports::{report, report_warning};
+pub use unknown_names::is_of_others;
 pub use warnings::{Warning, find_warning, push_warning_message};

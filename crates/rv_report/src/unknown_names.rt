@@ -5,7 +5,7 @@ ghost use Rattle.rv_stmt.specs.Directives.{directive_named};
 ghost use Rattle.rv_show.specs.Parts.{part};
 ghost use Rattle.rv_report.specs.Lines.{line_of};
 ghost use Rattle.rv_report.specs.Messages.{word_after_name};
-ghost use Rattle.rv_report.specs.UnknownNames.{begins_statement, by_names, by_what_follows, definition_of, help_with_name, is_before_statement, missing_colon, missing_point, near_names, other_mnemonic, replacement, unknown_name};
+ghost use Rattle.rv_report.specs.UnknownNames.{begins_statement, by_names, by_what_follows, definition_of, help_with_name, is_before_statement, is_of_others, missing_colon, missing_point, near_names, other_mnemonic, replacement, unknown_name};
 
 use crate::advice::{Topic, advice};
 use crate::counts::is_directive_name;
@@ -146,6 +146,13 @@ fn replacement(name: &[u8]) -> &'static [u8]
         return advice(Topic::OtherDirective, name);
     }
     other_mnemonic(name)
+}
+
+/// Whether a name is one that other assemblers or processors have.
+pub fn is_of_others(name: &[u8]) -> bool
+    ensures { result ≡ is_of_others name.now }
+{
+    !replacement(name).is_empty()
 }
 
 // Appends what helps with a name.

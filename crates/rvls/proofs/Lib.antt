@@ -1,3 +1,4 @@
 pub mod DocumentSymbols
 pub mod Modifiers
 pub mod Pieces
+pub mod QuickFixes

@@ -3,4 +3,5 @@ pub mod Frames
 pub mod Names
 pub mod NewNames
 pub mod PlacedDocuments
+pub mod QuickFixes
 pub mod DocumentDiagnostics

@@ -143,6 +143,17 @@ impl Assembly {
         &self.store
     }
 
+    /// A new store of its lines.
+    ///
+    /// # Errors
+    ///
+    /// `AllocError` if there is no memory for it.
+    pub fn copied(&self, alloc: Global) -> Result<Store, AllocError>
+        ensures { IfOk result (λ store. store ≡ text_of self.now) }
+    {
+        load(alloc, self.base, self.document.text())
+    }
+
     /// How many lines stand before those that changed last.
     pub fn edited(&self) -> u32 {
         self.edited

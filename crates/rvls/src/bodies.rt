@@ -111,3 +111,16 @@ pub fn message_in(alloc: Global, body: &[u8]) -> Result<Option<Value>, AllocErro
     let whole = without_halves(alloc, body)?;
     value_of(alloc, whole.as_slice())
 }
+
+/// Whether a list of texts has this one.
+pub fn has_text(list: Option<&Value>, text: &str) -> bool {
+    let Some(items) = list.and_then(Value::as_array) else {
+        return false;
+    };
+    for item in items.as_slice() {
+        if item.as_str() == Some(text) {
+            return true;
+        }
+    }
+    false
+}

@@ -1,6 +1,7 @@
 //! Requests about the lines of a document and the names in it.
 
 use crate::assembly::Assembly;
+use crate::bodies::has_text;
 use crate::completion::put_completions;
 use crate::definition::put_definition;
 use crate::document_symbols::put_document_symbols;
@@ -11,6 +12,7 @@ use crate::hover::put_hover;
 use crate::name_at::{Named, name_at};
 use crate::places::lines_to;
 use crate::publishing::put_report;
+use crate::quick_fixes::{QUICK_FIX, put_quick_fixes};
 use crate::references::{PlaceForm, Wanted, put_references};
 use crate::rename::{put_name, put_rename};
 use crate::sections::put_section_places;
@@ -68,6 +70,8 @@ pub enum Question<'a> {
     Tokens(u32, u32),
     /// What is shown beside such lines.
     Hints(u32, u32),
+    /// Which changes take the faults of such lines away.
+    Fixes(u32, u32),
     /// Something about a position.
     Place(Position, Wish<'a>),
 }
@@ -121,6 +125,23 @@ fn lines_in(message: &Value) -> Option<(u32, u32)> {
     }
 }
 
+// Whether a request for changes of lines wants quick fixes: they are of the kind that it names, of all kinds, or it names none.
+fn wants_fixes(message: &Value) -> bool {
+    match message.pointer("/params/context/only") {
+        None | Some(Value::Null) => true,
+        only => has_text(only, QUICK_FIX) || has_text(only, ""),
+    }
+}
+
+// The lines that changes are wanted for. That of an empty range is one of them.
+fn fixes_in(message: &Value) -> Option<Question<'_>> {
+    let (from, to) = lines_in(message)?;
+    if !wants_fixes(message) {
+        return Some(Question::Fixes(0, 0));
+    }
+    Some(Question::Fixes(from, to.max(from.saturating_add(1))))
+}
+
 /// What a request asks about a document.
 ///
 /// # Errors
@@ -141,6 +162,7 @@ pub fn question_in<'a>(method: &str, message: &'a Value) -> Result<Question<'a>,
             let (from, to) = lines_in(message).ok_or(Refusal::WrongParameters)?;
             Ok(Question::Hints(from, to))
         }
+        "textDocument/codeAction" => fixes_in(message).ok_or(Refusal::WrongParameters),
         _ => {
             let wish = wish_in(method, message)?;
             let position = position_of(message).ok_or(Refusal::WrongParameters)?;
@@ -299,6 +321,7 @@ pub fn put_answer(
         Question::Diagnostics => put_report(m, context, document, document.edited())?,
         Question::Tokens(from, to) => put_semantic_tokens(m, context, view, from, to)?,
         Question::Hints(from, to) => put_hints(m, context, view, from, to)?,
+        Question::Fixes(from, to) => put_quick_fixes(m, context, document, from, to)?,
         Question::Place(position, wish) => {
             return put_about_position(m, context, view, position, wish);
         }

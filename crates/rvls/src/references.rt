@@ -52,9 +52,9 @@ fn is_wanted<V: View>(
     wanted.with_definition || !is_definition(view, number, name_written, name.standing)
 }
 
-// Writes an edit that puts a text in the place of a name, in a line by its number from 1 on. What refers to a local label keeps its letter.
+/// Writes an edit that puts a text in the place of a part of a line, by its number from 1 on.
 #[tactic(auto, unfolding(crate::specs::Names::text_edit))]
-fn put_edit(
+pub fn put_edit(
     m: &mut Message,
     encoding: Encoding,
     number: u32,

@@ -8,9 +8,10 @@ ghost use Rattle.std.specs.String.{string_bytes};
 use crate::arguments::VERSION;
 use crate::assembly::Assembly;
 use crate::base::{Base, base_in};
-use crate::bodies::message_in;
+use crate::bodies::{has_text, message_in};
 use crate::looking_up::{Question, put_answer, question_in};
 use crate::publishing::publish;
+use crate::quick_fixes::QUICK_FIX;
 use crate::semantic_tokens::TOKEN_TYPES;
 use crate::writing::{Failure, Notice, Refusal, answer_null, begin_result, refuse, tell};
 use rv_diagnostics::{Context, Message, Part, publish_none};
@@ -113,19 +114,6 @@ pub struct Server {
     unpublished: u32,
 }
 
-// Whether a list of texts has this one.
-fn has_text(list: Option<&Value>, text: &str) -> bool {
-    let Some(items) = list.and_then(Value::as_array) else {
-        return false;
-    };
-    for item in items.as_slice() {
-        if item.as_str() == Some(text) {
-            return true;
-        }
-    }
-    false
-}
-
 // The encoding that columns are counted in: UTF-8 if the client offers it, else UTF-16.
 fn encoding_for(message: &Value) -> Encoding {
     let offered = message.pointer("/params/capabilities/general/positionEncodings");
@@ -203,6 +191,19 @@ fn put_tokens_provider(m: &mut Message) -> Result<(), AllocError> {
     ])
 }
 
+// Writes which changes of lines can be asked for.
+fn put_fixes_provider(m: &mut Message) -> Result<(), AllocError> {
+    m.put_all(&[
+        Part::Key("codeActionProvider"),
+        Part::BeginObject,
+        Part::Key("codeActionKinds"),
+        Part::BeginArray,
+        Part::Text(QUICK_FIX),
+        Part::EndArray,
+        Part::EndObject,
+    ])
+}
+
 // Writes what the server can do that takes no options.
 fn put_simple_capabilities(m: &mut Message, encoding: Encoding) -> Result<(), AllocError> {
     m.put_all(&[
@@ -244,6 +245,7 @@ fn put_capabilities(
     put_typing_provider(m, "completionProvider", ".", "%")?;
     put_typing_provider(m, "signatureHelpProvider", " ", ",")?;
     put_tokens_provider(m)?;
+    put_fixes_provider(m)?;
     m.end_object()
 }
 
