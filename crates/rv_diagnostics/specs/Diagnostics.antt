@@ -1,5 +1,5 @@
 -- Diagnostics as tokens of JSON. (Language Server Protocol 3.17, textDocument/publishDiagnostics)
-use Rattle.std.specs.Prelude.{ℕ, ◌-◌, List, [], ◌∷◌, ◌++◌, take, codes, decimal, Option, Some}
+use Rattle.std.specs.Prelude.{ℕ, ◌-◌, ◌&&◌, nat_le, bytes_eq, if◌then◌else◌, List, [], ◌∷◌, ◌++◌, take, codes, decimal, Option, Some}
 use Rattle.std.specs.Str.Lossy.{utf8_lossy}
 use Rattle.json.specs.Token.{Token, begin_object, end_object, begin_array, end_array, key}
 use Rattle.rv_text.specs.declared.faults.Fault.{Fault}
@@ -7,6 +7,8 @@ use Rattle.rv_text.specs.declared.faults.FaultNumber.{FaultNumber}
 use Rattle.rv_text.specs.declared.faults.FaultNumber.TheVariants.{Duplicate, FaultyEqu}
 use Rattle.rv_text.specs.declared.lexeme.TheConstants.{MAX_LINE_LENGTH}
 use Rattle.rv_text.specs.declared.lexeme.Span.{Span}
+use Rattle.rv_text.specs.declared.lexeme.Token.{Token as LexToken}
+use Rattle.rv_text.specs.Lexing.{lexed_line}
 use Rattle.rv_expr.specs.declared.tree.LabelReference.{LabelReference}
 use Rattle.rv_expr.specs.declared.tree.LabelReference.TheVariants as label
 use Rattle.rv_expr.specs.Value.{Environment}
@@ -41,22 +43,40 @@ abbrev pub diagnostic : (line from to severity : ℕ) → (code message : List �
 diagnostic line from to severity code message related =
     diagnostic_head line from to severity code message ++ (related ++ end_object ∷ [])
 
--- the line of a definition, from 1 on, with what is said of it
-unfoldable pub related_line : (uri : List ℕ) → (line : ℕ) → (said : List ℕ) → List Token
-related_line uri line said =
+-- the place of a name in the line of its definition, from 1 on, with what is said of it
+unfoldable pub related_line : Encoding → (uri : List ℕ) → (line : ℕ) → (text : List ℕ) → Span → (said : List ℕ) → List Token
+related_line encoding uri line text span said =
     key (codes "relatedInformation") ∷ (begin_array ∷ (begin_object ∷ (key (codes "location") ∷ (begin_object ∷ (string_member (codes "uri") uri
-    ++ (key (codes "range") ∷ (range (line - 1) 0 0 ++ (end_object ∷ (string_member (codes "message") said ++ (end_object ∷ (end_array ∷ [])))))))))))
+    ++ (key (codes "range") ∷ (range (line - 1) (column_at encoding text span.from) (column_at encoding text span.to)
+    ++ (end_object ∷ (string_member (codes "message") said ++ (end_object ∷ (end_array ∷ [])))))))))))
 
-abbrev pub related_place : (uri : List ℕ) → DefinitionPlace → (said : List ℕ) → List Token
-related_place uri Nowhere said = []
-related_place uri (Label line index) said = related_line uri line said
-related_place uri (Equ line) said = related_line uri line said
+abbrev pub related_place : Encoding → (uri : List ℕ) → DefinitionPlace → (text : List ℕ) → Span → (said : List ℕ) → List Token
+related_place encoding uri Nowhere text span said = []
+related_place encoding uri (Label line index) text span said = related_line encoding uri line text span said
+related_place encoding uri (Equ line) text span said = related_line encoding uri line text span said
 
 -- a second definition names the first, and the use of a faulty one names that
-abbrev pub related_of : (uri : List ℕ) → FaultNumber → DefinitionPlace → List Token
-related_of uri Duplicate place = related_place uri place (codes "the first definition is here")
-related_of uri FaultyEqu place = related_place uri place (codes "its definition is here")
-related_of uri number place = []
+abbrev pub related_of : Encoding → (uri : List ℕ) → FaultNumber → DefinitionPlace → (text : List ℕ) → Span → List Token
+related_of encoding uri Duplicate place text span = related_place encoding uri place text span (codes "the first definition is here")
+related_of encoding uri FaultyEqu place text span = related_place encoding uri place text span (codes "its definition is here")
+related_of encoding uri number place text span = []
+
+-- the line of a definition
+abbrev pub text_of_line : Shown → (line : ℕ) → List ℕ
+text_of_line shown line = if nat_le 1 line && nat_le line shown.count then (shown.line line).text else []
+
+abbrev pub text_of_place : Shown → DefinitionPlace → List ℕ
+text_of_place shown Nowhere = []
+text_of_place shown (Label line index) = text_of_line shown line
+text_of_place shown (Equ line) = text_of_line shown line
+
+-- where a line has a word first, by its tokens, and an empty place where it has not
+abbrev pub first_place : (line word : List ℕ) → (tokens : List LexToken) → Span
+first_place line word [] = record { from = 0; to = 0 }
+first_place line word (token ∷ tokens) = if bytes_eq (part line token.span) word then token.span else first_place line word tokens
+
+unfoldable pub place_of_word : (line word : List ℕ) → Span
+place_of_word line word = first_place line word (lexed_line line).tokens
 
 -- where the name is defined for which an operand has no value
 abbrev pub place_of_name : Shown → Option LabelReference → DefinitionPlace
@@ -68,6 +88,16 @@ abbrev pub place_of_fault : Environment → Shown → Line → FaultNumber → S
 place_of_fault given shown line FaultyEqu span = place_of_name shown (faulty_name_of given (operand_of_line line span))
 place_of_fault given shown line number span = shown.definition (part line.text span)
 
+-- the name for which an operand has no value
+abbrev pub name_without_value : Option LabelReference → List ℕ
+name_without_value (Some (label.Symbol name)) = name
+name_without_value name = []
+
+-- the name of a fault, of which it is told where it is defined
+abbrev pub name_of_fault : Environment → Line → FaultNumber → Span → List ℕ
+name_of_fault given line FaultyEqu span = name_without_value (faulty_name_of given (operand_of_line line span))
+name_of_fault given line number span = part line.text span
+
 -- what the message of a second definition ends with: the line of the first one
 abbrev pub in_line : DefinitionPlace → List ℕ
 in_line Nowhere = []
@@ -78,17 +108,23 @@ abbrev pub first_line_of : FaultNumber → DefinitionPlace → List ℕ
 first_line_of Duplicate place = in_line place
 first_line_of number place = []
 
--- the diagnostic of a fault of a line, which has the number `line.number` from 1 on, with this message, where its name is defined here
-abbrev pub diagnostic_of_fault : Encoding → (uri : List ℕ) → DefinitionPlace → Line → Fault → (message : List ℕ) → List Token
-diagnostic_of_fault encoding uri place line fault message =
+-- the diagnostic of a fault of a line, which has the number `line.number` from 1 on, with this message, where its name is defined here, in this line
+-- and at this span of it
+abbrev pub diagnostic_of_fault : Encoding → (uri : List ℕ) → DefinitionPlace → (text : List ℕ) → Span → Line → Fault → (message : List ℕ) → List Token
+diagnostic_of_fault encoding uri place text span line fault message =
     diagnostic (line.number - 1) (column_at encoding line.text fault.span.from) (column_at encoding line.text fault.span.to) 1 (fault_name fault.number)
-    message (related_of uri fault.number place)
+    message (related_of encoding uri fault.number place text span)
+
+-- that of a fault whose name is defined here
+abbrev pub diagnostic_by_place : Encoding → (uri : List ℕ) → Environment → Shown → Line → Fault → DefinitionPlace → List Token
+diagnostic_by_place encoding uri given shown line fault place =
+    diagnostic_of_fault encoding uri place (text_of_place shown place) (place_of_word (text_of_place shown place) (name_of_fault given line fault.number fault.span)) line fault
+    (utf8_lossy (message_of given shown line fault ++ first_line_of fault.number place))
 
 -- the diagnostic of a fault of a line
 unfoldable pub fault_diagnostic : Encoding → (uri : List ℕ) → Environment → Shown → Line → Fault → List Token
 fault_diagnostic encoding uri given shown line fault =
-    diagnostic_of_fault encoding uri (place_of_fault given shown line fault.number fault.span) line fault
-    (utf8_lossy (message_of given shown line fault ++ first_line_of fault.number (place_of_fault given shown line fault.number fault.span)))
+    diagnostic_by_place encoding uri given shown line fault (place_of_fault given shown line fault.number fault.span)
 
 -- the diagnostic of a warning about a line
 unfoldable pub warning_diagnostic : Encoding → (number : ℕ) → (text : List ℕ) → Warning → List Token

@@ -8,11 +8,13 @@ ghost use Rattle.rv_report.specs.FaultyNames.{name_used};
 ghost use Rattle.rv_report.specs.Lines.{line_of};
 ghost use Rattle.rv_report.specs.Messages.{message_of};
 ghost use Rattle.rv_report.specs.Warnings.{warning_message, warning_seen};
-ghost use Rattle.rv_diagnostics.specs.Diagnostics.{column_at, diagnostic, diagnostic_head, diagnostic_of_fault, fault_diagnostic, first_line_of, long_line, many_lines, more_diagnostics, place_of_fault, place_of_name, related_line, related_of, related_place, warning_diagnostic};
+ghost use Rattle.rv_diagnostics.specs.Diagnostics.{column_at, diagnostic, diagnostic_by_place, diagnostic_head, diagnostic_of_fault, fault_diagnostic, first_line_of, long_line, many_lines, more_diagnostics, place_of_fault, place_of_name, related_line, related_of, related_place, warning_diagnostic};
 
+use crate::defined_names::{Definition, name_of_fault, place_of_word, text_of_place};
 use crate::message::Message;
 use crate::part::Part;
 use crate::ranges::put_range;
+use crate::told::Told;
 use rv_doc::{Encoding, column_of, without_return};
 use rv_expr::Names;
 use rv_list::{DefinitionPlace, View, fault_name};
@@ -105,15 +107,18 @@ fn put_diagnostic(
     Ok(())
 }
 
-// Writes the line of a definition, from 1 on, and what is said of it.
+// Writes the place of a name in the line of its definition, from 1 on, and what is said of it.
 #[tactic(auto, unfolding(crate::specs::Diagnostics::related_line))]
 fn put_related_line<'a>(
     m: &mut Message,
+    encoding: Encoding,
     uri: &'a str,
     line: u32,
+    definition: &Definition<'_>,
     said: &'a str,
 ) -> Result<(), AllocError>
-    ensures { OnOk result (m.new ≡ m.old ++ related_line uri.now line said.now) }
+    requires { length definition.now.text.now ≤ 1000 }
+    ensures { OnOk result (m.new ≡ m.old ++ related_line encoding uri.now line definition.now.text.now definition.now.span said.now) }
 {
     m.put_all(&[
         Part::Key("relatedInformation"),
@@ -125,7 +130,9 @@ fn put_related_line<'a>(
         Part::Text(uri),
         Part::Key("range"),
     ])?;
-    put_range(m, line.saturating_sub(1), 0, 0)?;
+    let from = column_at(encoding, definition.text, definition.span.from);
+    let to = column_at(encoding, definition.text, definition.span.to);
+    put_range(m, line.saturating_sub(1), from, to)?;
     m.put_all(&[
         Part::EndObject,
         Part::Key("message"),
@@ -139,15 +146,30 @@ fn put_related_line<'a>(
 // Writes where a name is defined, if it is, and what is said of that.
 fn put_related_place(
     m: &mut Message,
-    uri: &str,
-    place: DefinitionPlace,
+    context: &Context<'_>,
+    definition: &Definition<'_>,
     said: &str,
 ) -> Result<(), AllocError>
-    ensures { OnOk result (m.new ≡ m.old ++ related_place uri.now place said.now) }
+    requires { length definition.now.text.now ≤ 1000 }
+    ensures { OnOk result (m.new ≡ m.old ++ related_place context.now.encoding context.now.uri.now definition.now.place definition.now.text.now definition.now.span said.now) }
 {
-    match place {
-        DefinitionPlace::Label(line, _) => put_related_line(m, uri, line, said),
-        DefinitionPlace::Equ(line) => put_related_line(m, uri, line, said),
+    match definition.place {
+        DefinitionPlace::Label(line, _) => put_related_line(
+            m,
+            context.encoding,
+            context.uri,
+            line,
+            definition,
+            said,
+        ),
+        DefinitionPlace::Equ(line) => put_related_line(
+            m,
+            context.encoding,
+            context.uri,
+            line,
+            definition,
+            said,
+        ),
         DefinitionPlace::Nowhere => Ok(()),
     }
 }
@@ -155,17 +177,20 @@ fn put_related_place(
 // Writes where a name of a fault is defined: of a second definition the first, and that of a faulty `.equ`.
 fn put_related(
     m: &mut Message,
-    uri: &str,
+    context: &Context<'_>,
     number: FaultNumber,
-    place: DefinitionPlace,
+    definition: &Definition<'_>,
 ) -> Result<(), AllocError>
-    ensures { OnOk result (m.new ≡ m.old ++ related_of uri.now number place) }
+    requires { length definition.now.text.now ≤ 1000 }
+    ensures { OnOk result (m.new ≡ m.old ++ related_of context.now.encoding context.now.uri.now number definition.now.place definition.now.text.now definition.now.span) }
 {
     match number {
         FaultNumber::Duplicate => {
-            put_related_place(m, uri, place, "the first definition is here")
+            put_related_place(m, context, definition, "the first definition is here")
         }
-        FaultNumber::FaultyEqu => put_related_place(m, uri, place, "its definition is here"),
+        FaultNumber::FaultyEqu => {
+            put_related_place(m, context, definition, "its definition is here")
+        }
         _ => Ok(()),
     }
 }
@@ -248,12 +273,13 @@ fn put_said(
     m: &mut Message,
     context: &Context<'_>,
     line: &FaultyLine<'_>,
-    definition: DefinitionPlace,
+    definition: &Definition<'_>,
     fault: Fault,
     said: &str,
 ) -> Result<(), AllocError>
-    requires { length line.now.text.now ≤ 1000 }
-    ensures { OnOk result (m.new ≡ m.old ++ diagnostic_of_fault context.now.encoding context.now.uri.now definition (line_of line.now) fault said.now) }
+    requires line { length line.now.text.now ≤ 1000 }
+    requires definition { length definition.now.text.now ≤ 1000 }
+    ensures { OnOk result (m.new ≡ m.old ++ diagnostic_of_fault context.now.encoding context.now.uri.now definition.now.place definition.now.text.now definition.now.span (line_of line.now) fault said.now) }
 {
     let place = Place {
         line: line.number.saturating_sub(1),
@@ -261,65 +287,69 @@ fn put_said(
         to: column_at(context.encoding, line.text, fault.span.to),
     };
     begin_diagnostic(m, place, ERROR, fault_name(fault.number), said)?;
-    put_related(m, context.uri, fault.number, definition)?;
+    put_related(m, context, fault.number, definition)?;
     m.end_object()?;
     Ok(())
 }
 
 // Writes the diagnostic of a fault.
 #[tactic(auto, unfolding(crate::specs::Diagnostics::fault_diagnostic))]
-fn put_fault<N: Names, V: View>(
+fn put_fault<N: Names, T: Told>(
     m: &mut Message,
     context: &Context<'_>,
     line: &FaultyLine<'_>,
     names: &N,
-    view: &V,
+    told: &T,
     fault: Fault,
 ) -> Result<(), AllocError>
     requires labels { length line.now.stmt.now.labels ≤ 1000 }
     requires text { length line.now.text.now ≤ 1000 }
-    ensures { OnOk result (m.new ≡ m.old ++ fault_diagnostic context.now.encoding context.now.uri.now (N.environment names.now line.now.address) (V.shown view.now) (line_of line.now) fault) }
+    ensures { OnOk result (m.new ≡ m.old ++ fault_diagnostic context.now.encoding context.now.uri.now (N.environment names.now line.now.address) (T.View.shown told.now) (line_of line.now) fault) }
 {
-    let definition = place_of_fault(line, names, view, fault);
-    let said = fault_text(context.alloc, line, names, view, definition, fault)?;
-    put_said(m, context, line, definition, fault, said.as_str())?;
+    let place = place_of_fault(line, names, told, fault);
+    let text = text_of_place(told, place);
+    let name = name_of_fault(line, names, fault);
+    let span = place_of_word(context.alloc, text, name)?;
+    let definition = Definition { place, text, span };
+    let said = fault_text(context.alloc, line, names, told, place, fault)?;
+    put_said(m, context, line, &definition, fault, said.as_str())?;
     Ok(())
 }
 
 // Writes the diagnostic of a fault, if there is one.
-fn put_if_found<N: Names, V: View>(
+fn put_if_found<N: Names, T: Told>(
     m: &mut Message,
     context: &Context<'_>,
     line: &FaultyLine<'_>,
     names: &N,
-    view: &V,
+    told: &T,
     fault: Option<Fault>,
 ) -> Result<(), AllocError>
     requires labels { length line.now.stmt.now.labels ≤ 1000 }
     requires text { length line.now.text.now ≤ 1000 }
-    ensures { OnOk result (m.new ≡ m.old ++ flat_map (fault_diagnostic context.now.encoding context.now.uri.now (N.environment names.now line.now.address) (V.shown view.now) (line_of line.now)) (body_faults fault)) }
+    ensures { OnOk result (m.new ≡ m.old ++ flat_map (fault_diagnostic context.now.encoding context.now.uri.now (N.environment names.now line.now.address) (T.View.shown told.now) (line_of line.now)) (body_faults fault)) }
 {
     match fault {
-        Some(fault) => put_fault(m, context, line, names, view, fault),
+        Some(fault) => put_fault(m, context, line, names, told, fault),
         None => Ok(()),
     }
 }
 
 /// Writes the diagnostics of faults of a line.
-pub fn put_faults<N: Names, V: View>(
+pub fn put_faults<N: Names, T: Told>(
     m: &mut Message,
     context: &Context<'_>,
     line: &FaultyLine<'_>,
     names: &N,
-    view: &V,
+    told: &T,
     mut faults: &[Option<Fault>],
 ) -> Result<(), AllocError>
     requires labels { length line.now.stmt.now.labels ≤ 1000 }
     requires text { length line.now.text.now ≤ 1000 }
-    ensures { OnOk result (m.new ≡ m.old ++ flat_map (fault_diagnostic context.now.encoding context.now.uri.now (N.environment names.now line.now.address) (V.shown view.now) (line_of line.now)) (found faults.entry.now)) }
+    ensures { OnOk result (m.new ≡ m.old ++ flat_map (fault_diagnostic context.now.encoding context.now.uri.now (N.environment names.now line.now.address) (T.View.shown told.now) (line_of line.now)) (found faults.entry.now)) }
 {
     'faults: while let [fault, later @ ..] = faults {
-        put_if_found(m, context, line, names, view, *fault)?;
+        put_if_found(m, context, line, names, told, *fault)?;
         faults = later;
     }
     Ok(())

@@ -2,6 +2,7 @@
 #![tactic(auto)]
 
 mod counting;
+mod defined_names;
 mod diagnostics;
 mod message;
 mod part;

@@ -8,8 +8,8 @@ use Rattle.rv_diagnostics.proofs.diagnostics.put_faults.Given as goal
 -- what is written so far, and the faults that are left
 abbrev pub invariant-faults : goal.invariant-faults
 invariant-faults g l =
-    l.m ++ flat_map (fault_diagnostic l.context.encoding l.context.uri.now (g.N.Names.environment l.names l.line.address) (g.V.View.shown l.view) (line_of l.line)) (found l.faults)
-    ≡ l.fn.m ++ flat_map (fault_diagnostic l.context.encoding l.context.uri.now (g.N.Names.environment l.names l.line.address) (g.V.View.shown l.view) (line_of l.line)) (found l.fn.faults)
+    l.m ++ flat_map (fault_diagnostic l.context.encoding l.context.uri.now (g.N.Names.environment l.names l.line.address) (g.T.View.shown l.told) (line_of l.line)) (found l.faults)
+    ≡ l.fn.m ++ flat_map (fault_diagnostic l.context.encoding l.context.uri.now (g.N.Names.environment l.names l.line.address) (g.T.View.shown l.told) (line_of l.line)) (found l.fn.faults)
 
 abbrev pub decreases-faults : goal.decreases-faults
 decreases-faults g l = length l.faults
