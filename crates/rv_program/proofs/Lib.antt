@@ -11,7 +11,7 @@ pub mod HighRows
 pub mod KeptEqus
 pub mod KeptLows
 pub mod LinePairLaws
-pub mod LinesWithout
+pub mod LineSearches
 pub mod ListedLines
 pub mod LocalRows
 pub mod MovedLocals

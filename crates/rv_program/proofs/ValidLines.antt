@@ -1,23 +1,24 @@
 -- Lines that an edit does not invalidate, by their briefs.
-use Rattle.std.proofs.Common.{◌≡◌, ℕ, ◌+◌, ◌-◌, ◌%◌, ◌<◌, ◌≤◌, inr, Bool, true, false, not, ◌&&◌, ◌||◌, List, [], length, map, get_or, Option, Some, None, arith, ap, sym, subst, ◌∙◌, refl}
+use Rattle.std.proofs.Common.{◌≡◌, ℕ, ◌+◌, ◌-◌, ◌<◌, ◌≤◌, inr, Bool, true, false, not, ◌&&◌, ◌||◌, List, [], length, get_or, Option, Some, None, arith, ap, sym, subst, ◌∙◌, refl}
 use Rattle.std.specs.List.{list_any}
 use Rattle.std.proofs.lemmas.Bool.{and_right, or_parts}
-use Rattle.std.proofs.lemmas.List.{get_or_default, get_or-map}
+use Rattle.std.proofs.lemmas.List.{get_or_default}
 use Rattle.rv_stmt.specs.declared.statement.Body.{Body}
 use Rattle.rv_stmt.specs.Statement.{statement_of}
 use Rattle.rv_program.specs.declared.before.Before.{Before}
 use Rattle.rv_program.specs.declared.brief.Brief.{Brief}
-use Rattle.rv_program.specs.declared.groups.Groups.{Groups}
-use Rattle.rv_program.specs.declared.groups.Kind.{Kind}
-use Rattle.rv_program.specs.declared.groups.Kind.TheVariants.{Addressed, Uncompared}
+use Rattle.rv_program.specs.declared.mask.Kind.{Kind}
+use Rattle.rv_program.specs.declared.mask.Mask.{Mask}
+use Rattle.rv_program.specs.declared.mask.Kind.TheVariants.{Addressed, Uncompared}
 use Rattle.rv_program.specs.declared.text_rows.TextRows.{TextRows}
 use Rattle.rv_program.specs.internal.Before.{IsBefore, IsAfter, AreStill, base_before, lines_before, edit_on}
-use Rattle.rv_program.specs.internal.Briefs.{brief_of, groups_on}
+use Rattle.rv_program.specs.internal.Briefs.{brief_of}
 use Rattle.rv_program.specs.Changes.{differs_in_name, differs_in_place, is_invalidated, is_due}
-use Rattle.rv_program.specs.internal.Differing.{HasDiffering, HasLows, HaveSameLows, HasDueGroups}
+use Rattle.rv_program.specs.internal.Differing.{HasDiffering, HasLows, HaveSameLows, HasDueMask}
 use Rattle.rv_program.specs.Edits.{line_before_edit, place_of_edit}
-use Rattle.rv_program.specs.internal.Groups.{no_groups, has_group, kind_bit, has_kind, SharesNone}
-use Rattle.rv_program.specs.internal.LinesWithout.{is_of_kind, AreOthers}
+use Rattle.rv_program.specs.internal.LineSearch.{LineLacks, AreUnwanted}
+use Rattle.rv_program.specs.internal.LinesWithout.{is_of_kind}
+use Rattle.rv_program.specs.internal.Masks.{has_name, has_kind}
 use Rattle.rv_program.specs.internal.NameSets.{Marks, brief_of_names, has_bucket, may_have, IsOutside}
 use Rattle.rv_program.specs.Program.{Program, program_of, statement_at, body_at}
 use Rattle.rv_program.specs.internal.TextRows.{program_in}
@@ -26,8 +27,7 @@ use Rattle.rv_program.proofs.DifferingNames.{differing-on}
 use Rattle.rv_program.proofs.DueLines.{due-valid}
 use Rattle.rv_program.proofs.KeptLows.{kept-low}
 use Rattle.rv_program.proofs.LinePairLaws.{same-by_brief, invalidated-by_uses}
-use Rattle.rv_program.specs.lemmas.GroupLaws.{kind-below}
-use Rattle.rv_program.specs.lemmas.LineGroups.{count-groups, kind-on, unused-group}
+use Rattle.rv_program.specs.lemmas.LineMasks.{unwanted-unused, unwanted-kind}
 use Rattle.rv_program.specs.lemmas.LocalLines.{statement-of-line}
 use Rattle.rv_program.specs.lemmas.LowLines.{nothing-left}
 use Rattle.rv_program.specs.lemmas.NameSetLaws.{none-passes}
@@ -66,18 +66,18 @@ module _ (before : Before) (after : TextRows) (line : ℕ) (is : IsBefore before
           invalidated-by_uses before after line stood is is_after first last stands
           ∙ same-by_brief (base_before before) old new line stood body names unmoved compared_body
 
-  -- a line that stayed, and is in none of the groups of those that may be due
-  pub not_due-by_groups : (lows : Option Marks) → HasLows before after lows → (text : List ℕ) → statement_at (program_in after) line ≡ statement_of text → (still : Bool) (wanted : Groups) → HasDueGroups set lows still wanted → SharesNone wanted (groups_on text) → (still ≡ true → AreStill before after) → (line_before_edit (edit_on before) line ≡ None → ⊥) → is_due (base_before before) (lines_before before) (edit_on before) line ≡ false
-  not_due-by_groups lows has_lows text statement still wanted due apart unmoved stays = by_low brief.low refl
+  -- a line that stayed, and has nothing of the mask of those that may be due
+  pub not_due-by_mask : (lows : Option Marks) → HasLows before after lows → (text : List ℕ) → statement_at (program_in after) line ≡ statement_of text → (still : Bool) (wanted : Mask) → HasDueMask set lows still wanted → LineLacks wanted text → (still ≡ true → AreStill before after) → (line_before_edit (edit_on before) line ≡ None → ⊥) → is_due (base_before before) (lines_before before) (edit_on before) line ≡ false
+  not_due-by_mask lows has_lows text statement still wanted due apart unmoved stays = by_low brief.low refl
     where
       is_brief : brief ≡ brief_of (statement_of text)
       is_brief = of_line ∙ ap brief_of statement
 
-      unused : (names : Marks) → ((bucket : ℕ) → has_bucket names bucket ≡ true → has_group wanted bucket ≡ true) → IsOutside brief.names names
-      unused names groups bucket has = ap (λ b. may_have b.names bucket) is_brief ∙ unused-group text bucket (apart (bucket % 59) (omega arith) (groups bucket has))
+      unused : (names : Marks) → ((bucket : ℕ) → has_bucket names bucket ≡ true → has_name wanted bucket ≡ true) → IsOutside brief.names names
+      unused names masked bucket has = ap (λ b. may_have b.names bucket) is_brief ∙ unwanted-unused text wanted apart bucket (masked bucket has)
 
       without : (kind : Kind) → has_kind wanted kind ≡ true → is_of_kind kind (statement_of text).body ≡ false
-      without kind is = sym (kind-on text kind) ∙ apart (kind_bit kind) (kind-below kind) is
+      without kind is = unwanted-kind text wanted apart kind is
 
       at : (b : Bool) → still ≡ b → (stood : ℕ) → line_before_edit (edit_on before) line ≡ Some stood → (brief.address && differs_in_place (base_before before) (program_in before.symbols.text) (program_in after) line stood) ≡ false
       at false moved stood stands =
@@ -98,15 +98,15 @@ module _ (before : Before) (after : TextRows) (line : ℕ) (is : IsBefore before
           let valid = valid-by_brief stays compared (unused set due.names) (at still refl) in
           sym (due-valid (base_before before) (lines_before before) (edit_on before) line is.allowed first (subst (λ ls. line ≤ length ls) is_after.lines last) valid)
 
--- Lines in none of the groups of those that may be due
+-- Lines that have nothing of the mask of those that may be due
 
-module _ (before : Before) (after : TextRows) (lines : List (List ℕ)) (groups : List Groups) (still : Bool) (wanted : Groups) (set : Marks) (lows : Option Marks) (is : IsBefore before) (is_after : IsAfter before after) (column : lines ≡ after.lines.now) (are : groups ≡ map groups_on lines) (unmoved : still ≡ true → AreStill before after) (has : HasDiffering (base_before before) (lines_before before) (edit_on before) set) (has_lows : HasLows before after lows) (due : HasDueGroups set lows still wanted) where
+module _ (before : Before) (after : TextRows) (lines : List (List ℕ)) (still : Bool) (wanted : Mask) (set : Marks) (lows : Option Marks) (is : IsBefore before) (is_after : IsAfter before after) (column : lines ≡ after.lines.now) (unmoved : still ≡ true → AreStill before after) (has : HasDiffering (base_before before) (lines_before before) (edit_on before) set) (has_lows : HasLows before after lows) (due : HasDueMask set lows still wanted) where
   -- none of them is due, but for the one that the edit puts in
-  pub due-apart : (i j : ℕ) → j ≤ length groups → AreOthers groups wanted i j → ((k : ℕ) → i ≤ k → k < j → k + 1 ≡ place_of_edit (edit_on before) → ⊥) → (line : ℕ) → i < line → line ≤ j → is_due (base_before before) (lines_before before) (edit_on before) line ≡ false
+  pub due-apart : (i j : ℕ) → j ≤ length lines → AreUnwanted wanted lines i j → ((k : ℕ) → i ≤ k → k < j → k + 1 ≡ place_of_edit (edit_on before) → ⊥) → (line : ℕ) → i < line → line ≤ j → is_due (base_before before) (lines_before before) (edit_on before) line ≡ false
   due-apart i j last others apart line past within =
       let k = line - 1 in
       let next : k + 1 ≡ line = omega (arith, past) in
-      let few : k < length lines = omega (arith, past, within, last, count-groups lines groups are) in
+      let few : k < length lines = omega (arith, past, within, last) in
       let text = get_or lines k [] in
       let first : 1 ≤ line = omega (arith, past) in
       let inside : line ≤ length after.lines.now = omega (arith, few, ap length column, next) in
@@ -114,7 +114,6 @@ module _ (before : Before) (after : TextRows) (lines : List (List ℕ)) (groups 
       ap (λ ls. statement_at (program_of ls) line) (sym column)
       ∙ ap (statement_at (program_of lines)) (sym next)
       ∙ statement-of-line lines k text few (get_or_default lines k [] text few) in
-      let there : get_or groups k no_groups ≡ groups_on text = ap (λ gs. get_or gs k no_groups) are ∙ get_or-map groups_on lines k [] no_groups few in
-      not_due-by_groups before after line is is_after first inside set has (brief_of (statement_at (program_in after) line)) refl lows has_lows text statement still wanted due
-      (subst (SharesNone wanted) there (others k (omega (arith, past)) (omega (arith, past, within)))) unmoved
+      not_due-by_mask before after line is is_after first inside set has (brief_of (statement_at (program_in after) line)) refl lows has_lows text statement still wanted due
+      (others k (omega (arith, past)) (omega (arith, past, within))) unmoved
       (λ new. apart k (omega (arith, past)) (omega (arith, past, within)) (next ∙ new-place (edit_on before) line new))

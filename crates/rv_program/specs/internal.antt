@@ -2,6 +2,7 @@
 pub mod Before
 pub mod Briefs
 pub mod Compared
+pub mod DefinedNames
 pub mod Defining
 pub mod Differing
 pub mod EditedRows
@@ -15,11 +16,13 @@ pub mod KeptEqus
 pub mod LineConstants
 pub mod LineNames
 pub mod LinePairs
+pub mod LineSearch
 pub mod LineSums
 pub mod Lines
 pub mod LinesAhead
 pub mod LinesWithout
 pub mod Locals
+pub mod Masks
 pub mod MovedDefinitions
 pub mod MovedLocals
 pub mod NameSets

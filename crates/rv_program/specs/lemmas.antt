@@ -13,12 +13,13 @@ pub mod GroupLaws
 pub mod ItemLaws
 pub mod KeptLines
 pub mod KeptShapes
-pub mod LineGroups
+pub mod LineMasks
 pub mod LineNameLaws
 pub mod LineRows
 pub mod Lists
 pub mod LocalLines
 pub mod LowLines
+pub mod MaskLaws
 pub mod MovedDefinitionLaws
 pub mod NameRows
 pub mod NameSetLaws

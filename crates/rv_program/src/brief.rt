@@ -1,17 +1,18 @@
 //! What lines have to do with other lines, in brief.
 
-ghost use Rattle.std.specs.Prelude.{◌≡◌, ◌&&◌, ◌||◌, not};
+ghost use Rattle.std.specs.Prelude.{◌≡◌, ◌&&◌, ◌||◌, not, IsTrue};
 ghost use Rattle.std.specs.Option.{is_some};
-ghost use Rattle.rv_program.specs.internal.Briefs.{brief_of, groups_of_brief};
+ghost use Rattle.rv_program.specs.internal.Briefs.{brief_of, is_brief_of, mask_of_brief};
 ghost use Rattle.rv_program.specs.internal.HighSymbols.{high_symbol_of};
 ghost use Rattle.rv_program.specs.Jumps.{target_of};
 ghost use Rattle.rv_program.specs.Uses.{uses_local_label, uses_paired_high, is_equ};
 
-use crate::groups::{Groups, Kind};
+use crate::defined_names::DefinedNames;
 use crate::highs::{high_symbol, pcrel_high};
 use crate::jumps::target;
 use crate::locals::has_local_labels;
 use crate::lows::low_symbol;
+use crate::mask::{Kind, Mask};
 use crate::used_names::UsedNames;
 use crate::uses::{
     brief_names, is_equ, is_sized, uses_address, uses_local_label, uses_paired_high, uses_symbols,
@@ -36,6 +37,8 @@ pub struct Brief {
     pub symbols: bool,
     /// The symbols that it uses, and maybe others.
     pub names: UsedNames,
+    /// Those that it defines, and maybe others.
+    pub defined: DefinedNames,
     /// It uses its own address.
     pub address: bool,
     /// It uses the address of one label, counted from its own, and nothing else: it goes there, or is `auipc` with `%pcrel_hi` of a symbol.
@@ -44,6 +47,8 @@ pub struct Brief {
     pub uncompared: bool,
     /// It uses `%pcrel_lo` of one symbol, and nothing else.
     pub low: bool,
+    /// What it gives follows from the line alone: it uses no symbol, not its own address, and nothing that is not compared.
+    pub alone: bool,
 }
 
 impl Brief {
@@ -64,10 +69,12 @@ impl Brief {
             sized: is_sized(body),
             symbols,
             names: brief_names(body),
+            defined: DefinedNames::of(stmt),
             address,
             relative: is_relative(body),
             uncompared,
             low,
+            alone: !(symbols || address || uncompared),
         }
     }
 
@@ -92,12 +99,43 @@ impl Brief {
         self.uncompared && !self.low
     }
 
-    /// The groups that the line is in.
-    pub fn groups(&self) -> Groups
-        ensures { result ≡ groups_of_brief self.now }
+    /// Whether it is in brief the same line: then it has the same mask.
+    pub fn is_same(&self, other: &Brief) -> bool
+        ensures { IsTrue result → mask_of_brief self.now ≡ mask_of_brief other.now }
+    {
+        if !self.names.are_same(other.names) || !self.defined.are_same(other.defined) {
+            return false;
+        }
+        if self.equ != other.equ || self.pcrel_high != other.pcrel_high {
+            return false;
+        }
+        if self.is_shaped() != other.is_shaped() || self.address != other.address {
+            return false;
+        }
+        self.is_left_uncompared() == other.is_left_uncompared()
+    }
+
+    /// Whether the line is of a kind.
+    #[inline]
+    pub fn is_of(&self, kind: Kind) -> bool
+        ensures { result ≡ is_brief_of kind self.now }
+    {
+        match kind {
+            Kind::Equ => self.equ,
+            Kind::PcrelHigh => self.pcrel_high,
+            Kind::Shaped => self.is_shaped(),
+            Kind::Addressed => self.address,
+            Kind::Uncompared => self.is_left_uncompared(),
+        }
+    }
+
+    /// The names that the line uses and defines, and its kinds.
+    pub fn mask(&self) -> Mask
+        ensures { result ≡ mask_of_brief self.now }
     {
         self.names
-            .groups()
+            .mask()
+            .with(self.defined.mask())
             .with_kind(Kind::Equ, self.equ)
             .with_kind(Kind::PcrelHigh, self.pcrel_high)
             .with_kind(Kind::Shaped, self.is_shaped())

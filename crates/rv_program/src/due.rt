@@ -3,13 +3,13 @@
 ghost use Rattle.std.specs.Prelude.{◌≡◌, ◌≤◌, ◌<◌, ◌+◌, ◌-◌, ◌^◌, ℕ, not, true, false, Some, None, length, map, IfOk, IsTrue};
 ghost use Rattle.rv_stmt.specs.declared.statement.Body.TheVariants.{Equ as EquBody};
 ghost use Rattle.rv_program.specs.internal.Before.{IsBefore, IsAfter, AreStill, base_before, lines_before, edit_on};
-ghost use Rattle.rv_program.specs.internal.Briefs.{brief_of, groups_on};
+ghost use Rattle.rv_program.specs.internal.Briefs.{brief_of};
 ghost use Rattle.rv_program.specs.Changes.{is_reencoded, is_due};
 ghost use Rattle.rv_program.specs.Codes.{values_of_body};
 ghost use Rattle.rv_program.specs.internal.Compared.{IsCompared, AreCompared};
 ghost use Rattle.rv_program.specs.Counted.{counts_of};
-ghost use Rattle.rv_program.specs.internal.Differing.{HasDiffering, HasLows, HaveSameLows, HasDueGroups};
-ghost use Rattle.rv_program.specs.internal.LinesWithout.{AreOthers};
+ghost use Rattle.rv_program.specs.internal.Differing.{HasDiffering, HasLows, HaveSameLows, HasDueMask};
+ghost use Rattle.rv_program.specs.internal.LineSearch.{AreUnwanted};
 ghost use Rattle.rv_program.specs.Jumps.{target_of};
 ghost use Rattle.rv_program.specs.Pairs.{low_symbol_of, is_high_alone};
 ghost use Rattle.rv_program.specs.Program.{statement_at, body_at};
@@ -21,14 +21,13 @@ ghost use Rattle.rv_program.specs.Uses.{is_equ};
 
 use crate::before::Before;
 use crate::brief::Brief;
-use crate::groups::{Groups, Kind};
 use crate::highs::upper_by;
 use crate::invalidation::{is_invalidated, may_be_invalidated};
 use crate::jumps::{differs_in_distance, differs_in_local_distance, moved_together};
-use crate::line::Line;
+use crate::line_search::{SearchPart, SearchedLines};
 use crate::line_values::symbol_value;
-use crate::lines_of_kind::lines_up_to_groups;
 use crate::lows::{differing_lows, differs_in_low};
+use crate::mask::{Kind, Mask};
 use crate::name_set::NameSet;
 use crate::pairs::high_in;
 use crate::symbol_rows::SymbolRows;
@@ -294,36 +293,48 @@ fn is_due_by_brief<C: Count>(
         && is_due(before, after, highs, differing, line, counter)
 }
 
-// The groups of the lines that may be due, but for a new one: those that use a symbol of one of the sets, or what is not compared, or their
-// own address, but that only where lines moved.
-fn due_groups(differing: &NameSet, lows: &Option<NameSet>, still: bool) -> Groups
-    ensures { HasDueGroups differing.now lows.now still result }
+// What the lines that may be due have, but for a new one: they use a symbol of one of the sets, or what is not compared, or their own address,
+// but that only where lines moved.
+fn due_mask(differing: &NameSet, lows: &Option<NameSet>, still: bool) -> Mask
+    ensures { HasDueMask differing.now lows.now still result }
 {
     let lows = match lows {
-        Some(lows) => lows.groups(),
-        None => Groups::none(),
+        Some(lows) => lows.mask(),
+        None => Mask::none(),
     };
-    Groups::together(&[differing.groups(), lows])
+    differing
+        .mask()
+        .with(lows)
         .with_kind(Kind::Uncompared, true)
         .with_kind(Kind::Addressed, !still)
 }
 
-// How many lines there are before the next one behind the first `i` that is in one of the wanted groups, or stands at the place of the edit.
-fn lines_up_to_due(groups: &[Groups], i: usize, wanted: Groups, place: u32) -> usize
-    requires within { i ≤ length groups.now }
+// How many lines there are before the next one after the first `i` that is to be looked at, or is at the place of the edit.
+#[inline(always)]
+fn lines_up_to_due(
+    searched: &SearchedLines<'_>,
+    part: &mut SearchPart,
+    i: usize,
+    wanted: Mask,
+    place: u32,
+) -> usize
+    requires within { i ≤ length searched.now }
     ensures up { i ≤ result }
-    ensures within { result ≤ length groups.now }
-    ensures passed { AreOthers groups.now wanted i result }
+    ensures within { result ≤ length searched.now }
+    ensures passed { AreUnwanted wanted searched.now i result }
     ensures apart { (k : ℕ) → i ≤ k → k < result → k + 1 ≡ place → ⊥ }
 {
-    let next = lines_up_to_groups(groups, i, wanted);
+    if part.has(i) {
+        return i;
+    }
+    let next = searched.next(part, i, wanted);
     let edited = (place as usize).saturating_sub(1);
     if i <= edited { next.min(edited) } else { next }
 }
 
 /// The lines of the text after an edit that are due, rising: the edit invalidates each of them, and all others keep their values and their
-/// shape. The text has these lines, of these groups; `highs` has what `%pcrel_lo` takes, `differing` has each symbol that differs on one of them, and `still` is only true where
-/// each line is where it was. Lines whose groups say that they are not due are gone past.
+/// shape. `searched` has the lines of the text, `highs` has what `%pcrel_lo` takes, `differing` has each symbol that differs on one of them, and
+/// `still` is only true where each line is where it was.
 ///
 /// The counter's number of expressions computed rises by one for each jump to a local label that stood in the text before: the distance of
 /// the label is computed in both texts.
@@ -337,8 +348,7 @@ pub fn due_lines<C: Count>(
     after: &SymbolRows<'_>,
     highs: &[Entry],
     differing: &NameSet,
-    lines: &[Line],
-    groups: &[Groups],
+    searched: &SearchedLines<'_>,
     still: bool,
     counter: &mut C,
 ) -> Result<Vec<u32>, AllocError>
@@ -347,8 +357,7 @@ pub fn due_lines<C: Count>(
     requires after { IsAfter before.now after.now.text }
     requires highs { AreHighsIn after.now.text highs.now }
     requires differing { HasDiffering (base_before before.now) (lines_before before.now) (edit_on before.now) differing.now }
-    requires column { lines.now ≡ after.now.text.lines.now }
-    requires groups { groups.now ≡ map groups_on lines.now }
+    requires searched { searched.now ≡ after.now.text.lines.now }
     requires still { still ≡ true → AreStill before.now after.now.text }
     requires count { C.valued_count counter.old + length after.now.text.lines.now < 2 ^ 64 }
     ensures due { IfOk result (λ row. AreDue (edited_before before.now) (length after.now.text.lines.now) row.items) }
@@ -356,10 +365,12 @@ pub fn due_lines<C: Count>(
 {
     let lows = differing_lows(alloc, before, after, highs)?;
     let lows = &lows;
-    let wanted = due_groups(differing, lows, still);
+    let wanted = due_mask(differing, lows, still);
     let place = before.edit.place();
+    let lines = searched.lines();
     let mut row = Vec::new(alloc);
-    let mut i = lines_up_to_due(groups, 0, wanted, place);
+    let mut part = SearchPart::start();
+    let mut i = lines_up_to_due(searched, &mut part, 0, wanted, place);
     'lines: while i < lines.len() {
         let line = i as u32 + 1;
         if is_due_by_brief(
@@ -374,7 +385,7 @@ pub fn due_lines<C: Count>(
         ) {
             row.push(line)?;
         }
-        i = lines_up_to_due(groups, i + 1, wanted, place);
+        i = lines_up_to_due(searched, &mut part, i + 1, wanted, place);
     }
     Ok(row)
 }

@@ -2,7 +2,6 @@
 
 ghost use Rattle.std.specs.Prelude.{◌≡◌, ◌≤◌, ◌<◌, ◌+◌, ◌^◌, ◌-◌, length, IfOk, map};
 ghost use Rattle.rv_stmt.specs.declared.statement.Body.{Body};
-ghost use Rattle.rv_program.specs.internal.Briefs.{groups_on};
 ghost use Rattle.rv_program.specs.declared.limits.TheConstants.{MAX_LINES};
 ghost use Rattle.rv_program.specs.Constants.{defined_value};
 ghost use Rattle.rv_program.specs.Program.{body_at};
@@ -12,9 +11,9 @@ ghost use Rattle.rv_program.specs.internal.Work.{equ_operands, operands_through}
 
 use crate::constants::defined_value;
 use crate::definitions::defining_equ_on;
-use crate::groups::{Groups, Kind};
 use crate::line_names::references_before;
-use crate::lines_of_kind::lines_up_to;
+use crate::line_search::{SearchPart, SearchedLines};
+use crate::mask::Kind;
 use crate::text_lines::place_on;
 use crate::text_rows::TextRows;
 use rv_expr::ValueFault;
@@ -74,17 +73,16 @@ pub fn settle_equ<C: Count>(text: &TextRows<'_>, i: usize, row: &mut Vec<Entry>,
     row[number] = value_on(text, row, line, definition, counter);
 }
 
-/// The values of the `.equ`s of a text, by the numbers of their names. `groups` are those of its lines. The counter's number of
-/// expressions computed rises by at most the operands of the `.equ`s. Fails only where there is no memory, before anything is
-/// computed. Lines without an `.equ` are gone past.
+/// The values of the `.equ`s of a text, by the numbers of their names. `searched` has its lines. The counter's number of expressions computed
+/// rises by at most the operands of the `.equ`s. Fails only where there is no memory, before anything is computed.
 pub fn equ_values<C: Count>(
     alloc: Global,
     text: &TextRows<'_>,
-    groups: &[Groups],
+    searched: &SearchedLines<'_>,
     counter: &mut C,
 ) -> Result<Vec<Entry>, AllocError>
     requires rows { AreTextRows text.now }
-    requires groups { groups.now ≡ map groups_on text.now.lines.now }
+    requires searched { searched.now ≡ text.now.lines.now }
     requires few { length text.now.lines.now ≤ MAX_LINES }
     requires count { C.valued_count counter.old ≤ 2 ^ 63 + 2 ^ 32 }
     ensures values { IfOk result (λ row. AreEquValuesIn text.now (length text.now.lines.now) row.items) }
@@ -95,10 +93,12 @@ pub fn equ_values<C: Count>(
     ensures encoded { C.encoded_count counter.new ≡ C.encoded_count counter.old }
 {
     let mut row = vec![in alloc; Err(ValueFault::LaterEqu); text.names.len()]?;
-    let mut i = lines_up_to(groups, 0, Kind::Equ);
-    while i < groups.len() {
+    let count = searched.len();
+    let mut part = SearchPart::start();
+    let mut i = searched.next_of_kind(&mut part, 0, Kind::Equ);
+    while i < count {
         settle_equ(text, i, &mut row, counter);
-        i = lines_up_to(groups, i + 1, Kind::Equ);
+        i = searched.next_of_kind(&mut part, i + 1, Kind::Equ);
     }
     Ok(row)
 }

@@ -3,7 +3,6 @@
 ghost use Rattle.std.specs.Prelude.{◌≡◌, ◌≤◌, ◌<◌, ◌+◌, ◌-◌, ◌^◌, ℕ, List, true, false, Some, length, IfOk, IfSome, IsTrue, map};
 ghost use Rattle.rv_list.specs.declared.view.DefinitionPlace.TheVariants.{Equ};
 ghost use Rattle.rv_program.specs.internal.Before.{IsBefore, IsAfter, edit_on};
-ghost use Rattle.rv_program.specs.internal.Briefs.{groups_on};
 ghost use Rattle.rv_program.specs.internal.KeptEqus.{IsSameThrough, AreValuesAfter, IsLeft};
 ghost use Rattle.rv_program.specs.internal.Rows.{number_of, IsNumber};
 ghost use Rattle.rv_program.specs.internal.TextRows.{AreTextRows, AreEquValuesIn, program_in};
@@ -15,8 +14,8 @@ ghost use Rattle.rv_program.specs.Program.{body_at};
 use crate::before::Before;
 use crate::definitions::defining_equ_on;
 use crate::equ_values::{equ_values, value_on};
-use crate::groups::{Groups, Kind};
-use crate::lines_of_kind::lines_up_to;
+use crate::line_search::{SearchPart, SearchedLines};
+use crate::mask::Kind;
 use crate::name_set::{Mark, NameSet};
 use crate::names::entry_at;
 use crate::text_lines::{brief_on, place_on, statement_on};
@@ -168,11 +167,12 @@ fn settle_after<C: Count>(
 }
 
 // Whether there is an `.equ` for each eighth name, or more: the values of fewer take less than to go over the names.
-fn are_equs_many(groups: &[Groups], names: usize) -> bool {
+fn are_equs_many(searched: &SearchedLines<'_>, names: usize) -> bool {
+    let mut part = SearchPart::start();
     let mut next = 0;
     'equs: for _ in 0..names / 8 {
-        next = lines_up_to(groups, next, Kind::Equ);
-        if next == groups.len() {
+        next = searched.next_of_kind(&mut part, next, Kind::Equ);
+        if next == searched.len() {
             return false;
         }
         next += 1;
@@ -180,21 +180,20 @@ fn are_equs_many(groups: &[Groups], names: usize) -> bool {
     true
 }
 
-/// The values of the `.equ`s of the text after an edit, by the numbers of their names. `groups` are those of its lines. An `.equ` that
-/// stood, and uses nothing that gives something else, keeps its value. The counter's number of
-/// expressions computed rises by at most the operands of the `.equ`s. Fails only where there is no memory, before anything is
-/// computed. Lines without an `.equ` are gone past.
+/// The values of the `.equ`s of the text after an edit, by the numbers of their names. `searched` has its lines. An `.equ` that stood, and
+/// uses nothing that gives something else, keeps its value. The counter's number of expressions computed rises by at most the operands of the
+/// `.equ`s. Fails only where there is no memory, before anything is computed.
 pub fn equ_values_after<C: Count>(
     alloc: Global,
     before: &Before<'_, '_>,
     text: &TextRows<'_>,
-    groups: &[Groups],
+    searched: &SearchedLines<'_>,
     counter: &mut C,
 ) -> Result<Vec<Entry>, AllocError>
     requires before { IsBefore before.now }
     requires rows { AreTextRows text.now }
     requires after { IsAfter before.now text.now }
-    requires groups { groups.now ≡ map groups_on text.now.lines.now }
+    requires searched { searched.now ≡ text.now.lines.now }
     requires count { C.valued_count counter.old ≤ 2 ^ 63 + 2 ^ 32 }
     ensures values { IfOk result (λ row. AreEquValuesIn text.now (length text.now.lines.now) row.items) }
     ensures valued { C.valued_count counter.old ≤ C.valued_count counter.new }
@@ -203,16 +202,18 @@ pub fn equ_values_after<C: Count>(
     ensures parsed { C.parsed_count counter.new ≡ C.parsed_count counter.old }
     ensures encoded { C.encoded_count counter.new ≡ C.encoded_count counter.old }
 {
-    if !are_equs_many(groups, text.names.len()) {
-        return equ_values(alloc, text, groups, counter);
+    if !are_equs_many(searched, text.names.len()) {
+        return equ_values(alloc, text, searched, counter);
     }
     let Some((mut row, mut differing)) = former_values(alloc, before, text)? else {
-        return equ_values(alloc, text, groups, counter);
+        return equ_values(alloc, text, searched, counter);
     };
-    let mut i = lines_up_to(groups, 0, Kind::Equ);
-    while i < groups.len() {
+    let count = searched.len();
+    let mut part = SearchPart::start();
+    let mut i = searched.next_of_kind(&mut part, 0, Kind::Equ);
+    while i < count {
         settle_after(before, text, i, &mut row, &mut differing, counter);
-        i = lines_up_to(groups, i + 1, Kind::Equ);
+        i = searched.next_of_kind(&mut part, i + 1, Kind::Equ);
     }
     Ok(row)
 }

@@ -1,13 +1,17 @@
 //! The first definition of a name on some lines of a text.
 
-ghost use Rattle.std.specs.Prelude.{◌≡◌, ◌≤◌, ◌<◌, ◌+◌, ◌^◌, length};
+ghost use Rattle.std.specs.Prelude.{◌≡◌, ◌≤◌, ◌<◌, ◌+◌, ◌^◌, drop, length};
 ghost use Rattle.rv_stmt.specs.LentLabels.{name_lent};
 ghost use Rattle.rv_stmt.specs.Statement.{statement_of};
 ghost use Rattle.rv_program.specs.Definitions.{defines_symbol, place_among_labels, place_in_body, place_in_statement, first_place};
 ghost use Rattle.rv_program.specs.Program.{program_of};
 
-use crate::definitions::may_define;
+use crate::definitions::{is_defined, may_define};
+use crate::limits::MAX_LINES;
 use crate::line::Line;
+use crate::line_search::{SearchPart, SearchedLines};
+use crate::mask::Mask;
+use crate::name_set::bucket_of;
 use rv_list::DefinitionPlace;
 use rv_stmt::{Body, LabelName, LabelSlice, Stmt};
 
@@ -70,19 +74,22 @@ pub fn place_on(line: &Line, number: u32, name: &[u8]) -> DefinitionPlace
     place_in_statement(line.stmt(), number, name)
 }
 
-/// Where a name is defined first on lines that are numbered from `from` on.
-pub fn first_place(mut lines: &[Line], from: u32, name: &[u8]) -> DefinitionPlace
-    requires few { from + length lines.now < 2 ^ 32 }
-    ensures { result ≡ first_place from (program_of lines.entry.now) name.now }
+/// Where a name is defined first after the first `from` lines of a text. Lines without the mask of the name are gone past.
+pub fn first_place(searched: &SearchedLines<'_>, from: usize, name: &[u8]) -> DefinitionPlace
+    requires within { from ≤ length searched.now }
+    requires few { length searched.now ≤ MAX_LINES }
+    ensures { result ≡ first_place (from + 1) (program_of (drop from searched.now)) name.now }
 {
-    let mut number = from;
-    'lines: while let [line, later @ ..] = lines {
-        let place = place_on(line, number, name);
-        if place != DefinitionPlace::Nowhere {
+    let wanted = Mask::of_bucket(bucket_of(name));
+    let lines = searched.lines();
+    let mut part = SearchPart::start();
+    let mut i = searched.next(&mut part, from, wanted);
+    'lines: while i < lines.len() {
+        let place = place_on(&lines[i], i as u32 + 1, name);
+        if is_defined(place) {
             return place;
         }
-        number += 1;
-        lines = later;
+        i = searched.next(&mut part, i + 1, wanted);
     }
     DefinitionPlace::Nowhere
 }

@@ -3,7 +3,6 @@
 ghost use Rattle.std.specs.Prelude.{◌≡◌, ◌≤◌, ◌<◌, ◌+◌, ◌^◌, ◌-◌, ◌==◌, ◌⊎◌, Err, None, true, false, length, IfOk, IfSome, IsTrue, Some, map};
 ghost use Rattle.std.specs.Option.{is_some, option_map};
 ghost use Rattle.rv_expr.specs.declared.faults.ValueFault.TheVariants.{NoPartner};
-ghost use Rattle.rv_program.specs.internal.Briefs.{groups_on};
 ghost use Rattle.rv_program.specs.declared.limits.TheConstants.{MAX_LINES};
 ghost use Rattle.rv_program.specs.internal.Before.{IsBefore, IsAfter, base_before, lines_before, edit_on};
 ghost use Rattle.rv_program.specs.Changes.{is_invalidated};
@@ -20,11 +19,11 @@ ghost use Rattle.rv_program.specs.internal.TextRows.{AreTextRows, AreEquValuesIn
 ghost use Rattle.rv_program.specs.internal.Work.{high_operands, operands_through, work};
 
 use crate::before::Before;
-use crate::groups::{Groups, Kind};
 use crate::invalidation::{is_invalidated, may_be_invalidated};
 use crate::jumps::moved_together;
 use crate::line_names::references_at;
-use crate::lines_of_kind::lines_up_to;
+use crate::line_search::{SearchPart, SearchedLines};
+use crate::mask::Kind;
 use crate::name_set::NameSet;
 use crate::pairs::{high_in, pair_highs};
 use crate::room::row_of;
@@ -290,14 +289,14 @@ fn own_highs<C: Count>(
     before: &Before<'_, '_>,
     after: &SymbolRows<'_>,
     differing: &NameSet,
-    groups: &[Groups],
+    searched: &SearchedLines<'_>,
     counter: &mut C,
 ) -> Result<Vec<Entry>, AllocError>
     requires before { IsBefore before.now }
     requires rows { AreSymbolRows after.now }
     requires after { IsAfter before.now after.now.text }
     requires differing { HasDiffering (base_before before.now) (lines_before before.now) (edit_on before.now) differing.now }
-    requires groups { groups.now ≡ map groups_on after.now.text.lines.now }
+    requires searched { searched.now ≡ after.now.text.lines.now }
     requires valued { C.valued_count counter.old + length after.now.text.lines.now < 2 ^ 64 }
     ensures highs { IfOk result (λ row. AreOwnHighs after.now.text.base (program_in after.now.text) row.items) }
     ensures many { IfOk result (λ row. (length row.items ≡ 0) ⊎ (length row.items ≡ length after.now.text.lines.now)) }
@@ -307,20 +306,22 @@ fn own_highs<C: Count>(
     ensures parsed { C.parsed_count counter.new ≡ C.parsed_count counter.old }
     ensures encoded { C.encoded_count counter.new ≡ C.encoded_count counter.old }
 {
-    let mut i = lines_up_to(groups, 0, Kind::PcrelHigh);
-    if i >= groups.len() {
+    let count = searched.len();
+    let mut part = SearchPart::start();
+    let mut i = searched.next_of_kind(&mut part, 0, Kind::PcrelHigh);
+    if i >= count {
         return Ok(Vec::new(alloc));
     }
-    let mut row = row_of(alloc, Err(ValueFault::NoPartner), groups.len())?;
-    while i < groups.len() {
+    let mut row = row_of(alloc, Err(ValueFault::NoPartner), count)?;
+    while i < count {
         row[i] = high_after(before, after, differing, i as u32 + 1, counter);
-        i = lines_up_to(groups, i + 1, Kind::PcrelHigh);
+        i = searched.next_of_kind(&mut part, i + 1, Kind::PcrelHigh);
     }
     Ok(row)
 }
 
-/// What `%pcrel_lo` of a label on each line of the text after an edit takes, the lines of which have these groups. Where no line has a high
-/// half, the row is empty. `differing` has each symbol that differs on one of the lines.
+/// What `%pcrel_lo` of a label on each line of the text after an edit takes, whose lines `searched` has. Where no line has a high half, the row is
+/// empty. `differing` has each symbol that differs on one of the lines.
 ///
 /// The counter's number of expressions computed rises by at most the high halves on the lines that the edit invalidates,
 /// whatever the outcome.
@@ -333,14 +334,14 @@ pub fn highs<C: Count>(
     before: &Before<'_, '_>,
     after: &SymbolRows<'_>,
     differing: &NameSet,
-    groups: &[Groups],
+    searched: &SearchedLines<'_>,
     counter: &mut C,
 ) -> Result<Vec<Entry>, AllocError>
     requires before { IsBefore before.now }
     requires rows { AreSymbolRows after.now }
     requires after { IsAfter before.now after.now.text }
     requires differing { HasDiffering (base_before before.now) (lines_before before.now) (edit_on before.now) differing.now }
-    requires groups { groups.now ≡ map groups_on after.now.text.lines.now }
+    requires searched { searched.now ≡ after.now.text.lines.now }
     requires valued { C.valued_count counter.old + length after.now.text.lines.now < 2 ^ 64 }
     ensures highs { IfOk result (λ row. AreHighs after.now.text.base (program_in after.now.text) row.items) }
     ensures least { C.valued_count counter.old ≤ C.valued_count counter.new }
@@ -349,7 +350,7 @@ pub fn highs<C: Count>(
     ensures parsed { C.parsed_count counter.new ≡ C.parsed_count counter.old }
     ensures encoded { C.encoded_count counter.new ≡ C.encoded_count counter.old }
 {
-    let mut row = own_highs(alloc, before, after, differing, groups, counter)?;
+    let mut row = own_highs(alloc, before, after, differing, searched, counter)?;
     if row.is_empty() {
         return Ok(row);
     }
@@ -384,11 +385,11 @@ fn own_high<C: Count>(rows: &SymbolRows<'_>, line: u32, counter: &mut C) -> Entr
 fn all_own_highs<C: Count>(
     alloc: Global,
     rows: &SymbolRows<'_>,
-    groups: &[Groups],
+    searched: &SearchedLines<'_>,
     counter: &mut C,
 ) -> Result<Vec<Entry>, AllocError>
     requires rows { AreSymbolRows rows.now }
-    requires groups { groups.now ≡ map groups_on rows.now.text.lines.now }
+    requires searched { searched.now ≡ rows.now.text.lines.now }
     requires few { length rows.now.text.lines.now ≤ MAX_LINES }
     requires valued { C.valued_count counter.old + length rows.now.text.lines.now < 2 ^ 64 }
     ensures highs { IfOk result (λ row. AreOwnHighs rows.now.text.base (program_in rows.now.text) row.items) }
@@ -398,21 +399,22 @@ fn all_own_highs<C: Count>(
     ensures parsed { C.parsed_count counter.new ≡ C.parsed_count counter.old }
     ensures encoded { C.encoded_count counter.new ≡ C.encoded_count counter.old }
 {
-    let mut i = lines_up_to(groups, 0, Kind::PcrelHigh);
-    if i >= groups.len() {
+    let count = searched.len();
+    let mut part = SearchPart::start();
+    let mut i = searched.next_of_kind(&mut part, 0, Kind::PcrelHigh);
+    if i >= count {
         return Ok(Vec::new(alloc));
     }
     let none = Err(ValueFault::NoPartner);
-    let mut row = row_of(alloc, none, groups.len())?;
-    while i < groups.len() {
+    let mut row = row_of(alloc, none, count)?;
+    while i < count {
         row[i] = own_high(rows, i as u32 + 1, counter);
-        i = lines_up_to(groups, i + 1, Kind::PcrelHigh);
+        i = searched.next_of_kind(&mut part, i + 1, Kind::PcrelHigh);
     }
     Ok(row)
 }
 
-/// What `%pcrel_lo` of a label on each line of a text takes, the lines of which have these groups. Where no line has a high half, the row is
-/// empty.
+/// What `%pcrel_lo` of a label on each line of a text takes, whose lines `searched` has. Where no line has a high half, the row is empty.
 ///
 /// The counter's number of expressions computed rises by at most the high halves, whatever the outcome.
 ///
@@ -422,11 +424,11 @@ fn all_own_highs<C: Count>(
 pub fn all_highs<C: Count>(
     alloc: Global,
     rows: &SymbolRows<'_>,
-    groups: &[Groups],
+    searched: &SearchedLines<'_>,
     counter: &mut C,
 ) -> Result<Vec<Entry>, AllocError>
     requires rows { AreSymbolRows rows.now }
-    requires groups { groups.now ≡ map groups_on rows.now.text.lines.now }
+    requires searched { searched.now ≡ rows.now.text.lines.now }
     requires few { length rows.now.text.lines.now ≤ MAX_LINES }
     requires valued { C.valued_count counter.old + length rows.now.text.lines.now < 2 ^ 64 }
     ensures highs { IfOk result (λ row. AreHighs rows.now.text.base (program_in rows.now.text) row.items) }
@@ -435,7 +437,7 @@ pub fn all_highs<C: Count>(
     ensures parsed { C.parsed_count counter.new ≡ C.parsed_count counter.old }
     ensures encoded { C.encoded_count counter.new ≡ C.encoded_count counter.old }
 {
-    let mut row = all_own_highs(alloc, rows, groups, counter)?;
+    let mut row = all_own_highs(alloc, rows, searched, counter)?;
     if row.is_empty() {
         return Ok(row);
     }

@@ -122,6 +122,9 @@ pub fn may_be_invalidated(
     ensures { result ≡ false → is_invalidated (base_before before.now) (lines_before before.now) (edit_on before.now) line ≡ false }
 {
     let may_be_new = line == before.edit.place();
+    if brief.alone {
+        return may_be_new;
+    }
     if may_be_new || brief.uncompared || brief.names.meets(differing) {
         return true;
     }

@@ -37,7 +37,14 @@ impl Summed for Item {
     ghost sum_of = { line_sum_of };
 
     fn sum(&self) -> LineSum {
-        LineSum { count: 1 }
+        LineSum {
+            count: 1,
+            mask: self.line.brief().mask(),
+        }
+    }
+
+    fn has_sum_of(&self, other: &Item) -> bool {
+        self.line.brief().is_same(&other.line.brief())
     }
 }
 

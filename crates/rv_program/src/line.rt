@@ -2,12 +2,11 @@
 
 ghost use Rattle.std.specs.Prelude.{◌≡◌, ◌≤◌, ◌+◌, ◌^◌, true, length, IfOk, IfErr};
 ghost use Rattle.rv_stmt.specs.Statement.{statement_of, data_size_of};
-ghost use Rattle.rv_program.specs.internal.Briefs.{brief_of, groups_on};
+ghost use Rattle.rv_program.specs.internal.Briefs.{brief_of};
 ghost use Rattle.rv_program.specs.Text.{is_line};
 
 use crate::brief::Brief;
 use crate::edit_error::EditError;
-use crate::groups::Groups;
 use rv_stmt::{Stmt, data_are_few, read_line};
 use rv_text::Count;
 use std::alloc::{AllocError, Global};
@@ -107,13 +106,6 @@ impl Line {
         ensures { result ≡ brief_of (statement_of self.now) }
     {
         self.brief
-    }
-
-    /// The groups that it is in.
-    pub fn groups(&self) -> Groups
-        ensures { result ≡ groups_on self.now }
-    {
-        self.brief.groups()
     }
 
     /// Its statement.

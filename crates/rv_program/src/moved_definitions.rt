@@ -17,6 +17,7 @@ use crate::edit::LineEdit;
 use crate::first_definition::first_place;
 use crate::limits::MAX_LINES;
 use crate::line::Line;
+use crate::line_search::SearchedLines;
 use crate::lines::Lines;
 use crate::names::NameTable;
 use rv_list::DefinitionPlace;
@@ -68,55 +69,53 @@ fn moved_place(edit: &LineEdit<'_>, place: DefinitionPlace) -> DefinitionPlace
     }
 }
 
-// Where a name is defined first from the place of an edit on; `lines` are those after the edit.
-fn found_after(edit: &LineEdit<'_>, lines: &[Line], name: &[u8]) -> DefinitionPlace
+// Where a name is defined first from the place of an edit on; `searched` has the lines after the edit.
+fn found_after(edit: &LineEdit<'_>, searched: &SearchedLines<'_>, name: &[u8]) -> DefinitionPlace
     requires first { 1 ≤ place_of_edit (edit_of edit.now) }
-    requires within { place_of_edit (edit_of edit.now) - 1 ≤ length lines.now }
-    requires few { length lines.now ≤ MAX_LINES }
-    ensures { result ≡ found_after (edit_of edit.now) lines.now name.now }
+    requires within { place_of_edit (edit_of edit.now) - 1 ≤ length searched.now }
+    requires few { length searched.now ≤ MAX_LINES }
+    ensures { result ≡ found_after (edit_of edit.now) searched.now name.now }
 {
-    let place = edit.place();
-    let (_, from) = lines.split_at(place as usize - 1);
-    first_place(from, place, name)
+    first_place(searched, edit.place() as usize - 1, name)
 }
 
 // Where the name of a number is defined that was defined at `place`, but for what the line defines that the edit puts in.
 fn place_after(
     edit: &LineEdit<'_>,
-    lines: &[Line],
+    searched: &SearchedLines<'_>,
     names: &NameTable,
     number: usize,
     place: DefinitionPlace,
 ) -> DefinitionPlace
     requires first { 1 ≤ place_of_edit (edit_of edit.now) }
-    requires within { place_of_edit (edit_of edit.now) - 1 ≤ length lines.now }
-    requires few { length lines.now ≤ MAX_LINES }
+    requires within { place_of_edit (edit_of edit.now) - 1 ≤ length searched.now }
+    requires few { length searched.now ≤ MAX_LINES }
     requires named { number < length names.now }
-    ensures { (name : List ℕ) → number_of names.now name ≡ Some number → result ≡ place_after (edit_of edit.now) (found_after (edit_of edit.now) lines.now name) place }
+    ensures { (name : List ℕ) → number_of names.now name ≡ Some number → result ≡ place_after (edit_of edit.now) (found_after (edit_of edit.now) searched.now name) place }
 {
     if takes_out(edit, place) {
-        found_after(edit, lines, names.name(number))
+        found_after(edit, searched, names.name(number))
     } else {
         moved_place(edit, place)
     }
 }
 
-/// Where all names of a row are defined after an edit that leaves these lines, but for what the line defines that it puts in.
+/// Where all names of a row are defined after an edit that leaves the lines of `searched`, but for what the line defines that it puts in.
 pub fn keep_places(
     edit: &LineEdit<'_>,
-    lines: &[Line],
+    searched: &SearchedLines<'_>,
     names: &NameTable,
     row: &mut Vec<DefinitionPlace>,
 )
     requires first { 1 ≤ place_of_edit (edit_of edit.now) }
-    requires within { place_of_edit (edit_of edit.now) - 1 ≤ length lines.now }
-    requires few { length lines.now ≤ MAX_LINES }
+    requires within { place_of_edit (edit_of edit.now) - 1 ≤ length searched.now }
+    requires few { length searched.now ≤ MAX_LINES }
     requires named { length row.old.items ≤ length names.now }
-    ensures row { in_row names.now row.new.items Nowhere ≡ kept_after (edit_of edit.now) lines.now (in_row names.now row.old.items Nowhere) }
+    ensures row { in_row names.now row.new.items Nowhere ≡ kept_after (edit_of edit.now) searched.now (in_row names.now row.old.items Nowhere) }
     ensures as_many { length row.new.items ≡ length row.old.items }
 {
     for number in 0..row.len() {
-        row[number] = place_after(edit, lines, names, number, row[number]);
+        row[number] = place_after(edit, searched, names, number, row[number]);
     }
 }
 
@@ -171,20 +170,20 @@ pub fn definitions_after(
     alloc: Global,
     row: &[DefinitionPlace],
     old: &Lines<'_>,
-    lines: &[Line],
+    searched: &SearchedLines<'_>,
     edit: &LineEdit<'_>,
     names: &mut NameTable,
 ) -> Result<Vec<DefinitionPlace>, AllocError>
     requires row { AreDefinitions (program_of old.now) names.old row.now }
     requires old_few { length old.now ≤ MAX_LINES }
     requires allowed { refusal_of old.now (edit_of edit.now) ≡ None }
-    requires edited { lines.now ≡ lines_after old.now (edit_of edit.now) }
-    requires few { length lines.now ≤ MAX_LINES }
-    ensures definitions { IfOk result (λ row'. AreDefinitions (program_of lines.now) names.new row'.items) }
+    requires edited { searched.now ≡ lines_after old.now (edit_of edit.now) }
+    requires few { length searched.now ≤ MAX_LINES }
+    ensures definitions { IfOk result (λ row'. AreDefinitions (program_of searched.now) names.new row'.items) }
     ensures names { Grows names.old names.new }
 {
     let mut after = Vec::from_slice(alloc, row)?;
-    keep_places(edit, lines, names, &mut after);
-    define_put_in(alloc, old, lines, edit, names, &mut after)?;
+    keep_places(edit, searched, names, &mut after);
+    define_put_in(alloc, old, searched.lines(), edit, names, &mut after)?;
     Ok(after)
 }

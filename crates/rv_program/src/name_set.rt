@@ -4,8 +4,10 @@ ghost use Rattle.std.specs.Prelude.{◌≡◌, ◌<◌, ℕ, IfOk, IsTrue, true,
 ghost use Rattle.rv_program.specs.declared.name_set.Mark.TheVariants.{Unknown};
 ghost use Rattle.rv_program.specs.internal.NameSets.{bucket_of, differs, IsBelow, HasMoved, mark_of, has_bucket};
 ghost use Rattle.rv_program.specs.internal.Groups.{has_group};
+ghost use Rattle.rv_program.specs.internal.Masks.{has_name};
 
 use crate::groups::Groups;
+use crate::mask::Mask;
 use std::alloc::{AllocError, Global};
 use std::marker::Model;
 
@@ -86,8 +88,8 @@ impl Mark {
 pub struct NameSet {
     // How far the lines behind the edit moved.
     shift: i64,
-    // The groups of the buckets of which a name may differ, and maybe others.
-    groups: Groups,
+    // The mask of the buckets of which a name may differ, and maybe others.
+    mask: Mask,
     marks: Vec<Mark>,
 }
 
@@ -96,20 +98,20 @@ impl Drop for NameSet {
     fn drop(self) {
         let NameSet {
             shift: _,
-            groups: _,
+            mask: _,
             marks: _,
         } = self;
     }
 }
 
 impl Model for NameSet {
-    ghost use Rattle.rv_program.specs.internal.NameSets.{Marks, IsSized, AreGrouped};
+    ghost use Rattle.rv_program.specs.internal.NameSets.{Marks, IsSized, AreMasked};
 
     ghost Value = { Marks };
 
     ghost view = { λ s. record { shift = s.shift; marks = s.marks.items } };
 
-    ghost invariant = { λ s. IsSized s.marks.items × AreGrouped s.marks.items s.groups };
+    ghost invariant = { λ s. IsSized s.marks.items × AreMasked s.marks.items s.mask };
 }
 
 impl NameSet {
@@ -121,7 +123,7 @@ impl NameSet {
         let marks = vec![in alloc; Mark::Unknown; BUCKETS]?;
         Ok(NameSet {
             shift,
-            groups: Groups::none(),
+            mask: Mask::none(),
             marks,
         })
     }
@@ -144,7 +146,7 @@ impl NameSet {
         let mark = self.marks[place].with(mark);
         self.marks[place] = mark;
         if mark.differs() {
-            self.groups = self.groups.with(bucket);
+            self.mask = self.mask.with(Mask::of_bucket(bucket));
         }
     }
 
@@ -167,19 +169,18 @@ impl NameSet {
         self.mark(bucket).differs()
     }
 
-    /// The groups of its names, and maybe others.
-    pub fn groups(&self) -> Groups
-        ensures { (bucket : ℕ) → has_bucket self.now bucket ≡ true → has_group result bucket ≡ true }
+    /// The mask of its names, and maybe others.
+    pub fn mask(&self) -> Mask
+        ensures { (bucket : ℕ) → has_bucket self.now bucket ≡ true → has_name result bucket ≡ true }
     {
-        self.groups
+        self.mask
     }
 
     /// Whether it may have names of these groups.
-    #[inline]
     pub fn meets(&self, groups: Groups) -> bool
         ensures { result ≡ false → (bucket : ℕ) → has_bucket self.now bucket ≡ true → has_group groups bucket ≡ false }
     {
-        self.groups.meets(groups)
+        !Mask::of_remainders(groups.bits()).lacks(self.mask)
     }
 
     /// Whether each name of a bucket that gives an address moved as far as the lines behind the edit.

@@ -1,9 +1,10 @@
 //! The names that a line uses, in brief.
 
 ghost use Rattle.std.specs.Prelude.{◌≡◌, ◌==◌, false, IsTrue};
-ghost use Rattle.rv_program.specs.internal.NameSets.{no_names, with_name, with_group_of, groups_used, is_bucket, IsOutside, IsMoved, may_have};
+ghost use Rattle.rv_program.specs.internal.NameSets.{no_names, with_name, mask_of_one, mask_of_used, is_bucket, IsOutside, IsMoved, may_have};
 
 use crate::groups::Groups;
+use crate::mask::Mask;
 use crate::name_set::{NameSet, bucket_of};
 
 /// The names that a line uses: the buckets of one or two, or the groups of the buckets of more.
@@ -34,13 +35,13 @@ fn has_names(set: &NameSet, bucket: Option<u16>) -> bool
     }
 }
 
-// These groups and that of a bucket, if it is one.
-fn with_group_of(groups: Groups, bucket: Option<u16>) -> Groups
-    ensures { result ≡ with_group_of groups bucket }
+// The mask of a bucket, if it is one.
+fn mask_of_one(bucket: Option<u16>) -> Mask
+    ensures { result ≡ mask_of_one bucket }
 {
     match bucket {
-        Some(bucket) => groups.with(bucket),
-        None => groups,
+        Some(bucket) => Mask::of_bucket(bucket),
+        None => Mask::none(),
     }
 }
 
@@ -67,15 +68,26 @@ impl UsedNames {
         }
     }
 
-    /// The groups of their buckets.
-    pub fn groups(self) -> Groups
-        ensures { result ≡ groups_used self }
+    /// The mask of their buckets.
+    pub fn mask(self) -> Mask
+        ensures { result ≡ mask_of_used self }
     {
         match self {
-            UsedNames::Few(first, second) => {
-                with_group_of(with_group_of(Groups::none(), first), second)
+            UsedNames::Few(first, second) => mask_of_one(first).with(mask_of_one(second)),
+            UsedNames::Many(groups) => Mask::of_remainders(groups.bits()),
+        }
+    }
+
+    /// Whether both are the same.
+    pub fn are_same(self, other: UsedNames) -> bool
+        ensures { IsTrue result → self ≡ other }
+    {
+        match (self, other) {
+            (UsedNames::Few(first, second), UsedNames::Few(third, fourth)) => {
+                first == third && second == fourth
             }
-            UsedNames::Many(groups) => groups,
+            (UsedNames::Many(groups), UsedNames::Many(others)) => groups.are_same(others),
+            _ => false,
         }
     }
 

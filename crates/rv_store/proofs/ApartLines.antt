@@ -1,5 +1,5 @@
 -- Lines with which no line of a text has to do: what they add, and who uses it.
-use Rattle.std.proofs.Common.{◌≡◌, ℕ, suc, ◌+◌, ◌-◌, ◌%◌, ◌<◌, ◌≤◌, ◌==◌, ◌⊎◌, inl, inr, Bool, true, false, not, ◌&&◌, ◌||◌, List, [], ◌∷◌, ◌++◌, length, bytes_eq, map, get_or, nat_le, if◌then◌else◌, true≢false, arith, ap, sym, subst, ◌∙◌, refl}
+use Rattle.std.proofs.Common.{◌≡◌, ℕ, suc, ◌+◌, ◌-◌, ◌<◌, ◌≤◌, ◌==◌, ◌⊎◌, inl, inr, Bool, true, false, not, ◌&&◌, ◌||◌, List, [], ◌∷◌, ◌++◌, length, bytes_eq, get_or, nat_le, if◌then◌else◌, true≢false, arith, ap, sym, subst, ◌∙◌, refl}
 use Rattle.std.specs.List.{list_any}
 use Rattle.std.proofs.Math.Path.{fun_ext}
 use Rattle.std.proofs.lemmas.Bool.{cases_lt, lt-ltb, le-ltb, lt-leb, eqb-true, eq-eqb, and_parts, and_left, or_from, or_cases}
@@ -14,16 +14,15 @@ use Rattle.rv_stmt.specs.Statement.{statement_of}
 use Rattle.rv_list.specs.declared.view.DefinitionPlace.{DefinitionPlace}
 use Rattle.rv_list.specs.declared.view.DefinitionPlace.TheVariants.{Nowhere, Label as ByLabel, Equ}
 use Rattle.rv_store.specs.declared.apart.LineBehind.{LineBehind}
-use Rattle.rv_store.specs.internal.Apart.{added_by, HasGroupOf}
-use Rattle.rv_program.specs.declared.groups.Groups.{Groups}
-use Rattle.rv_program.specs.declared.groups.Kind.TheVariants.{Uncompared}
-use Rattle.rv_program.specs.internal.FirstUses.{Firsts, first_use, names_on, AreFirstUses}
-use Rattle.rv_program.specs.internal.Briefs.{groups_on}
+use Rattle.rv_store.specs.internal.Apart.{added_by, HasMaskOf}
+use Rattle.rv_program.specs.declared.mask.Kind.TheVariants.{Uncompared}
+use Rattle.rv_program.specs.declared.mask.Mask.{Mask}
 use Rattle.rv_store.specs.internal.Appended.{adds, is_earlier, TellEarlier, adds_by_rows}
 use Rattle.rv_program.specs.internal.Defining.{IsOn}
 use Rattle.rv_program.specs.Definitions.{defines_symbol, place_among_labels, place_in_body, or_place, place_in_statement, definition_of, is_defined}
-use Rattle.rv_program.specs.internal.Groups.{no_groups, has_group, kind_bit, has_kind, SharesNone}
-use Rattle.rv_program.specs.internal.LinesWithout.{is_of_kind}
+use Rattle.rv_program.specs.internal.FirstUses.{Firsts, first_use, names_on, AreFirstUses}
+use Rattle.rv_program.specs.internal.LineSearch.{LineLacks}
+use Rattle.rv_program.specs.internal.Masks.{has_name, has_kind}
 use Rattle.rv_program.specs.internal.NameSets.{bucket_of, brief_of_names, may_have}
 use Rattle.rv_program.specs.Program.{Program, program_of, no_statement, statement_at, body_at}
 use Rattle.rv_program.specs.internal.Rows.{in_row, AreDefinitions}
@@ -31,25 +30,23 @@ use Rattle.rv_program.specs.Uses.{names_used, uses_local_label, is_equ}
 use Rattle.rv_store.specs.internal.Still.{Touched, uses_any}
 use Rattle.rv_store.proofs.LongerTexts.{definitions-longer}
 use Rattle.rv_program.specs.lemmas.DefinitionLaws.{IsWithin, within-on, statement-within, definition-within}
-use Rattle.rv_program.specs.lemmas.GroupLaws.{kind-below}
-use Rattle.rv_program.specs.lemmas.LineGroups.{count-groups, kind-on, unused-group}
+use Rattle.rv_program.specs.lemmas.LineMasks.{unwanted-unused, unwanted-kind}
 use Rattle.rv_program.specs.lemmas.LowLines.{kind-local}
 use Rattle.rv_program.specs.lemmas.LocalLines.{statement-of-line}
 use Rattle.rv_program.specs.lemmas.NameSetLaws.{none-passes}
 use Rattle.rv_program.specs.lemmas.Programs.{length-program}
 
--- a line whose groups no added name is in uses none
-only_in : (behind : LineBehind) (added : Groups) → ((name : List ℕ) → added_by behind name ≡ true → HasGroupOf name added) → (name : List ℕ) → HasGroupOf name added ⊎ (added_by behind name ≡ false)
-only_in behind added has name = at (added_by behind name) refl
+-- a line without the mask of any added name uses none
+only_in : (behind : LineBehind) (added : Mask) → ((name : List ℕ) → added_by behind name ≡ true → HasMaskOf name added) → (name : List ℕ) → (has_name added (bucket_of name) ≡ true) ⊎ (added_by behind name ≡ false)
+only_in behind added marked name = at (added_by behind name) refl
   where
-    at : (b : Bool) → added_by behind name ≡ b → HasGroupOf name added ⊎ (added_by behind name ≡ false)
-    at true e = inl (has name e)
+    at : (b : Bool) → added_by behind name ≡ b → (has_name added (bucket_of name) ≡ true) ⊎ (added_by behind name ≡ false)
+    at true e = inl (marked name e).has
     at false e = inr e
 
-unused-by_groups : (behind : LineBehind) (added : Groups) (line : List ℕ) → ((name : List ℕ) → added_by behind name ≡ true → HasGroupOf name added) → SharesNone added (groups_on line) → list_any (added_by behind) (names_used (statement_of line).body) ≡ false
-unused-by_groups behind added line has apart =
-    none-passes (has_group added) (added_by behind) (only_in behind added has) (names_used (statement_of line).body)
-    (λ bucket is. unused-group line bucket (apart (bucket % 59) (omega arith) is))
+unused-by_mask : (behind : LineBehind) (added : Mask) (line : List ℕ) → ((name : List ℕ) → added_by behind name ≡ true → HasMaskOf name added) → LineLacks added line → list_any (added_by behind) (names_used (statement_of line).body) ≡ false
+unused-by_mask behind added line has apart =
+    none-passes (has_name added) (added_by behind) (only_in behind added has) (names_used (statement_of line).body) (λ bucket is. unwanted-unused line added apart bucket is)
 
 -- Lines that a line behind a text does not touch
 
@@ -63,29 +60,21 @@ untouched p touched i none before =
     or_from (list_any touched.names (names_used (body_at p i))) (nat_le touched.from i && uses_local_label (body_at p i)) (none-of touched.names (names_used (body_at p i)) none)
     (and_left (nat_le touched.from i) (uses_local_label (body_at p i)) (lt-leb touched.from i before))
 
-module _ (lines : List (List ℕ)) (behind : LineBehind) (groups : List Groups) (are : groups ≡ map groups_on lines) (line : ℕ) (first : 1 ≤ line) (last : line ≤ length groups) where
+module _ (lines : List (List ℕ)) (behind : LineBehind) (line : ℕ) (first : 1 ≤ line) (last : line ≤ length lines) where
   abbrev text : List ℕ
   text = get_or lines (line - 1) []
 
-  short : line - 1 < length lines
-  short = omega (arith, first, last, count-groups lines groups are)
-
   statement : statement_at (program_of lines) line ≡ statement_of text
-  statement = get_or-map statement_of lines (line - 1) [] no_statement short
+  statement = get_or-map statement_of lines (line - 1) [] no_statement (omega (arith, first, last))
 
-  apart-on : (wanted : Groups) → SharesNone wanted (get_or groups (line - 1) no_groups) → SharesNone wanted (groups_on text)
-  apart-on wanted apart = subst (SharesNone wanted) (ap (λ gs. get_or gs (line - 1) no_groups) are ∙ get_or-map groups_on lines (line - 1) [] no_groups short) apart
-
-  -- a line in none of the groups of the names that it adds
-  pub unnamed-by_groups : (wanted : Groups) → ((name : List ℕ) → added_by behind name ≡ true → HasGroupOf name wanted) → SharesNone wanted (get_or groups (line - 1) no_groups) → list_any (added_by behind) (names_used (body_at (program_of lines) line)) ≡ false
-  unnamed-by_groups wanted has apart = ap (λ s. list_any (added_by behind) (names_used s.body)) statement ∙ unused-by_groups behind wanted text has (apart-on wanted apart)
+  -- a line without the mask of the names that it adds
+  pub unnamed-by_mask : (wanted : Mask) → ((name : List ℕ) → added_by behind name ≡ true → HasMaskOf name wanted) → LineLacks wanted text → list_any (added_by behind) (names_used (body_at (program_of lines) line)) ≡ false
+  unnamed-by_mask wanted has apart = ap (λ s. list_any (added_by behind) (names_used s.body)) statement ∙ unused-by_mask behind wanted text has apart
 
   -- nor one that uses local labels
-  pub no_local-by_groups : (wanted : Groups) → has_kind wanted Uncompared ≡ true → SharesNone wanted (get_or groups (line - 1) no_groups) → uses_local_label (body_at (program_of lines) line) ≡ false
-  no_local-by_groups wanted has apart =
-      let b = (statement_of text).body in
-      let none : is_of_kind Uncompared b ≡ false = sym (kind-on text Uncompared) ∙ apart-on wanted apart (kind_bit Uncompared) (kind-below Uncompared) has in
-      ap (λ s. uses_local_label s.body) statement ∙ kind-local b none
+  pub no_local-by_mask : (wanted : Mask) → has_kind wanted Uncompared ≡ true → LineLacks wanted text → uses_local_label (body_at (program_of lines) line) ≡ false
+  no_local-by_mask wanted has apart =
+      ap (λ s. uses_local_label s.body) statement ∙ kind-local (statement_of text).body (unwanted-kind text wanted apart Uncompared has)
 
 -- Names that a statement defines
 

@@ -6,7 +6,7 @@ use Rattle.rv_stmt.specs.Statement.{statement_of}
 use Rattle.rv_layout.specs.declared.measured.Measured.{Measured}
 use Rattle.rv_layout.specs.Shapes.{size_operands}
 use Rattle.rv_program.specs.declared.before.Before.{Before}
-use Rattle.rv_program.specs.declared.groups.Kind.TheVariants.{Shaped}
+use Rattle.rv_program.specs.declared.mask.Kind.TheVariants.{Shaped}
 use Rattle.rv_program.specs.Changes.{program_after}
 use Rattle.rv_program.specs.Layout.{shape_at}
 use Rattle.rv_program.specs.Program.{program_of, body_at}

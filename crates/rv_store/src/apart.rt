@@ -5,9 +5,8 @@ ghost use Rattle.std.specs.List.{list_any};
 ghost use Rattle.rv_stmt.specs.Statement.{statement_of};
 ghost use Rattle.rv_program.specs.declared.limits.TheConstants.{MAX_LINES};
 ghost use Rattle.rv_store.specs.internal.Appended.{adds, touches, is_earlier, TellEarlier, FindsLocals, IsApart};
-ghost use Rattle.rv_store.specs.internal.Apart.{added_by, touched_by, HasGroupOf, AreUnnamed, AreMarked};
+ghost use Rattle.rv_store.specs.internal.Apart.{added_by, touched_by, HasMaskOf, AreMarked};
 ghost use Rattle.rv_program.specs.internal.FirstUses.{AreFirstUses};
-ghost use Rattle.rv_program.specs.internal.Briefs.{groups_on};
 ghost use Rattle.rv_program.specs.internal.NameSets.{bucket_of};
 ghost use Rattle.rv_program.specs.Definitions.{defines_symbol, place_in_body, is_defined};
 ghost use Rattle.rv_program.specs.Program.{program_of, body_at, lines_that};
@@ -15,10 +14,9 @@ ghost use Rattle.rv_store.specs.internal.Still.{is_settled, uses_any};
 ghost use Rattle.rv_program.specs.Uses.{names_used, uses_local_label};
 
 use rv_list::DefinitionPlace;
-use rv_program::lines_of_kind::lines_up_to_groups;
 use rv_program::{
-    FirstUses, Groups, Kind, Line, MAX_LINES, NameTable, NameTest, any_name, bucket_of, entry_of,
-    is_defined, place_on, uses_local_label,
+    FirstUses, Kind, Line, MAX_LINES, Mask, NameTable, NameTest, SearchPart, SearchedLines,
+    any_name, bucket_of, entry_of, is_defined, place_on, uses_local_label,
 };
 use rv_stmt::{Body, LabelName, LabelSlice};
 use std::alloc::Global;
@@ -67,17 +65,17 @@ fn is_settled(line: &Line) -> bool
 }
 
 impl LineBehind<'_> {
-    // Adds the group of a symbol, if the line adds it.
-    fn mark(&self, symbol: &[u8], added: &mut Groups)
+    // Adds the mask of a symbol, if the line adds it.
+    fn mark(&self, symbol: &[u8], added: &mut Mask)
         ensures { AreMarked (added_by self.now) (λ name. name ≡ symbol.now) added.old added.new }
     {
         if self.passes(symbol) {
-            *added = added.with(bucket_of(symbol));
+            *added = added.with(Mask::of_bucket(bucket_of(symbol)));
         }
     }
 
     // Adds those of the symbols of some labels.
-    fn mark_labels(&self, mut labels: LabelSlice<'_>, added: &mut Groups)
+    fn mark_labels(&self, mut labels: LabelSlice<'_>, added: &mut Mask)
         ensures { AreMarked (added_by self.now) (λ name. list_any (λ l. defines_symbol l.name name) labels.entry ≡ true) added.old added.new }
     {
         'labels: while let Some((label, rest)) = labels.split_first() {
@@ -89,7 +87,7 @@ impl LineBehind<'_> {
     }
 
     // Adds that of the symbol of an `.equ`.
-    fn mark_equ(&self, body: &Body, added: &mut Groups)
+    fn mark_equ(&self, body: &Body, added: &mut Mask)
         ensures { AreMarked (added_by self.now) (λ name. is_defined (place_in_body self.now.number body.now name) ≡ true) added.old added.new }
     {
         if let Body::Equ(definition) = body {
@@ -97,11 +95,11 @@ impl LineBehind<'_> {
         }
     }
 
-    // The groups of the names that it adds.
-    fn added(&self) -> Groups
-        ensures { (name : List ℕ) → added_by self.now name ≡ true → HasGroupOf name result }
+    // The mask of the names that it adds.
+    fn added(&self) -> Mask
+        ensures { (name : List ℕ) → added_by self.now name ≡ true → HasMaskOf name result }
     {
-        let mut added = Groups::none();
+        let mut added = Mask::none();
         let stmt = self.line.stmt();
         self.mark_labels(stmt.labels.as_slice(), &mut added);
         self.mark_equ(&stmt.body, &mut added);
@@ -158,41 +156,33 @@ impl LineBehind<'_> {
         self.is_used_on(line, only) || (self.from <= number && uses_local_label(&line.stmt().body))
     }
 
-    // How many lines there are before the next one behind the first `i` that may use a name that it adds, or the first `end` where there is
-    // none among these. `added` are the groups of these names.
-    fn lines_up_to_named(&self, groups: &[Groups], i: usize, end: usize, added: Groups) -> usize
-        requires added { (name : List ℕ) → added_by self.now name ≡ true → HasGroupOf name added }
-        requires within { i ≤ length groups.now }
-        requires end { end ≤ length groups.now }
+    // How many lines there are before the next one after the first `i` that it may touch. `added` is the mask of the names that it adds. Only from
+    // `from` on is it looked for by local labels.
+    fn lines_up_to_touched(
+        &self,
+        searched: &SearchedLines<'_>,
+        part: &mut SearchPart,
+        i: usize,
+        added: Mask,
+    ) -> usize
+        requires added { (name : List ℕ) → added_by self.now name ≡ true → HasMaskOf name added }
+        requires within { i ≤ length searched.now }
         ensures up { i ≤ result }
-        ensures within { result ≤ length groups.now }
-        ensures most { result ≤ max i end }
-        ensures passed { (lines : List (List ℕ)) → groups.now ≡ map groups_on lines → AreUnnamed self.now lines i result }
+        ensures within { result ≤ length searched.now }
+        ensures passed { (line : ℕ) → i < line → line ≤ result → uses_any (touched_by self.now) (program_of searched.now) line ≡ false }
     {
-        if i >= end {
+        if part.has(i) {
             return i;
         }
-        if added.are_none() {
-            return end;
+        let local = searched.len().min((self.from as usize).saturating_sub(1));
+        if i < local {
+            let next = searched.next(part, i, added);
+            if next < local {
+                return next;
+            }
+            *part = SearchPart::start();
         }
-        lines_up_to_groups(&groups[..end], i, added)
-    }
-
-    // How many lines there are before the next one behind the first `i` that it may touch. Only from `from` on is it looked for by local
-    // labels.
-    fn lines_up_to_touched(&self, groups: &[Groups], i: usize, added: Groups) -> usize
-        requires added { (name : List ℕ) → added_by self.now name ≡ true → HasGroupOf name added }
-        requires within { i ≤ length groups.now }
-        ensures up { i ≤ result }
-        ensures within { result ≤ length groups.now }
-        ensures passed { (lines : List (List ℕ)) → groups.now ≡ map groups_on lines → (line : ℕ) → i < line → line ≤ result → uses_any (touched_by self.now) (program_of lines) line ≡ false }
-    {
-        let end = groups.len().min((self.from as usize).saturating_sub(1));
-        let next = self.lines_up_to_named(groups, i, end, added);
-        if next < end {
-            return next;
-        }
-        lines_up_to_groups(groups, next, added.with_kind(Kind::Uncompared, true))
+        searched.next(part, i.max(local), added.with_kind(Kind::Uncompared, true))
     }
 
     // How many lines there are before the first one of so many that it may touch. `only` is the bucket of all names that it adds: before the
@@ -210,27 +200,27 @@ impl LineBehind<'_> {
         uses.first(bucket).min(before).min(count)
     }
 
-    // The lines that it touches, rising, or `None` if other lines take what one of them gives, or there is no memory for them. Lines whose
-    // groups say that it does not touch them are gone past, and so are those before the first use of its only name.
+    // The lines that it touches, rising, or `None` if other lines take what one of them gives, or there is no memory for them. Those before the
+    // first use of its only name are gone past.
     fn users(
         &self,
         alloc: Global,
-        lines: &[Line],
-        groups: &[Groups],
+        searched: &SearchedLines<'_>,
         uses: &FirstUses,
-        added: Groups,
+        added: Mask,
     ) -> Option<Vec<u32>>
-        requires uses { AreFirstUses lines.now uses.now }
-        requires few { length lines.now ≤ MAX_LINES }
-        requires groups { groups.now ≡ map groups_on lines.now }
-        requires added { (name : List ℕ) → added_by self.now name ≡ true → HasGroupOf name added }
-        ensures users { IfSome result (λ row. row.items ≡ lines_that (uses_any (touched_by self.now) (program_of lines.now)) (length lines.now)) }
-        ensures unsettled { IfSome result (λ _. (i : ℕ) → 1 ≤ i → i ≤ length lines.now → is_settled (body_at (program_of lines.now) i) ≡ true → uses_any (touched_by self.now) (program_of lines.now) i ≡ false) }
+        requires uses { AreFirstUses searched.now uses.now }
+        requires few { length searched.now ≤ MAX_LINES }
+        requires added { (name : List ℕ) → added_by self.now name ≡ true → HasMaskOf name added }
+        ensures users { IfSome result (λ row. row.items ≡ lines_that (uses_any (touched_by self.now) (program_of searched.now)) (length searched.now)) }
+        ensures unsettled { IfSome result (λ _. (i : ℕ) → 1 ≤ i → i ≤ length searched.now → is_settled (body_at (program_of searched.now) i) ≡ true → uses_any (touched_by self.now) (program_of searched.now) i ≡ false) }
     {
         let only = self.only_bucket();
+        let lines = searched.lines();
         let mut users = Vec::new(alloc);
-        let begin = self.lines_untouched(groups.len(), uses, only);
-        let mut i = self.lines_up_to_touched(groups, begin, added);
+        let mut part = SearchPart::start();
+        let begin = self.lines_untouched(searched.len(), uses, only);
+        let mut i = self.lines_up_to_touched(searched, &mut part, begin, added);
         'lines: while i < lines.len() {
             let line = &lines[i];
             let number = i as u32 + 1;
@@ -242,7 +232,7 @@ impl LineBehind<'_> {
                     return None;
                 };
             }
-            i = self.lines_up_to_touched(groups, i + 1, added);
+            i = self.lines_up_to_touched(searched, &mut part, i + 1, added);
         }
         Some(users)
     }
@@ -257,39 +247,37 @@ pub struct Added {
     pub users: Vec<u32>,
 }
 
-/// What a line behind a text adds to it. `groups` are those of the lines, `uses` tells where names are first used, and `definitions` says where names are defined,
-/// with that line or without it. Each line before `from` finds all its local labels in the text. `None` if another line may have to do with it
-/// otherwise than by a name or a local label: an `.equ` or a high half of the text uses one that it adds, or there is no memory to find out.
+/// What a line after a text adds to it. `searched` has the lines of the text, `uses` tells where names are first used, and `definitions` says where
+/// names are defined, with that line or without it. Each line before `from` finds all its local labels in the text. `None` if another line may have to do with it otherwise than by a
+/// name or a local label: an `.equ` or a high half of the text uses one that it adds, or there is no memory to find out.
 pub fn adds_apart(
     alloc: Global,
-    lines: &[Line],
-    groups: &[Groups],
+    searched: &SearchedLines<'_>,
     uses: &FirstUses,
     names: &NameTable,
     definitions: &[DefinitionPlace],
     line: &Line,
     from: u32,
 ) -> Option<Added>
-    requires uses { AreFirstUses lines.now uses.now }
-    requires definitions { TellEarlier lines.now names.now definitions.now }
-    requires groups { groups.now ≡ map groups_on lines.now }
-    requires few { length lines.now ≤ MAX_LINES }
-    requires locals { FindsLocals (program_of lines.now) (statement_of line.now) from }
-    ensures apart { IfSome result (λ _. IsApart (program_of lines.now) (statement_of line.now) from) }
-    ensures nothing { IfSome result (λ added. added.any ≡ false → (name : List ℕ) → adds (program_of lines.now) (statement_of line.now) name ≡ false) }
-    ensures users { IfSome result (λ added. added.users.items ≡ lines_that (uses_any (touches (program_of lines.now) (statement_of line.now) from) (program_of lines.now)) (length lines.now)) }
+    requires uses { AreFirstUses searched.now uses.now }
+    requires definitions { TellEarlier searched.now names.now definitions.now }
+    requires few { length searched.now ≤ MAX_LINES }
+    requires locals { FindsLocals (program_of searched.now) (statement_of line.now) from }
+    ensures apart { IfSome result (λ _. IsApart (program_of searched.now) (statement_of line.now) from) }
+    ensures nothing { IfSome result (λ added. added.any ≡ false → (name : List ℕ) → adds (program_of searched.now) (statement_of line.now) name ≡ false) }
+    ensures users { IfSome result (λ added. added.users.items ≡ lines_that (uses_any (touches (program_of searched.now) (statement_of line.now) from) (program_of searched.now)) (length searched.now)) }
 {
     let behind = LineBehind {
         line,
-        number: lines.len() as u32 + 1,
+        number: searched.len() as u32 + 1,
         from,
         names,
         definitions,
     };
     let added = behind.added();
-    let users = behind.users(alloc, lines, groups, uses, added)?;
+    let users = behind.users(alloc, searched, uses, added)?;
     Some(Added {
-        any: !added.are_none(),
+        any: !added.is_none(),
         users,
     })
 }

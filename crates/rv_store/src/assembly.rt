@@ -8,6 +8,7 @@ ghost use Rattle.rv_program.specs.Counted.{counts_of};
 ghost use Rattle.rv_program.specs.Edits.{edit_of};
 ghost use Rattle.rv_program.specs.internal.Former.{AreFormer};
 ghost use Rattle.rv_program.specs.internal.Items.{AreItems};
+ghost use Rattle.rv_program.specs.internal.Lines.{lines_of};
 ghost use Rattle.rv_program.specs.internal.NewShapes.{IsNewShape};
 ghost use Rattle.rv_program.specs.Program.{program_of};
 ghost use Rattle.rv_program.specs.internal.Rows.{Grows};
@@ -52,7 +53,7 @@ pub fn assembled<C: Count>(
     requires shape { IsNewShape old.now (edit_of edit.now) shape }
     requires limited { IsLimited shape }
     requires few { length survey.now.lines.items ≤ MAX_LINES }
-    requires count { length items.items ≡ length survey.now.lines.items }
+    requires lines { lines_of items.items ≡ survey.now.lines.items }
     requires former { AreFormer base old.now (edit_of edit.now) 0 items.items }
     requires valued { C.valued_count counter.old ≤ 2 ^ 63 + 1 }
     requires encoded { C.encoded_count counter.old ≤ 2 ^ 63 }
@@ -63,7 +64,9 @@ pub fn assembled<C: Count>(
     ensures memory { IfErr result (λ e. e ≡ EditError.Memory) }
     ensures counted { AreCountedAfter base old.now (edit_of edit.now) (counts_of C.parsed_count C.valued_count C.encoded_count counter.old) (counts_of C.parsed_count C.valued_count C.encoded_count counter.new) }
 {
-    let (after, still, differing) = survey.after(alloc, base, old, edit, names, shape, counter)?;
+    let (after, still, differing) = survey.after(
+        alloc, base, old, edit, names, &items, shape, counter,
+    )?;
     let (items, changed) = items_edited(
         alloc, base, names, survey, old, edit, &after, still, &differing, &items, counter,
     )?;

@@ -1,38 +1,37 @@
 //! The lines of a text in a column, which edits change in place.
 
-ghost use Rattle.std.specs.Prelude.{◌≡◌, ◌≤◌, ◌<◌, [], length, map, get_or, insert, remove, take, set, IfOk, OnOk, OnErr, IsOk};
+ghost use Rattle.std.specs.Prelude.{◌≡◌, ◌≤◌, ◌<◌, [], length, get_or, insert, remove, take, set, IfOk, OnOk, OnErr, IsOk};
 ghost use Rattle.rv_program.specs.internal.EditedRows.{HasPlace};
 ghost use Rattle.rv_store.specs.internal.Column.{HasRoom, taken_back};
-ghost use Rattle.rv_program.specs.internal.Briefs.{groups_on};
 ghost use Rattle.rv_program.specs.internal.FirstUses.{AreFirstUses};
 ghost use Rattle.rv_program.specs.Edits.{edit_of_read};
 ghost use Rattle.rv_program.specs.internal.Still.{set_or_push};
 ghost use Rattle.rv_program.specs.Text.{lines_after};
 
-use rv_program::{FirstUses, Groups, Line, ReadEdit};
+use rv_program::{FirstUses, Line, ReadEdit};
 use std::alloc::{AllocError, Global};
 use std::marker::Model;
 use std::mem;
 
-/// The lines of a text. Beside each stand the groups that it is in: a search for the lines that use a name, or are of a kind, goes past
-/// most of the others without a look at them, and begins where a name is first used. Contracts see the lines, and for how many there is room.
+/// The lines of a text, and where the names of each bucket are first used: a search for the lines that use a name that is new at the end begins
+/// there. Contracts see the lines, and for how many there is room.
 #[derive(Drop)]
 pub struct Column {
     alloc: Global,
     lines: Vec<Line>,
-    groups: Vec<Groups>,
     uses: FirstUses,
 }
 
 impl Model for Column {
     ghost use Rattle.std.specs.Prelude.{vec_capacity};
-    ghost use Rattle.rv_store.specs.internal.Column.{Listed, AreBeside};
+    ghost use Rattle.rv_store.specs.internal.Column.{Listed};
+    ghost use Rattle.rv_program.specs.internal.FirstUses.{AreFirstUses};
 
     ghost Value = { Listed };
 
-    ghost view = { λ c. record { items = c.lines.items; room = vec_capacity c.lines; group_room = vec_capacity c.groups } };
+    ghost view = { λ c. record { items = c.lines.items; room = vec_capacity c.lines } };
 
-    ghost invariant = { λ c. AreBeside c.lines.items c.groups.items c.uses };
+    ghost invariant = { λ c. AreFirstUses c.lines.items c.uses };
 }
 
 impl Column {
@@ -43,7 +42,6 @@ impl Column {
         Column {
             alloc,
             lines: Vec::new(alloc),
-            groups: Vec::new(alloc),
             uses: FirstUses::unknown(),
         }
     }
@@ -60,13 +58,6 @@ impl Column {
         ensures { result.now ≡ self.now.items }
     {
         self.lines.as_slice()
-    }
-
-    /// The groups that each of them is in.
-    pub fn groups(&self) -> &[Groups]
-        ensures { result.now ≡ map groups_on self.now.items }
-    {
-        self.groups.as_slice()
     }
 
     /// Where the names of each bucket are first used.
@@ -92,21 +83,13 @@ impl Column {
         requires { place ≤ length self.old.items }
         ensures ok { OnOk result (self.new.items ≡ insert self.old.items place line) }
         ensures err { OnErr result (self.new.items ≡ self.old.items) }
-        ensures succeeds { length self.old.items < self.old.room → length self.old.items < self.old.group_room → IsOk result }
+        ensures succeeds { length self.old.items < self.old.room → IsOk result }
     {
         let brief = line.brief();
         let count = self.len();
-        self.groups.insert(place, line.groups())?;
-        match self.lines.insert(place, line) {
-            Ok(()) => {
-                self.uses.insert(count, place, brief);
-                Ok(())
-            }
-            Err(e) => {
-                self.groups.remove(place);
-                Err(e.into())
-            }
-        }
+        self.lines.insert(place, line)?;
+        self.uses.insert(count, place, brief);
+        Ok(())
     }
 
     // Takes out the line at a place, and keeps the room for it.
@@ -115,11 +98,9 @@ impl Column {
         ensures line { result ≡ get_or self.old.items place result }
         ensures lines { self.new.items ≡ remove self.old.items place }
         ensures room { length self.new.items < self.new.room }
-        ensures group_room { length self.new.items < self.new.group_room }
     {
         let count = self.len();
         self.uses.remove(count, place);
-        self.groups.remove(place);
         self.lines.remove(place)
     }
 
@@ -130,7 +111,6 @@ impl Column {
         ensures lines { self.new.items ≡ set self.old.items place line }
     {
         self.uses.replace(place, line.brief());
-        self.groups[place] = line.groups();
         mem::replace(&mut self.lines[place], line)
     }
 
@@ -200,6 +180,5 @@ impl Column {
         ensures { self.new.items ≡ take count self.old.items }
     {
         self.lines.truncate(count);
-        self.groups.truncate(count);
     }
 }

@@ -7,6 +7,7 @@ ghost use Rattle.rv_program.specs.declared.limits.TheConstants.{MAX_LINES};
 ghost use Rattle.rv_store.specs.internal.Appended.{shape_at_end};
 ghost use Rattle.rv_store.specs.internal.Ends.{ends_of};
 ghost use Rattle.rv_program.specs.Program.{program_of};
+ghost use Rattle.rv_program.specs.internal.Lines.{lines_of};
 ghost use Rattle.rv_program.specs.internal.Rows.{AreDefinitions, AreLocals, ArePlaces, AreShapes};
 ghost use Rattle.rv_store.specs.internal.StillLines.{IsStillLine};
 
@@ -16,7 +17,8 @@ use crate::still::Still;
 use crate::survey::Survey;
 use crate::waiting::waiting_from;
 use rv_layout::Measured;
-use rv_program::{Line, NameTable};
+use rv_program::{Item, Line, NameTable, SearchedLines};
+use rv_tree::SumTree;
 use std::alloc::Global;
 
 /// A line at the end of a text.
@@ -30,11 +32,13 @@ pub struct Ending {
 
 /// What a line of this shape adds at the end of a text, if other lines have to do with it by its names and its local labels alone: no `.equ`
 /// and no high half uses what it defines, no section moves by it, and if it is a high half, no line uses a label of a line that waits for it.
+/// `items` are those of the text.
 pub fn apart_ending(
     alloc: Global,
     base: u32,
     names: &NameTable,
     survey: &Survey,
+    items: &SumTree<Item>,
     line: &Line,
     shape: Measured,
 ) -> Option<Ending>
@@ -45,6 +49,7 @@ pub fn apart_ending(
     requires ends { survey.now.ends ≡ ends_of survey.now.shapes.items }
     requires places { ArePlaces base (program_of survey.now.lines.items) survey.now.places.items }
     requires locals { AreLocals (program_of survey.now.lines.items) (length (program_of survey.now.lines.items)) survey.now.locals }
+    requires items { lines_of items.now.items ≡ survey.now.lines.items }
     requires few { length survey.now.lines.items < MAX_LINES }
     requires shape { shape ≡ shape_at_end (program_of survey.now.lines.items) (statement_of line.now) }
     requires limited_shape { IsLimited shape }
@@ -56,10 +61,10 @@ pub fn apart_ending(
         return None;
     }
     let from = survey.locals.reach(line.stmt().labels.as_slice(), survey.lines.len() as u32 + 1);
+    let searched = SearchedLines::in_tree(survey.lines.as_slice(), items);
     let added = adds_apart(
         alloc,
-        survey.lines.as_slice(),
-        survey.lines.groups(),
+        &searched,
         survey.lines.uses(),
         names,
         &survey.definitions,

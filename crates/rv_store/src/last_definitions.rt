@@ -15,8 +15,8 @@ use rv_expr::ValueFault;
 use rv_list::DefinitionPlace;
 use rv_program::equ_values::settle_equ;
 use rv_program::{
-    Line, LineEdit, Lines, MAX_LINES, NameTable, TextRows, define_line, defining_equ_on,
-    keep_places, number_line, settle_constant,
+    Line, LineEdit, Lines, MAX_LINES, NameTable, SearchedLines, TextRows, define_line,
+    defining_equ_on, keep_places, number_line, settle_constant,
 };
 use rv_text::Count;
 use std::alloc::{AllocError, Global};
@@ -114,7 +114,8 @@ impl Survey {
         self.forget_equ(names, line, number);
         let (earlier, _) = self.lines.as_slice().split_at(number as usize - 1);
         let back = LineEdit::Delete(number);
-        keep_places(&back, earlier, names, &mut self.definitions);
+        let searched = SearchedLines::one_by_one(earlier);
+        keep_places(&back, &searched, names, &mut self.definitions);
     }
 
     /// Adds what the last line defines to the rows by names, if it defines any, where the text before it has nothing to do with it. Its names

@@ -4,6 +4,7 @@ ghost use Rattle.std.specs.Prelude.{◌≡◌, ◌≤◌, ℕ, length, true, IfS
 ghost use Rattle.rv_layout.specs.Places.{is_base};
 ghost use Rattle.rv_program.specs.declared.limits.TheConstants.{MAX_LINES};
 ghost use Rattle.rv_program.specs.Program.{program_of};
+ghost use Rattle.rv_program.specs.internal.Lines.{lines_of};
 ghost use Rattle.rv_store.specs.internal.StillLines.{IsLastLine};
 ghost use Rattle.rv_store.specs.internal.Surveys.{IsSurvey};
 
@@ -11,7 +12,8 @@ use crate::apart::adds_apart;
 use crate::ends::Ends;
 use crate::places::stay_sections;
 use crate::survey::Survey;
-use rv_program::{Line, MAX_LINES, NameTable};
+use rv_program::{Item, Line, MAX_LINES, NameTable, SearchedLines};
+use rv_tree::SumTree;
 use std::alloc::Global;
 
 /// The last line of a text, with which no other line has to do.
@@ -24,15 +26,21 @@ pub struct LastLine {
 }
 
 /// What the last line of a text is, if no other line has to do with it: it has no local label and no high half, none uses what it alone
-/// defines, and no section moves where it goes.
-pub fn last_line(alloc: Global, base: u32, names: &NameTable, survey: &Survey) -> Option<LastLine>
+/// defines, and no section moves where it goes. `items` are those of the text.
+pub fn last_line(
+    alloc: Global,
+    base: u32,
+    names: &NameTable,
+    survey: &Survey,
+    items: &SumTree<Item>,
+) -> Option<LastLine>
     requires base { is_base base ≡ true }
     requires survey { IsSurvey base (program_of survey.now.lines.items) names.now survey.now }
+    requires items { lines_of items.now.items ≡ survey.now.lines.items }
     requires few { length survey.now.lines.items ≤ MAX_LINES }
     ensures { IfSome result (IsLastLine base survey.now.lines.items) }
 {
     let (line, earlier) = survey.lines.as_slice().split_last()?;
-    let (groups, _) = survey.lines.groups().split_at(earlier.len());
     let before = survey.ends.before(&survey.places[earlier.len()]);
     if !stay_sections(base, &before, &survey.ends) {
         return None;
@@ -42,10 +50,10 @@ pub fn last_line(alloc: Global, base: u32, names: &NameTable, survey: &Survey) -
         return None;
     }
     let end = survey.lines.len() as u32;
+    let searched = SearchedLines::in_tree(earlier, items);
     let added = adds_apart(
         alloc,
-        earlier,
-        groups,
+        &searched,
         survey.lines.uses(),
         names,
         &survey.definitions,

@@ -22,8 +22,9 @@ use rv_list::DefinitionPlace;
 use rv_program::equ_values::equ_values;
 use rv_program::highs::all_highs;
 use rv_program::{
-    EditError, Item, Line, LineConstants, Lines, Locals, NameTable, SymbolRows, TextRows,
-    ValueRows, definitions_of, locals_of, operands_are_few_on, row_for, settle_constant, shape_on,
+    EditError, Item, Line, LineConstants, Lines, Locals, NameTable, SearchedLines, SymbolRows,
+    TextRows, ValueRows, definitions_of, locals_of, operands_are_few_on, row_for, settle_constant,
+    shape_on,
 };
 use rv_text::Count;
 use rv_tree::SumTree;
@@ -120,7 +121,7 @@ impl Survey {
         ensures parsed { C.parsed_count counter.new ≡ C.parsed_count counter.old }
         ensures encoded { C.encoded_count counter.new ≡ C.encoded_count counter.old }
     {
-        let groups = lines.groups();
+        let searched = SearchedLines::one_by_one(lines.as_slice());
         let column = Lines::in_column(lines.as_slice());
         let text = TextRows {
             base,
@@ -130,13 +131,13 @@ impl Survey {
             places: &placed.places,
             locals: &locals,
         };
-        let equ_values = equ_values(alloc, &text, groups, counter)?;
+        let equ_values = equ_values(alloc, &text, &searched, counter)?;
         let symbols = SymbolRows {
             text,
             constants: &sized.constants,
             equ_values: &equ_values,
         };
-        let highs = all_highs(alloc, &symbols, groups, counter)?;
+        let highs = all_highs(alloc, &symbols, &searched, counter)?;
         Ok(Survey {
             lines,
             definitions,

@@ -20,8 +20,8 @@ ghost use Rattle.rv_store.specs.internal.Unmoved.{AreUnmoved};
 use crate::changed::Changed;
 use crate::survey::Survey;
 use rv_program::{
-    EditError, Item, LineEdit, Lines, NameSet, NameTable, Revision, ValueRows, due_lines, renewed,
-    renewed_in_one_pass,
+    EditError, Item, LineEdit, Lines, NameSet, NameTable, Revision, SearchedLines, ValueRows,
+    due_lines, renewed, renewed_in_one_pass,
 };
 use rv_text::Count;
 use rv_tree::SumTree;
@@ -118,7 +118,7 @@ pub fn items_edited<'a, C: Count>(
     requires still { still ≡ true → AreUnmoved old.now.shapes.items (edit_of edit.now) survey.now.shapes.items }
     requires differing { HasDiffering base old_lines.now (edit_of edit.now) differing.now }
     requires few { length old.now.lines.items ≤ MAX_LINES }
-    requires count { length items.now.items ≡ length old.now.lines.items }
+    requires lines { lines_of items.now.items ≡ old.now.lines.items }
     requires former { AreFormer base old_lines.now (edit_of edit.now) 0 items.now.items }
     requires valued { C.valued_count counter.old + 1001 * length old.now.lines.items < 2 ^ 64 }
     requires encoded { C.encoded_count counter.old + length old.now.lines.items < 2 ^ 64 }
@@ -129,7 +129,7 @@ pub fn items_edited<'a, C: Count>(
 {
     let before = old.before(old_lines, base, names, edit);
     let lines = old.lines.as_slice();
-    let groups = old.lines.groups();
+    let searched = SearchedLines::in_tree(lines, items);
     let column = Lines::in_column(lines);
     let rows = survey.rows(&column, base, names);
     let due = due_lines(
@@ -138,8 +138,7 @@ pub fn items_edited<'a, C: Count>(
         &rows.symbols,
         rows.highs,
         differing,
-        lines,
-        groups,
+        &searched,
         still,
         counter,
     )?;

@@ -6,7 +6,6 @@ ghost use Rattle.rv_stmt.specs.Statement.{statement_of};
 ghost use Rattle.rv_layout.specs.Places.{IsLimited, AreLimited};
 ghost use Rattle.rv_layout.specs.Shapes.{shape_of, size_operands};
 ghost use Rattle.rv_program.specs.declared.limits.TheConstants.{MAX_LINES};
-ghost use Rattle.rv_program.specs.internal.Briefs.{groups_on};
 ghost use Rattle.rv_program.specs.internal.EditedRows.{edited_row};
 ghost use Rattle.rv_program.specs.internal.Before.{IsBefore, base_before, lines_before, edit_on};
 ghost use Rattle.rv_store.specs.internal.ConstantPairs.{IsConstantPair, differs_in_constant};
@@ -26,10 +25,9 @@ use crate::alike::take_same_room;
 use crate::edited_row::edited_row;
 use rv_layout::{Consts, Measured, measure, shapes_are_limited, size_operands_are_few};
 use rv_list::DefinitionPlace;
-use rv_program::lines_of_kind::lines_up_to;
 use rv_program::{
-    Before, Groups, Kind, Line, LineConstants, LineEdit, NameTest, SymbolRows, any_name, entry_at,
-    settle_constant,
+    Before, Kind, Line, LineConstants, LineEdit, NameTest, SearchPart, SearchedLines, SymbolRows,
+    any_name, entry_at, settle_constant,
 };
 use rv_text::Count;
 use std::alloc::{AllocError, Global};
@@ -224,13 +222,13 @@ fn settle_line<C: Count>(
 }
 
 // The shapes of all lines of the text after an edit, with its constants: the shape of a line follows from the constants of the lines
-// before it, so that they are gone over from the first on. `groups` are those of the lines, and `shape` is the shape of the line that the edit
-// puts in. All others that have no part in the constants keep their shapes, and are gone past.
+// before it, so that they are gone over from the first on. `searched` has the lines, too, and `shape` is the shape of the line that the edit puts in.
+// All others that have no part in the constants keep their shapes, and are gone past.
 fn settled_shapes<C: Count>(
     alloc: Global,
     before: &Before<'_, '_>,
     lines: &[Line],
-    groups: &[Groups],
+    searched: &SearchedLines<'_>,
     definitions: &[DefinitionPlace],
     shape: Measured,
     counter: &mut C,
@@ -239,7 +237,7 @@ fn settled_shapes<C: Count>(
     requires shape { IsNewShape (lines_before before.now) (edit_on before.now) shape }
     requires limited { IsLimited shape }
     requires after { lines.now ≡ lines_after (lines_before before.now) (edit_on before.now) }
-    requires groups { groups.now ≡ map groups_on lines.now }
+    requires searched { searched.now ≡ lines.now }
     requires few { length lines.now ≤ MAX_LINES }
     requires definitions { AreDefinitions (program_of lines.now) before.now.symbols.text.names.now definitions.now }
     requires valued { C.valued_count counter.old ≤ 2 ^ 63 + 1 }
@@ -255,10 +253,11 @@ fn settled_shapes<C: Count>(
 {
     let constants = vec![in alloc; None; definitions.len()]?;
     let mut rows = ShapeRows::former(alloc, before, constants, shape)?;
-    let mut i = lines_up_to(groups, 0, Kind::Shaped);
+    let mut part = SearchPart::start();
+    let mut i = searched.next_of_kind(&mut part, 0, Kind::Shaped);
     while i < lines.len() {
         settle_line(before, lines, i, definitions, &mut rows, counter);
-        i = lines_up_to(groups, i + 1, Kind::Shaped);
+        i = searched.next_of_kind(&mut part, i + 1, Kind::Shaped);
     }
     Ok(rows)
 }
@@ -286,16 +285,15 @@ fn changes_no_definition(before: &Before<'_, '_>, lines: &[Line]) -> bool
     }
 }
 
-/// The shapes of all lines of the text after an edit, with its constants. `groups` are those of the lines, and `shape` is the shape of the line
-/// that the edit puts in. Where the edit changes no definition, no constant changes, and all others keep their shapes.
+/// The shapes of all lines of the text after an edit, with its constants. `searched` has the lines, and `shape` is the shape of the line that
+/// the edit puts in. Where the edit changes no definition, no constant changes, and all others keep their shapes.
 ///
 /// The counter's number of expressions computed rises by at most the size operands and the `.equ`s on the lines that the edit
 /// invalidates, the operand from which that shape follows apart.
 pub fn shapes<C: Count>(
     alloc: Global,
     before: &Before<'_, '_>,
-    lines: &[Line],
-    groups: &[Groups],
+    searched: &SearchedLines<'_>,
     definitions: &[DefinitionPlace],
     shape: Measured,
     counter: &mut C,
@@ -303,23 +301,30 @@ pub fn shapes<C: Count>(
     requires before { IsBefore before.now }
     requires shape { IsNewShape (lines_before before.now) (edit_on before.now) shape }
     requires limited { IsLimited shape }
-    requires after { lines.now ≡ lines_after (lines_before before.now) (edit_on before.now) }
-    requires groups { groups.now ≡ map groups_on lines.now }
-    requires few { length lines.now ≤ MAX_LINES }
-    requires definitions { AreDefinitions (program_of lines.now) before.now.symbols.text.names.now definitions.now }
+    requires after { searched.now ≡ lines_after (lines_before before.now) (edit_on before.now) }
+    requires few { length searched.now ≤ MAX_LINES }
+    requires definitions { AreDefinitions (program_of searched.now) before.now.symbols.text.names.now definitions.now }
     requires valued { C.valued_count counter.old ≤ 2 ^ 63 + 1 }
-    ensures shapes { IfOk result (λ r. AreShapes (program_of lines.now) r.shapes.items) }
+    ensures shapes { IfOk result (λ r. AreShapes (program_of searched.now) r.shapes.items) }
     ensures limited { IfOk result (λ r. AreLimited r.shapes.items) }
     ensures still { IfOk result (λ r. r.still ≡ true → AreUnmoved before.now.shapes.now (edit_on before.now) r.shapes.items) }
-    ensures constants { IfOk result (λ r. AreConstants (program_of lines.now) (length lines.now) before.now.symbols.text.names.now r.constants.items) }
+    ensures constants { IfOk result (λ r. AreConstants (program_of searched.now) (length searched.now) before.now.symbols.text.names.now r.constants.items) }
     ensures least { C.valued_count counter.old ≤ C.valued_count counter.new }
-    ensures most { C.valued_count counter.new ≤ C.valued_count counter.old + 2 * length lines.now }
-    ensures work { C.valued_count counter.new + shape_operands (edit_on before.now) ≤ C.valued_count counter.old + work constant_operands (base_before before.now) (lines_before before.now) (edit_on before.now) (length lines.now) }
+    ensures most { C.valued_count counter.new ≤ C.valued_count counter.old + 2 * length searched.now }
+    ensures work { C.valued_count counter.new + shape_operands (edit_on before.now) ≤ C.valued_count counter.old + work constant_operands (base_before before.now) (lines_before before.now) (edit_on before.now) (length searched.now) }
     ensures parsed { C.parsed_count counter.new ≡ C.parsed_count counter.old }
     ensures encoded { C.encoded_count counter.new ≡ C.encoded_count counter.old }
 {
-    if !changes_no_definition(before, lines) {
-        return settled_shapes(alloc, before, lines, groups, definitions, shape, counter);
+    if !changes_no_definition(before, searched.lines()) {
+        return settled_shapes(
+            alloc,
+            before,
+            searched.lines(),
+            searched,
+            definitions,
+            shape,
+            counter,
+        );
     }
     let constants = Vec::from_slice(alloc, before.symbols.constants)?;
     ShapeRows::former(alloc, before, constants, shape)

@@ -236,6 +236,7 @@ impl Store {
             self.base,
             &self.names,
             &self.survey,
+            &self.items,
             line,
             shape,
         )
@@ -300,7 +301,13 @@ impl Store {
         if k != self.items.len() {
             return None;
         }
-        last_line(self.alloc, self.base, &self.names, &self.survey)
+        last_line(
+            self.alloc,
+            self.base,
+            &self.names,
+            &self.survey,
+            &self.items,
+        )
     }
 
     // Takes the last line out, with which no other line has to do: nothing is made anew. Where there is no memory for that, the text

@@ -1,13 +1,13 @@
 //! What is kept of the lines of a text.
 
-ghost use Rattle.std.specs.Prelude.{◌≡◌, ℕ, ◌≤◌, ◌<◌, ◌+◌, ◌*◌, ◌^◌, [], None, length, true, IfOk, map};
+ghost use Rattle.std.specs.Prelude.{◌≡◌, ℕ, ◌≤◌, ◌<◌, ◌+◌, ◌*◌, ◌^◌, [], None, length, true, IfOk};
 ghost use Rattle.rv_layout.specs.Places.{section_base_of, section_end_of, sum_below, IsLimited, AreLimited, is_base};
 ghost use Rattle.rv_layout.specs.Sections.{sections};
-ghost use Rattle.rv_program.specs.internal.Briefs.{groups_on};
 ghost use Rattle.rv_program.specs.internal.Before.{IsBefore, base_before, lines_before, edit_on};
 ghost use Rattle.rv_program.specs.Edits.{edit_of};
 ghost use Rattle.rv_program.specs.internal.Differing.{HasDiffering};
 ghost use Rattle.rv_program.specs.internal.EditedRows.{HasPlace};
+ghost use Rattle.rv_program.specs.internal.Lines.{lines_of};
 ghost use Rattle.rv_store.specs.internal.Ends.{ends_of, end_in, place_by_shapes};
 ghost use Rattle.rv_store.specs.internal.Unmoved.{AreUnmoved};
 ghost use Rattle.rv_program.specs.internal.NewShapes.{IsNewShape, shape_operands};
@@ -31,10 +31,11 @@ use rv_program::equ_values_after::equ_values_after;
 use rv_program::highs::highs;
 use rv_program::locals_after::locals_after;
 use rv_program::{
-    Before, Groups, Line, LineEdit, Lines, Locals, MAX_LINES, NameSet, NameTable, SymbolRows,
-    TextRows, ValueRows, definitions_after, differing_names,
+    Before, Item, LineEdit, Lines, Locals, MAX_LINES, NameSet, NameTable, SearchedLines,
+    SymbolRows, TextRows, ValueRows, definitions_after, differing_names,
 };
 use rv_text::Count;
+use rv_tree::SumTree;
 use std::alloc::{AllocError, Global};
 
 /// What the lines of a text say, in rows: one value for each name, by its number, or one for each line. An edit that goes over the
@@ -127,7 +128,8 @@ impl Survey {
     }
 
     /// That of a text after an edit, the first line of which is at `base`, by the rows of the text before it, which has the
-    /// lines `old`. `self` holds these rows, and the lines after the edit already. `shape` is that of the line that the edit puts in.
+    /// lines `old`. `self` holds these rows, and the lines after the edit already, which have these items. `shape` is that of the line that the
+    /// edit puts in.
     /// The answer does not get the lines. With it comes whether each line that stood is known to be where it was, and a set that has each
     /// symbol that differs on one of the lines. Names that the lines define get numbers, also where there is no memory for the rest.
     ///
@@ -140,6 +142,7 @@ impl Survey {
         old: &Lines<'_>,
         edit: &LineEdit<'_>,
         names: &mut NameTable,
+        items: &SumTree<Item>,
         shape: Measured,
         counter: &mut C,
     ) -> Result<(Survey, bool, NameSet), AllocError>
@@ -148,6 +151,7 @@ impl Survey {
         requires old_few { length old.now ≤ MAX_LINES }
         requires allowed { refusal_of old.now (edit_of edit.now) ≡ None }
         requires edited { self.now.lines.items ≡ lines_after old.now (edit_of edit.now) }
+        requires items { lines_of items.now.items ≡ self.now.lines.items }
         requires shape { IsNewShape old.now (edit_of edit.now) shape }
         requires limited { IsLimited shape }
         requires few { length self.now.lines.items ≤ MAX_LINES }
@@ -163,18 +167,17 @@ impl Survey {
         ensures encoded { C.encoded_count counter.new ≡ C.encoded_count counter.old }
     {
         let lines = self.lines.as_slice();
-        let groups = self.lines.groups();
-        let definitions = definitions_after(alloc, &self.definitions, old, lines, edit, names)?;
+        let searched = SearchedLines::in_tree(lines, items);
+        let definitions = definitions_after(alloc, &self.definitions, old, &searched, edit, names)?;
         let before = self.before(old, base, names, edit);
-        let sized = shapes(alloc, &before, lines, groups, &definitions, shape, counter)?;
+        let sized = shapes(alloc, &before, &searched, &definitions, shape, counter)?;
         let placed = self.placed(alloc, base, edit, &sized)?;
         let locals = locals_after(alloc, &before, lines)?;
         let still = sized.still;
         let (survey, differing) = Survey::by_rows(
             alloc,
             &before,
-            lines,
-            groups,
+            &searched,
             definitions,
             sized,
             placed,
@@ -184,7 +187,7 @@ impl Survey {
         Ok((survey, still, differing))
     }
 
-    /// That of the lines of a text after an edit, which have these groups, by the rows that the others are made from, and a set that has
+    /// That of the lines of a text after an edit, which `searched` has, by the rows that the others are made from, and a set that has
     /// each symbol that differs on one of the lines. It does not get the lines.
     ///
     /// The counter's number of expressions computed rises by at most two for each line: the `.equ`s, and the high halves that
@@ -192,8 +195,7 @@ impl Survey {
     pub fn by_rows<C: Count>(
         alloc: Global,
         before: &Before<'_, '_>,
-        lines: &[Line],
-        groups: &[Groups],
+        searched: &SearchedLines<'_>,
         definitions: Vec<DefinitionPlace>,
         sized: ShapeRows,
         placed: Placed,
@@ -202,27 +204,26 @@ impl Survey {
     ) -> Result<(Survey, NameSet), AllocError>
         requires base { is_base (base_before before.now) ≡ true }
         requires before { IsBefore before.now }
-        requires edited { lines.now ≡ lines_after (lines_before before.now) (edit_on before.now) }
-        requires groups { groups.now ≡ map groups_on lines.now }
-        requires few { length lines.now ≤ MAX_LINES }
-        requires definitions { AreDefinitions (program_of lines.now) before.now.symbols.text.names.now definitions.items }
-        requires constants { AreConstants (program_of lines.now) (length lines.now) before.now.symbols.text.names.now sized.constants.items }
-        requires shapes { AreShapes (program_of lines.now) sized.shapes.items }
+        requires edited { searched.now ≡ lines_after (lines_before before.now) (edit_on before.now) }
+        requires few { length searched.now ≤ MAX_LINES }
+        requires definitions { AreDefinitions (program_of searched.now) before.now.symbols.text.names.now definitions.items }
+        requires constants { AreConstants (program_of searched.now) (length searched.now) before.now.symbols.text.names.now sized.constants.items }
+        requires shapes { AreShapes (program_of searched.now) sized.shapes.items }
         requires limited { AreLimited sized.shapes.items }
         requires ends { placed.ends ≡ ends_of sized.shapes.items }
         requires places { placed.places.items ≡ for_lines (place_by_shapes (base_before before.now) sized.shapes.items) (length sized.shapes.items) }
-        requires locals { AreLocals (program_of lines.now) (length lines.now) locals }
+        requires locals { AreLocals (program_of searched.now) (length searched.now) locals }
         requires valued { C.valued_count counter.old ≤ 2 ^ 63 + 2 ^ 32 }
-        ensures survey { IfOk result (λ r. IsSurvey (base_before before.now) (program_of lines.now) before.now.symbols.text.names.now r.0) }
+        ensures survey { IfOk result (λ r. IsSurvey (base_before before.now) (program_of searched.now) before.now.symbols.text.names.now r.0) }
         ensures differing { IfOk result (λ r. HasDiffering (base_before before.now) (lines_before before.now) (edit_on before.now) r.1) }
         ensures least { C.valued_count counter.old ≤ C.valued_count counter.new }
-        ensures most { C.valued_count counter.new ≤ C.valued_count counter.old + 2 * length lines.now }
-        ensures work { C.valued_count counter.new ≤ C.valued_count counter.old + operands_through equ_operands (program_of lines.now) (length lines.now)
-            + work high_operands (base_before before.now) (lines_before before.now) (edit_on before.now) (length lines.now) }
+        ensures most { C.valued_count counter.new ≤ C.valued_count counter.old + 2 * length searched.now }
+        ensures work { C.valued_count counter.new ≤ C.valued_count counter.old + operands_through equ_operands (program_of searched.now) (length searched.now)
+            + work high_operands (base_before before.now) (lines_before before.now) (edit_on before.now) (length searched.now) }
         ensures parsed { C.parsed_count counter.new ≡ C.parsed_count counter.old }
         ensures encoded { C.encoded_count counter.new ≡ C.encoded_count counter.old }
     {
-        let column = Lines::in_column(lines);
+        let column = Lines::in_column(searched.lines());
         let text = TextRows {
             base: before.symbols.text.base,
             lines: &column,
@@ -231,14 +232,14 @@ impl Survey {
             places: &placed.places,
             locals: &locals,
         };
-        let equ_values = equ_values_after(alloc, before, &text, groups, counter)?;
+        let equ_values = equ_values_after(alloc, before, &text, searched, counter)?;
         let after = SymbolRows {
             text,
             constants: &sized.constants,
             equ_values: &equ_values,
         };
         let differing = differing_names(alloc, before, &after)?;
-        let highs = highs(alloc, before, &after, &differing, groups, counter)?;
+        let highs = highs(alloc, before, &after, &differing, searched, counter)?;
         let survey = Survey {
             lines: Column::new(alloc),
             definitions,

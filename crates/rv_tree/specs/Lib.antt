@@ -4,6 +4,8 @@ pub mod PassLaws
 pub mod Refusals
 pub mod Root
 pub mod Rows
+pub mod SameSums
+pub mod Search
 pub mod Shape
 pub mod SumLaws
 pub mod Sums

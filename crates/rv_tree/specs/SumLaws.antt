@@ -26,3 +26,7 @@ module _ {S T : Type 0} {is_value : S → Type 0} {empty : S} {op : S → S → 
   pub total-append : (xs ys : List T) → AllSums is_value sum_of xs → AllSums is_value sum_of ys → total empty op sum_of (xs ++ ys) ≡ op (total empty op sum_of xs) (total empty op sum_of ys)
   total-append [] ys a b = sym (laws.left_unit (total empty op sum_of ys) (total_is_value ys b))
   total-append (x ∷ xs) ys a b = ap (op (sum_of x)) (total-append xs ys a.1 b) ∙ sym (laws.associative (sum_of x) (total empty op sum_of xs) (total empty op sum_of ys) a.0 (total_is_value xs a.1) (total_is_value ys b))
+
+  -- one item more at the end
+  pub total-push : (xs : List T) (y : T) → AllSums is_value sum_of xs → is_value (sum_of y) → total empty op sum_of (xs ++ y ∷ []) ≡ op (total empty op sum_of xs) (sum_of y)
+  total-push xs y a b = total-append xs (y ∷ []) a (b, tt) ∙ ap (op (total empty op sum_of xs)) (laws.right_unit (sum_of y) b)

@@ -111,7 +111,7 @@ impl<T: Summed> Subtree<T> {
         ensures height { IfOk result (λ t. t.value.height ≡ tree.now.height) }
     {
         if tree.height() == 1 {
-            return Subtree::replaced_in_leaf(alloc, tree.row(), before, item);
+            return Subtree::replaced_in_leaf(alloc, tree, before, item);
         }
         let (left, right) = tree.sides();
         let left_len = left.len();

@@ -5,7 +5,7 @@ ghost use Rattle.std.specs.Prelude.{◌≡◌, ◌+◌, ◌≤◌, ◌<◌, leng
 use crate::limits::{HALF, MAX_ITEMS, WIDTH};
 use crate::node::Subtree;
 use crate::row::Row;
-use crate::sums::Summed;
+use crate::sums::{Joined, Summed};
 use std::alloc::{AllocError, Global};
 use std::rc::Rc;
 
@@ -27,7 +27,31 @@ impl<T: Summed> Subtree<T> {
         if row.len() >= WIDTH {
             return Subtree::inserted_in_full_leaf(alloc, tree, row, before, item);
         }
+        if before == row.len() {
+            let leaf: &Subtree<T> = tree;
+            return leaf.extended(alloc, row, item);
+        }
         Subtree::of_row(alloc, Row::with_item(alloc, row.items(), before, item)?)
+    }
+
+    // This leaf, which has the items of `row`, with one more at its end: its sum goes on from that of the others.
+    fn extended(
+        &self,
+        alloc: Global,
+        row: &Row<T>,
+        item: Rc<T>,
+    ) -> Result<Rc<Subtree<T>>, AllocError>
+        requires items { self.now.items ≡ row.now }
+        requires room { length row.now < WIDTH }
+        ensures items { IfOk result (λ t. t.value.items ≡ insert row.now (length row.now) item.value) }
+        ensures height { IfOk result (λ t. t.value.height ≡ 1) }
+    {
+        let own: &T = &item;
+        let sum = own.sum();
+        sum.known();
+        let sum = self.sum().join(&sum);
+        let row = Row::with_item(alloc, row.items(), row.len(), item)?;
+        Ok(Rc::new(alloc, Subtree::leaf_with_sum(row, sum))?)
     }
 
     // Two leaves of the items of a full `row`, and one more behind the first `before`. At either end it gets a leaf of its own.
@@ -136,19 +160,21 @@ impl<T: Summed> Subtree<T> {
         Subtree::of_row(alloc, row)
     }
 
-    // A leaf of the items of `row`, with another one behind the first `before`.
+    // A leaf of the items of another, with another one behind the first `before`. It keeps the sum where the new item has that of the old one.
     pub(crate) fn replaced_in_leaf(
         alloc: Global,
-        row: &Row<T>,
+        leaf: &Subtree<T>,
         before: u32,
         item: Rc<T>,
     ) -> Result<Rc<Subtree<T>>, AllocError>
-        requires place { before < length row.now }
-        ensures items { IfOk result (λ t. t.value.items ≡ slice_set row.now before item.value) }
+        requires leaf { leaf.now.height ≡ 1 }
+        requires place { before < length leaf.now.items }
+        ensures items { IfOk result (λ t. t.value.items ≡ slice_set leaf.now.items before item.value) }
         ensures height { IfOk result (λ t. t.value.height ≡ 1) }
     {
-        let mut row = row.copied(alloc)?;
+        let same = item.has_sum_of(leaf.row().get(before));
+        let mut row = leaf.row().copied(alloc)?;
         row.replace(before, item);
-        Subtree::of_row(alloc, row)
+        leaf.remade(alloc, row, same)
     }
 }

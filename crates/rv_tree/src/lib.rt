@@ -14,6 +14,8 @@ mod passes;
 mod rewriting;
 mod row;
 mod row_rewriting;
+mod searching;
+mod sought;
 mod sums;
 mod tree;
 
@@ -21,5 +23,6 @@ pub use error::TreeError;
 pub use items::Items;
 pub use limits::{MAX_HEIGHT, MAX_ITEMS};
 pub use passes::Pass;
+pub use sought::{Part, Sought};
 pub use sums::{Joined, Summed};
 pub use tree::SumTree;

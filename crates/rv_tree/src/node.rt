@@ -1,6 +1,6 @@
 //! The nodes of a tree. Items stand in its leaves, and each other node has two sides whose heights are at most 1 apart.
 
-ghost use Rattle.std.specs.Prelude.{◌≡◌, ◌+◌, ◌≤◌, max, length, [], ◌∷◌, ◌++◌, IfOk};
+ghost use Rattle.std.specs.Prelude.{◌≡◌, ◌+◌, ◌≤◌, max, map, length, [], ◌∷◌, ◌++◌, IfOk, IsTrue};
 ghost use Rattle.rv_tree.specs.Sums.{total, AllSums};
 ghost use Rattle.rv_tree.specs.Shape.{IsBalanced, fewest};
 
@@ -75,6 +75,47 @@ impl<T: Summed> Subtree<T> {
         ensures height { IfOk result (λ t. t.value.height ≡ 1) }
     {
         Ok(Rc::new(alloc, Subtree::leaf(row))?)
+    }
+
+    // A leaf of the items of a row in the place of this one. Where `same` says that these have one by one the sums of the items of this leaf,
+    // it keeps its sum.
+    pub(crate) fn remade(
+        &self,
+        alloc: Global,
+        row: Row<T>,
+        same: bool,
+    ) -> Result<Rc<Subtree<T>>, AllocError>
+        requires some { 1 ≤ length row }
+        requires same { IsTrue same → map T.sum_of row ≡ map T.sum_of self.now.items }
+        ensures items { IfOk result (λ t. t.value.items ≡ row) }
+        ensures height { IfOk result (λ t. t.value.height ≡ 1) }
+    {
+        if same {
+            let leaf = Subtree::leaf_with_sum(row, self.own_sum());
+            return Ok(Rc::new(alloc, leaf)?);
+        }
+        Subtree::of_row(alloc, row)
+    }
+
+    // A leaf of the items of a row, whose sum is known.
+    pub(crate) fn leaf_with_sum(row: Row<T>, sum: T::Sum) -> Subtree<T>
+        requires some { 1 ≤ length row }
+        requires sum { sum ≡ total T.Sum.empty T.Sum.op T.sum_of row }
+        requires sums { AllSums T.Sum.IsValue T.sum_of row }
+        ensures items { result.items ≡ row }
+        ensures height { result.height ≡ 1 }
+    {
+        Subtree {
+            node: Node::Leaf { row, sum },
+        }
+    }
+
+    // The sum of all items, as a value of the caller's own.
+    pub(crate) fn own_sum(&self) -> T::Sum
+        ensures value { result ≡ total T.Sum.empty T.Sum.op T.sum_of self.now.items }
+        ensures sums { AllSums T.Sum.IsValue T.sum_of self.now.items }
+    {
+        self.sum().join(&T::Sum::unit())
     }
 
     pub(crate) fn of_one(alloc: Global, item: Rc<T>) -> Result<Rc<Subtree<T>>, AllocError>

@@ -99,10 +99,11 @@ impl<T: Summed> Subtree<T> {
         ensures same { IfOk result (λ r. r.changed ≡ false → r.tree.value.items ≡ row.now) }
         ensures stops { OnErr result (Stops P.gives P.refuses T.Sum.op T.sum_of pass.old before.now row.now pass.new) }
     {
-        match row.rewritten(alloc, before, pass)? {
+        let mut same = true;
+        match row.rewritten(alloc, before, &mut same, pass)? {
             None => Rewritten::kept(tree),
             Some(row) => Ok(Rewritten {
-                tree: Subtree::of_row(alloc, row)?,
+                tree: tree.remade(alloc, row, same)?,
                 changed: true,
             }),
         }

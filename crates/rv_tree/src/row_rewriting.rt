@@ -1,6 +1,6 @@
 //! A pass over the items of a leaf. Its row is copied where the first of them is changed.
 
-ghost use Rattle.std.specs.Prelude.{◌≡◌, ◌+◌, ◌-◌, ◌≤◌, ◌<◌, length, ◌++◌, List, IfOk, IfSome, OnOk, OnErr, take, drop, slice_set, unwrap_or};
+ghost use Rattle.std.specs.Prelude.{◌≡◌, ◌+◌, ◌-◌, ◌≤◌, ◌<◌, length, ◌++◌, List, map, IfOk, IfSome, IsTrue, OnOk, OnErr, take, drop, slice_set, unwrap_or};
 ghost use Rattle.rv_tree.specs.declared.limits.TheConstants.{MAX_ITEMS};
 ghost use Rattle.rv_tree.specs.Passes.{Runs, Stops};
 ghost use Rattle.rv_tree.specs.Rows.{some_behind};
@@ -43,6 +43,7 @@ impl<T: Summed> Row<T> {
         &self,
         alloc: Global,
         made: &mut Option<Row<T>>,
+        same: &mut bool,
         at: u32,
         before: &T::Sum,
         pass: &mut P,
@@ -57,6 +58,7 @@ impl<T: Summed> Row<T> {
         ensures front { OnOk result (take at (unwrap_or made.new self.now) ≡ take at (unwrap_or made.old self.now)) }
         ensures behind { OnOk result (drop (at + 1) (unwrap_or made.new self.now) ≡ drop (at + 1) self.now) }
         ensures same { OnOk result (length (unwrap_or made.new self.now) ≡ length self.now) }
+        ensures alike { OnOk result (IsTrue same.new → IsTrue same.old × (map T.sum_of (some_behind at 1 (unwrap_or made.new self.now)) ≡ map T.sum_of (some_behind at 1 self.now))) }
         ensures stops { OnErr result (Stops P.gives P.refuses T.Sum.op T.sum_of pass.old before.now (drop at self.now) pass.new) }
     {
         let item = self.get(at);
@@ -66,10 +68,11 @@ impl<T: Summed> Row<T> {
                 sum.known();
                 Ok(before.join(&sum))
             }
-            Some(item) => {
-                let sum = item.sum();
+            Some(new) => {
+                let sum = new.sum();
                 sum.known();
-                self.change(alloc, made, at, item)?;
+                *same = *same && new.has_sum_of(item);
+                self.change(alloc, made, at, new)?;
                 Ok(before.join(&sum))
             }
         }
@@ -105,6 +108,7 @@ impl<T: Summed> Row<T> {
         &self,
         alloc: Global,
         made: &mut Option<Row<T>>,
+        same: &mut bool,
         at: u32,
         before: &T::Sum,
         pass: &mut P,
@@ -120,6 +124,7 @@ impl<T: Summed> Row<T> {
         ensures front { OnOk result (take at (unwrap_or made.new self.now) ≡ take at (unwrap_or made.old self.now)) }
         ensures behind { IfOk result (λ r. drop (at + r.0) (unwrap_or made.new self.now) ≡ drop (at + r.0) self.now) }
         ensures same { OnOk result (length (unwrap_or made.new self.now) ≡ length self.now) }
+        ensures alike { IfOk result (λ r. IsTrue same.new → IsTrue same.old × (map T.sum_of (some_behind at r.0 (unwrap_or made.new self.now)) ≡ map T.sum_of (some_behind at r.0 self.now))) }
         ensures stops { OnErr result (Stops P.gives P.refuses T.Sum.op T.sum_of pass.old before.now (drop at self.now) pass.new) }
     {
         let count = self.len();
@@ -132,7 +137,7 @@ impl<T: Summed> Row<T> {
         if let Some(sum) = self.sum_behind_kept(at, at + 1, before, pass) {
             return Ok((1, sum));
         }
-        let sum = self.hand_over(alloc, made, at, before, pass)?;
+        let sum = self.hand_over(alloc, made, same, at, before, pass)?;
         Ok((1, sum))
     }
 
@@ -141,11 +146,13 @@ impl<T: Summed> Row<T> {
         &self,
         alloc: Global,
         before: &T::Sum,
+        same: &mut bool,
         pass: &mut P,
     ) -> Result<Option<Row<T>>, AllocError>
         requires accepted { (rest : List T) × P.accepts pass.old before.now (self.now ++ rest) }
         ensures runs { IfOk result (λ r. Runs P.gives T.Sum.op T.sum_of pass.old before.now self.now (unwrap_or r self.now) pass.new) }
         ensures same { IfOk result (λ r. length (unwrap_or r self.now) ≡ length self.now) }
+        ensures alike { IfOk result (λ r. IsTrue same.new → map T.sum_of (unwrap_or r self.now) ≡ map T.sum_of self.now) }
         ensures stops { OnErr result (Stops P.gives P.refuses T.Sum.op T.sum_of pass.old before.now self.now pass.new) }
     {
         before.known();
@@ -153,7 +160,7 @@ impl<T: Summed> Row<T> {
         let mut sum = before.join(&T::Sum::unit());
         let mut at = 0;
         while at < self.len() {
-            let (count, behind) = self.go_on(alloc, &mut made, at, &sum, pass)?;
+            let (count, behind) = self.go_on(alloc, &mut made, same, at, &sum, pass)?;
             at += count;
             sum = behind;
         }

@@ -1,6 +1,6 @@
 //! What can be joined, and what has a sum.
 
-ghost use Rattle.std.specs.Prelude.{◌≡◌};
+ghost use Rattle.std.specs.Prelude.{◌≡◌, IsTrue};
 ghost use Rattle.rv_tree.specs.Sums.{JoinLaws};
 
 /// Values with a join that is associative and has a unit. A sum has to fit its type however many items it is of, so
@@ -42,4 +42,9 @@ pub trait Summed: Drop {
     /// The sum of this item alone.
     fn sum(&self) -> Self::Sum
         ensures { result ≡ sum_of self.now };
+
+    /// Whether this item has the sum of another one, as far as that is told without making both: then a leaf in which it takes the place of
+    /// the other keeps its sum. It may be false where they are the same.
+    fn has_sum_of(&self, other: &Self) -> bool
+        ensures { IsTrue result → sum_of self.now ≡ sum_of other.now };
 }

@@ -4,6 +4,7 @@ ghost use Rattle.std.specs.Prelude.{◌≡◌, ◌+◌, ◌-◌, ◌≤◌, ◌<
 ghost use Rattle.std.specs.Option.{option_map};
 ghost use Rattle.rv_tree.specs.Passes.{Runs, Stops};
 ghost use Rattle.rv_tree.specs.Refusals.{insert_refusal, place_refusal};
+ghost use Rattle.rv_tree.specs.Search.{IsNextPart};
 ghost use Rattle.rv_tree.specs.Sums.{total, AllSums};
 
 use crate::error::TreeError;
@@ -12,6 +13,7 @@ use crate::limits::{MAX_HEIGHT, MAX_ITEMS};
 use crate::node::Subtree;
 use crate::passes::Pass;
 use crate::rewriting::Rewritten;
+use crate::sought::{Part, Sought};
 use crate::sums::{Joined, Summed};
 use std::alloc::{AllocError, Global};
 use std::marker::Model;
@@ -107,6 +109,22 @@ impl<T: Summed> SumTree<T> {
         match &self.root {
             None => T::Sum::unit(),
             Some(root) => root.sum().join(&T::Sum::unit()),
+        }
+    }
+
+    /// The next part of the list, after the first `before` items, that a search does not pass over. It goes past each part whose sum says that
+    /// nothing in it is sought; the leaves after the first one that are not passed over belong to the answer, too.
+    pub fn next_part<S: Sought<T>>(&self, before: u32, sought: &S) -> Part
+        requires { before ≤ length self.now.items }
+        ensures { IsNextPart (λ x. S.lacks sought.now (T.sum_of x)) self.now.items before result.begin result.end }
+    {
+        let Some(root) = &self.root else {
+            return Part { begin: 0, end: 0 };
+        };
+        let leaf = root.next_leaf(before, sought);
+        Part {
+            begin: leaf.begin,
+            end: root.run_end(leaf.end, sought),
         }
     }
 

@@ -56,4 +56,8 @@ impl Summed for Block {
             size: self.size,
         }
     }
+
+    fn has_sum_of(&self, other: &Block) -> bool {
+        self.size == other.size
+    }
 }

@@ -1,14 +1,16 @@
 -- What a line has to do with other lines, in brief.
-use Rattle.std.specs.Prelude.{ℕ, ◌==◌, not, ◌&&◌, ◌||◌, List, length}
+use Rattle.std.specs.Prelude.{ℕ, ◌==◌, Bool, not, ◌&&◌, ◌||◌, List, length}
 use Rattle.std.specs.Option.{is_some}
 use Rattle.rv_stmt.specs.declared.statement.Stmt.{Stmt}
 use Rattle.rv_stmt.specs.Statement.{statement_of}
 use Rattle.rv_program.specs.declared.brief.Brief.{Brief}
-use Rattle.rv_program.specs.declared.groups.Groups.{Groups}
-use Rattle.rv_program.specs.declared.groups.Kind.TheVariants.{Equ, PcrelHigh, Shaped, Addressed, Uncompared}
-use Rattle.rv_program.specs.internal.Groups.{with_kind}
+use Rattle.rv_program.specs.declared.mask.Kind.{Kind}
+use Rattle.rv_program.specs.declared.mask.Mask.{Mask}
+use Rattle.rv_program.specs.declared.mask.Kind.TheVariants.{Equ, PcrelHigh, Shaped, Addressed, Uncompared}
+use Rattle.rv_program.specs.internal.DefinedNames.{defined_in, mask_of_defined}
 use Rattle.rv_program.specs.internal.HighSymbols.{high_symbol_of}
-use Rattle.rv_program.specs.internal.NameSets.{brief_of_names, groups_used}
+use Rattle.rv_program.specs.internal.Masks.{both_masks, with_kind}
+use Rattle.rv_program.specs.internal.NameSets.{brief_of_names, mask_of_used}
 use Rattle.rv_program.specs.Jumps.{target_of}
 use Rattle.rv_program.specs.internal.Locals.{has_local_labels}
 use Rattle.rv_program.specs.Pairs.{pcrel_high_of, low_symbol_of}
@@ -23,22 +25,33 @@ brief_of s = record {
   sized = is_sized s.body;
   symbols = uses_symbols s.body;
   names = brief_of_names (names_used s.body);
+  defined = defined_in s;
   address = uses_address s.body;
   relative = is_some (target_of s.body) || is_some (high_symbol_of s.body);
   uncompared = uses_local_label s.body || uses_paired_high s.body || is_equ s.body;
   low = is_some (low_symbol_of s.body);
+  alone = not (uses_symbols s.body || uses_address s.body || (uses_local_label s.body || uses_paired_high s.body || is_equ s.body));
 }
 
--- the groups of a line
-abbrev pub groups_of_brief : Brief → Groups
-groups_of_brief b =
+-- the line is of a kind
+abbrev pub is_brief_of : Kind → Brief → Bool
+is_brief_of Equ b = b.equ
+is_brief_of PcrelHigh b = b.pcrel_high
+is_brief_of Shaped b = (b.sized && b.symbols) || b.equ
+is_brief_of Addressed b = b.address
+is_brief_of Uncompared b = b.uncompared && not b.low
+
+-- the names that a line uses, and those that it defines
+abbrev pub names_mask : Brief → Mask
+names_mask b = both_masks (mask_of_used b.names) (mask_of_defined b.defined)
+
+-- and its kinds
+abbrev pub mask_of_brief : Brief → Mask
+mask_of_brief b =
     with_kind
-    (with_kind
-    (with_kind (with_kind (with_kind (groups_used b.names) Equ b.equ) PcrelHigh b.pcrel_high) Shaped ((b.sized && b.symbols) || b.equ))
-    Addressed
-    b.address)
+    (with_kind (with_kind (with_kind (with_kind (names_mask b) Equ b.equ) PcrelHigh b.pcrel_high) Shaped ((b.sized && b.symbols) || b.equ)) Addressed b.address)
     Uncompared
     (b.uncompared && not b.low)
 
-abbrev pub groups_on : List ℕ → Groups
-groups_on line = groups_of_brief (brief_of (statement_of line))
+abbrev pub mask_on : (line : List ℕ) → Mask
+mask_on line = mask_of_brief (brief_of (statement_of line))

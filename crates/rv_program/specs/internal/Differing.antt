@@ -12,9 +12,9 @@ use Rattle.rv_program.specs.Changes.{program_after, differs_in_name}
 use Rattle.rv_program.specs.Constants.{constant_of}
 use Rattle.rv_program.specs.Definitions.{definition_of, is_defined}
 use Rattle.rv_program.specs.Edits.{line_before_edit}
-use Rattle.rv_program.specs.declared.groups.Groups.{Groups}
-use Rattle.rv_program.specs.declared.groups.Kind.TheVariants.{Addressed, Uncompared}
-use Rattle.rv_program.specs.internal.Groups.{has_group, has_kind}
+use Rattle.rv_program.specs.declared.mask.Mask.{Mask}
+use Rattle.rv_program.specs.declared.mask.Kind.TheVariants.{Addressed, Uncompared}
+use Rattle.rv_program.specs.internal.Masks.{has_name, has_kind}
 use Rattle.rv_program.specs.internal.NameSets.{bucket_of, Marks, mark_of, has_bucket, IsOutside, IsMoved}
 use Rattle.rv_program.specs.internal.TextRows.{program_in, address_in_text}
 use Rattle.rv_program.specs.Layout.{size_at}
@@ -81,11 +81,11 @@ abbrev pub HaveSameLows : UsedNames → (differing : Marks) → (lows : Option M
 HaveSameLows used differing (Some lows) = IsOutside used lows
 HaveSameLows used differing None = IsMoved used differing ⊎ IsOutside used differing
 
--- a line in none of these groups is not due unless it is new: it uses no name of the sets, nor what is not compared, nor its own address,
+-- a line that has nothing of this mask is not due unless it is new: it uses no name of the sets, nor what is not compared, nor its own address,
 -- but that where no line moved
-pub record HasDueGroups (set : Marks) (lows : Option Marks) (still : Bool) (wanted : Groups) : Type 0 where
-  pub names : (bucket : ℕ) → has_bucket set bucket ≡ true → has_group wanted bucket ≡ true
-  pub of_lows : (others : Marks) → lows ≡ Some others → (bucket : ℕ) → has_bucket others bucket ≡ true → has_group wanted bucket ≡ true
+pub record HasDueMask (set : Marks) (lows : Option Marks) (still : Bool) (wanted : Mask) : Type 0 where
+  pub names : (bucket : ℕ) → has_bucket set bucket ≡ true → has_name wanted bucket ≡ true
+  pub of_lows : (others : Marks) → lows ≡ Some others → (bucket : ℕ) → has_bucket others bucket ≡ true → has_name wanted bucket ≡ true
   pub uncompared : has_kind wanted Uncompared ≡ true
   pub addressed : still ≡ false → has_kind wanted Addressed ≡ true
 

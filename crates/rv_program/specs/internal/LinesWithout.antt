@@ -1,11 +1,9 @@
 -- Lines that are not what is looked for.
-use Rattle.std.specs.Prelude.{◌≡◌, ℕ, suc, ◌≤◌, ◌<◌, Bool, false, not, ◌&&◌, ◌||◌, List, get_or}
+use Rattle.std.specs.Prelude.{◌≡◌, ℕ, suc, ◌≤◌, ◌<◌, Bool, false, not, ◌&&◌, ◌||◌}
 use Rattle.std.specs.Option.{is_some}
 use Rattle.rv_stmt.specs.declared.statement.Body.{Body}
-use Rattle.rv_program.specs.declared.groups.Groups.{Groups}
-use Rattle.rv_program.specs.declared.groups.Kind.{Kind}
-use Rattle.rv_program.specs.declared.groups.Kind.TheVariants.{Equ, PcrelHigh, Shaped, Addressed, Uncompared}
-use Rattle.rv_program.specs.internal.Groups.{no_groups, SharesNone}
+use Rattle.rv_program.specs.declared.mask.Kind.{Kind}
+use Rattle.rv_program.specs.declared.mask.Kind.TheVariants.{Equ, PcrelHigh, Shaped, Addressed, Uncompared}
 use Rattle.rv_program.specs.Pairs.{pcrel_high_of, low_symbol_of}
 use Rattle.rv_program.specs.Program.{Program, body_at}
 use Rattle.rv_program.specs.Uses.{is_equ, is_sized, uses_symbols, uses_address, uses_local_label, uses_paired_high}
@@ -20,7 +18,3 @@ is_of_kind Uncompared body = (uses_local_label body || uses_paired_high body || 
 -- none of the lines after line i, up to line j, passes a test
 pub record AreWithout (test : Body → Bool) (program : Program) (i j : ℕ) : Type 0 where
   pub each : (k : ℕ) → i ≤ k → k < j → test (body_at program (suc k)) ≡ false
-
--- none of them is in one of the wanted groups
-abbrev pub AreOthers : (groups : List Groups) → (wanted : Groups) → (i j : ℕ) → Type 0
-AreOthers groups wanted i j = (k : ℕ) → i ≤ k → k < j → SharesNone wanted (get_or groups k no_groups)

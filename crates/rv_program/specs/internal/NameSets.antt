@@ -1,12 +1,13 @@
 -- Sets of names by their buckets: a set that has a name has all names of its bucket.
 use Rattle.std.specs.Prelude.{◌≡◌, ℕ, ℤ, ◌+◌, ◌*◌, ◌%◌, ◌==◌, Bool, true, false, ◌||◌, List, length, get_or, Option, Some, None}
 use Rattle.std.specs.List.{fold}
-use Rattle.rv_program.specs.declared.groups.Groups.{Groups}
+use Rattle.rv_program.specs.declared.mask.Mask.{Mask}
 use Rattle.rv_program.specs.declared.used_names.UsedNames.{UsedNames}
 use Rattle.rv_program.specs.declared.used_names.UsedNames.TheVariants.{Few, Many}
 use Rattle.rv_program.specs.declared.name_set.Mark.{Mark}
 use Rattle.rv_program.specs.declared.name_set.Mark.TheVariants.{Unknown, Same, Moved, Changed}
-use Rattle.rv_program.specs.internal.Groups.{no_groups, with_group, has_group}
+use Rattle.rv_program.specs.internal.Groups.{bits_of, no_groups, with_group, has_group}
+use Rattle.rv_program.specs.internal.Masks.{no_mask, both_masks, mask_of_bucket, mask_of_remainders, has_name}
 
 -- the bucket of a name, by its bytes from the first to the last
 abbrev pub next_bucket : (bucket byte : ℕ) → ℕ
@@ -55,9 +56,9 @@ mark_among marks bucket = get_or marks bucket Unknown
 abbrev pub mark_of : Marks → (bucket : ℕ) → Mark
 mark_of set bucket = mark_among set.marks bucket
 
--- each bucket of which a name may differ is in one of these groups
-abbrev pub AreGrouped : List Mark → Groups → Type 0
-AreGrouped marks groups = (bucket : ℕ) → differs (mark_among marks bucket) ≡ true → has_group groups bucket ≡ true
+-- the mask has each bucket of which a name may differ
+abbrev pub AreMasked : List Mark → Mask → Type 0
+AreMasked marks mask = (bucket : ℕ) → differs (mark_among marks bucket) ≡ true → has_name mask bucket ≡ true
 
 abbrev pub has_bucket : Marks → (bucket : ℕ) → Bool
 has_bucket marks bucket = differs (mark_of marks bucket)
@@ -95,14 +96,14 @@ abbrev pub may_have : UsedNames → (bucket : ℕ) → Bool
 may_have (Few first second) bucket = is_bucket first bucket || is_bucket second bucket
 may_have (Many groups) bucket = has_group groups bucket
 
--- the groups of their buckets
-abbrev pub with_group_of : Groups → Option ℕ → Groups
-with_group_of groups None = groups
-with_group_of groups (Some bucket) = with_group groups bucket
+-- the mask of their buckets
+abbrev pub mask_of_one : Option ℕ → Mask
+mask_of_one None = no_mask
+mask_of_one (Some bucket) = mask_of_bucket bucket
 
-abbrev pub groups_used : UsedNames → Groups
-groups_used (Few first second) = with_group_of (with_group_of no_groups first) second
-groups_used (Many groups) = groups
+abbrev pub mask_of_used : UsedNames → Mask
+mask_of_used (Few first second) = both_masks (mask_of_one first) (mask_of_one second)
+mask_of_used (Many groups) = mask_of_remainders (bits_of groups)
 
 -- none of them is in a set
 abbrev pub IsOutside : UsedNames → Marks → Type 0

@@ -2,9 +2,10 @@
 use Rattle.std.proofs.Common.{◌≡◌, ℕ, zero, suc, ◌==◌, Bool, true, false, not, ◌||◌, List, [], ◌∷◌, length, get_or, replicate, take, drop, true≢false, arith, ap, sym, ◌∙◌, refl}
 use Rattle.std.specs.Prelude.{map, insert, remove}
 use Rattle.std.proofs.lemmas.Bool.{ne_eqb, or_left, or_right}
-use Rattle.std.proofs.lemmas.List.{map-append, take-map, drop-map}
+use Rattle.std.proofs.lemmas.List.{append-nil, map-append, take-map, drop-map}
 use Rattle.std.proofs.lemmas.List.Elements.{All-append, All-cons, All-take, All-drop}
 use Rattle.std.specs.List.{All, list_any}
+use Rattle.rv_program.specs.internal.LineSearch.{AreFirst}
 
 pub map_insert : {A B : Type 0} (f : A → B) (xs : List A) (i : ℕ) (x : A) → map f (insert xs i x) ≡ insert (map f xs) i (f x)
 map_insert f xs i x = simp (map-append, take-map, drop-map)
@@ -38,3 +39,7 @@ any-weaker p q weaker (n ∷ ns) h = at (p n) refl (any-weaker p q weaker ns) h
     at : (t : Bool) → p n ≡ t → (list_any p ns ≡ true → list_any q ns ≡ true) → (t || list_any p ns) ≡ true → (q n || list_any q ns) ≡ true
     at true e later g = or_left (q n) (list_any q ns) (weaker n e)
     at false e later g = or_right (q n) (list_any q ns) (later g)
+
+-- all lines are the first ones
+pub all-first : {lines all : List (List ℕ)} → all ≡ lines → AreFirst lines all
+all-first {lines} same = record { others = []; whole = same ∙ sym (append-nil lines) }

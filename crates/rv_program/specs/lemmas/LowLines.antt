@@ -11,7 +11,7 @@ use Rattle.rv_stmt.specs.declared.operand.Role.{Role}
 use Rattle.rv_stmt.specs.declared.operand.Role.TheVariants.{Immediate}
 use Rattle.rv_stmt.specs.declared.statement.Body.{Body}
 use Rattle.rv_stmt.specs.declared.statement.Body.TheVariants.{Instr}
-use Rattle.rv_program.specs.declared.groups.Kind.TheVariants.{Uncompared}
+use Rattle.rv_program.specs.declared.mask.Kind.TheVariants.{Uncompared}
 use Rattle.rv_program.specs.internal.LinesWithout.{is_of_kind}
 use Rattle.rv_program.specs.Pairs.{low_symbol_in, low_symbol_among, low_symbol_of}
 use Rattle.rv_program.specs.Uses.{names_in, names_used, expression_of, has_local_label, uses_local_label, uses_paired_high, is_equ}

@@ -1,16 +1,19 @@
 -- Sets of names: what they have, and which tests no name of a line passes.
-use Rattle.std.proofs.Common.{◌≡◌, ◌≤◌, ℕ, ◌<◌, ◌%◌, ◌==◌, ◌⊎◌, inl, inr, Bool, true, false, ◌||◌, List, [], ◌∷◌, length, get_or, replicate, slice_set, Option, Some, None, true≢false, arith, ap, sym, subst, ◌∙◌, refl}
+use Rattle.std.proofs.Common.{◌≡◌, ℕ, ◌<◌, ◌%◌, ◌==◌, ◌⊎◌, inl, inr, Bool, true, false, ◌||◌, List, [], ◌∷◌, length, get_or, replicate, slice_set, Option, Some, None, true≢false, arith, ap, sym, subst, ◌∙◌, refl}
+use Rattle.std.specs.Int.{bit_at}
 use Rattle.std.specs.List.{list_any, fold}
 use Rattle.std.proofs.lemmas.Bool.{cases_eq, eqb-true, eq-eqb, or_cases, or_left, or_right}
 use Rattle.std.proofs.lemmas.List.{get_or-set_same, get_or-set_other}
-use Rattle.rv_program.specs.declared.groups.Groups.{Groups}
+use Rattle.rv_program.specs.declared.mask.Mask.{Mask}
 use Rattle.rv_program.specs.declared.used_names.UsedNames.{UsedNames}
 use Rattle.rv_program.specs.declared.used_names.UsedNames.TheVariants.{Few, Many}
 use Rattle.rv_program.specs.declared.name_set.Mark.{Mark}
 use Rattle.rv_program.specs.declared.name_set.Mark.TheVariants.{Unknown, Same, Moved, Changed}
-use Rattle.rv_program.specs.internal.NameSets.{next_bucket, bucket_of, differs, IsBelow, AreGrouped, no_names, with_bucket, with_name, with_names, brief_of_names, is_bucket, may_have, with_group_of, groups_used}
-use Rattle.rv_program.specs.internal.Groups.{no_groups, has_bit, with_group, has_group}
-use Rattle.rv_program.specs.lemmas.GroupLaws.{bit-left, no-bit, group-added, group-kept}
+use Rattle.rv_program.specs.internal.NameSets.{next_bucket, bucket_of, differs, IsBelow, AreMasked, no_names, with_bucket, with_name, with_names, brief_of_names, is_bucket, may_have, mask_of_one, mask_of_used}
+use Rattle.rv_program.specs.internal.Groups.{bits_of, no_groups, with_group, has_group}
+use Rattle.rv_program.specs.internal.Masks.{both_masks, part_of, mask_of_bucket, has_name}
+use Rattle.rv_program.specs.lemmas.GroupLaws.{group-added, group-kept}
+use Rattle.rv_program.specs.lemmas.MaskLaws.{name-in_first, name-in_second, name-of_bucket, part-of_remainders}
 use Rattle.rv_program.specs.lemmas.Lists.{get_or-same}
 
 bucket-after : (bucket : ℕ) (name : List ℕ) → bucket < 16384 → fold next_bucket bucket name < 16384
@@ -22,16 +25,16 @@ bucket-below name = bucket-after 0 name (omega arith)
 
 -- The marks of a set
 
-pub none-grouped : (n : ℕ) (groups : Groups) → AreGrouped (replicate n Unknown) groups
-none-grouped n groups bucket has = absurd (true≢false (sym has ∙ ap differs (get_or-same n bucket Unknown)))
+pub none-masked : (n : ℕ) (mask : Mask) → AreMasked (replicate n Unknown) mask
+none-masked n mask bucket has = absurd (true≢false (sym has ∙ ap differs (get_or-same n bucket Unknown)))
 
-module _ (marks : List Mark) (groups : Groups) (place : ℕ) (mark : Mark) (within : place < length marks) (grouped : AreGrouped marks groups) where
-  pub grouped-with : AreGrouped (slice_set marks place mark) (with_group groups place)
-  grouped-with bucket has = at (cases_eq bucket place)
+module _ (marks : List Mark) (mask : Mask) (place : ℕ) (mark : Mark) (masked : AreMasked marks mask) where
+  pub masked-with : AreMasked (slice_set marks place mark) (both_masks mask (mask_of_bucket place))
+  masked-with bucket has = at (cases_eq bucket place)
     where
-      at : (bucket ≡ place) ⊎ (bucket ≡ place → ⊥) → has_group (with_group groups place) bucket ≡ true
-      at (inl same) = ap (has_group (with_group groups place)) same ∙ group-added groups place
-      at (inr other) = group-kept groups place bucket (grouped bucket (sym (ap differs (get_or-set_other marks place bucket mark Unknown other)) ∙ has))
+      at : (bucket ≡ place) ⊎ (bucket ≡ place → ⊥) → has_name (both_masks mask (mask_of_bucket place)) bucket ≡ true
+      at (inl same) = ap (has_name (both_masks mask (mask_of_bucket place))) same ∙ name-in_second mask (mask_of_bucket place) place (name-of_bucket place)
+      at (inr other) = name-in_first mask (mask_of_bucket place) bucket (masked bucket (sym (ap differs (get_or-set_other marks place bucket mark Unknown other)) ∙ has))
 
 pub below-itself : (mark : Mark) → IsBelow mark mark
 below-itself Unknown = tt
@@ -83,56 +86,18 @@ bucket-kept (Few (Some first) (Some second)) bucket other has = at (or_cases (fi
     at (inr is) = group-of-second first second bucket other is
 bucket-kept (Many groups) bucket other has = group-kept groups bucket other has
 
--- a line that may use a name of a bucket has its group
-group-kept-with : (groups : Groups) (bucket : Option ℕ) (other : ℕ) → has_group groups other ≡ true → has_group (with_group_of groups bucket) other ≡ true
-group-kept-with groups None other has = has
-group-kept-with groups (Some bucket) other has = group-kept groups bucket other has
+-- the mask has them
+one-masked : (one : Option ℕ) (bucket : ℕ) → is_bucket one bucket ≡ true → has_name (mask_of_one one) bucket ≡ true
+one-masked None bucket is = absurd (true≢false (sym is))
+one-masked (Some other) bucket is = subst (λ b. has_name (mask_of_bucket b) bucket ≡ true) (sym (eqb-true other bucket is)) (name-of_bucket bucket)
 
-group-added-with : (groups : Groups) (bucket : Option ℕ) (other : ℕ) → is_bucket bucket other ≡ true → has_group (with_group_of groups bucket) other ≡ true
-group-added-with groups None other is = absurd (true≢false (sym is))
-group-added-with groups (Some bucket) other is = ap (has_group (with_group groups bucket)) (sym (eqb-true bucket other is)) ∙ group-added groups bucket
-
-pub group-used : (used : UsedNames) (bucket : ℕ) → may_have used bucket ≡ true → has_group (groups_used used) bucket ≡ true
-group-used (Few first second) bucket has = at (or_cases (is_bucket first bucket) (is_bucket second bucket) has)
+pub used-masked : (used : UsedNames) (bucket : ℕ) → may_have used bucket ≡ true → has_name (mask_of_used used) bucket ≡ true
+used-masked (Few first second) bucket has = at (or_cases (is_bucket first bucket) (is_bucket second bucket) has)
   where
-    at : (is_bucket first bucket ≡ true) ⊎ (is_bucket second bucket ≡ true) → has_group (with_group_of (with_group_of no_groups first) second) bucket ≡ true
-    at (inl is) = group-kept-with (with_group_of no_groups first) second bucket (group-added-with no_groups first bucket is)
-    at (inr is) = group-added-with (with_group_of no_groups first) second bucket is
-group-used (Many groups) bucket has = has
-
--- no name has the bit of a kind
-Kindless : UsedNames → (bit : ℕ) → Type 0
-Kindless (Few first second) bit = Unit {0}
-Kindless (Many groups) bit = has_bit groups bit ≡ false
-
-module _ (bit : ℕ) (above : 59 ≤ bit) (below : bit < 64) where
-  kindless-group : (groups : Groups) (bucket : ℕ) → has_bit groups bit ≡ false → has_bit (with_group groups bucket) bit ≡ false
-  kindless-group groups bucket none = bit-left groups (bucket % 59) bit below (λ e. omega (arith, e, above)) ∙ none
-
-  kindless-with : (used : UsedNames) (bucket : ℕ) → Kindless used bit → Kindless (with_bucket used bucket) bit
-  unfolding Kindless
-  kindless-with (Few None second) bucket none = tt
-  kindless-with (Few (Some first) None) bucket none = tt
-  kindless-with (Few (Some first) (Some second)) bucket none =
-      kindless-group (with_group (with_group no_groups first) second) bucket (kindless-group (with_group no_groups first) second (kindless-group no_groups first (no-bit bit)))
-  kindless-with (Many groups) bucket none = kindless-group groups bucket none
-
-  kindless-names : (used : UsedNames) (names : List (List ℕ)) → Kindless used bit → Kindless (with_names used names) bit
-  kindless-names used [] none = none
-  kindless-names used (n ∷ ns) none = kindless-names (with_name used n) ns (kindless-with used (bucket_of n) none)
-
-  kindless-group_of : (groups : Groups) (bucket : Option ℕ) → has_bit groups bit ≡ false → has_bit (with_group_of groups bucket) bit ≡ false
-  kindless-group_of groups None none = none
-  kindless-group_of groups (Some bucket) none = kindless-group groups bucket none
-
-  kindless-groups : (used : UsedNames) → Kindless used bit → has_bit (groups_used used) bit ≡ false
-  unfolding Kindless
-  kindless-groups (Few first second) none = kindless-group_of (with_group_of no_groups first) second (kindless-group_of no_groups first (no-bit bit))
-  kindless-groups (Many groups) none = none
-
-  pub names-kindless : (names : List (List ℕ)) → has_bit (groups_used (brief_of_names names)) bit ≡ false
-  unfolding Kindless
-  names-kindless names = kindless-groups (brief_of_names names) (kindless-names no_names names tt)
+    at : (is_bucket first bucket ≡ true) ⊎ (is_bucket second bucket ≡ true) → has_name (both_masks (mask_of_one first) (mask_of_one second)) bucket ≡ true
+    at (inl is) = name-in_first (mask_of_one first) (mask_of_one second) bucket (one-masked first bucket is)
+    at (inr is) = name-in_second (mask_of_one first) (mask_of_one second) bucket (one-masked second bucket is)
+used-masked (Many groups) bucket has = ap (λ n. bit_at n (bucket % 59) == 1) (part-of_remainders (bits_of groups) (part_of bucket)) ∙ has
 
 names-kept : (used : UsedNames) (names : List (List ℕ)) (bucket : ℕ) → may_have used bucket ≡ true → may_have (with_names used names) bucket ≡ true
 names-kept used [] bucket has = has

@@ -9,7 +9,6 @@ use Rattle.rv_program.specs.Text.{lines_after}
 use Rattle.rv_program.proofs.ChangeLaws.{due-invalidated, not_due}
 use Rattle.rv_program.proofs.ComparedJumps.{none-compared, next-compared, more-compared}
 use Rattle.rv_program.proofs.ValidLines.{due-apart}
-use Rattle.rv_program.specs.lemmas.LineGroups.{count-groups}
 use Rattle.rv_program.specs.lemmas.LineRows.{row-added, row-kept, row-through}
 use Rattle.rv_program.specs.lemmas.LocalLines.{statement-of-line}
 use Rattle.rv_program.proofs.due.due_lines.Goals as goal
@@ -18,8 +17,8 @@ use Rattle.rv_program.proofs.due.due_lines.Goals.{then-is_due_by_brief+in_ok-pus
 pub is_due_by_brief-requires-clause-brief : goal.is_due_by_brief-requires-clause-brief
 is_due_by_brief-requires-clause-brief g c =
     let i = c.lines.i in
-    let statement = statement-of-line c.args.lines.now i c.index-lines-i.result (omega (arith, c.lines-test.true)) c.index-lines-i.is in
-    c.brief.ensures ∙ ap brief_of (sym statement ∙ ap (λ lines. statement_at (program_of lines) (i + 1)) c.requires.column)
+    let statement = statement-of-line c.lines-lines.result.now i c.index-lines-i.result (omega (arith, c.lines-test.true)) c.index-lines-i.is in
+    c.brief.ensures ∙ ap brief_of (sym statement ∙ ap (λ lines. statement_at (program_of lines) (i + 1)) (c.lines-lines.ensures ∙ c.requires.searched))
 
 pub lines-init : goal.lines-init
 lines-init g c =
@@ -27,12 +26,11 @@ lines-init g c =
     let counts = counts_of g.C.Count.parsed_count g.C.Count.valued_count g.C.Count.encoded_count c.args.counter.now in
     let next = c.lines_up_to_due-i.result in
     let up = c.lines_up_to_due-i.ensures in
-    let count = count-groups c.args.lines.now c.args.groups.now c.requires.groups in
     record {
-      within = omega (arith, up.within, count);
+      within = up.within;
       row = c.new-row.ensures.items
           ∙ row-through (is_due (base_before before) (lines_before before) (edit_on before)) 0 next up.up
-          (due-apart before c.args.after.now.text c.args.lines.now c.args.groups.now c.args.still c.due_groups-wanted.result c.args.differing.now c.in_ok-lows.lows c.requires.before c.requires.after c.requires.column c.requires.groups c.requires.still c.requires.differing c.in_ok-lows.ensures c.due_groups-wanted.ensures 0 next up.within up.passed
+          (due-apart before c.args.after.now.text c.args.searched.now c.args.still c.due_mask-wanted.result c.args.differing.now c.in_ok-lows.lows c.requires.before c.requires.after c.requires.searched c.requires.still c.requires.differing c.in_ok-lows.ensures c.due_mask-wanted.ensures 0 next up.within up.passed
           (λ k first last at. up.apart k first last (at ∙ sym c.place-place.ensures.value)));
       compared = more-compared before 0 next counts counts up.up (none-compared before counts);
     }
@@ -46,12 +44,11 @@ lines-preserved g c =
     let counts = counts_of g.C.Count.parsed_count g.C.Count.valued_count g.C.Count.encoded_count in
     let next = c.lines_up_to_due-i-in-lines.result in
     let up = c.lines_up_to_due-i-in-lines.ensures in
-    let count = count-groups c.args.lines.now c.args.groups.now c.requires.groups in
     let apart = row-through test (n + 1) next up.up
-    (due-apart before c.args.after.now.text c.args.lines.now c.args.groups.now c.args.still c.due_groups-wanted.result c.args.differing.now c.in_ok-lows.lows c.requires.before c.requires.after c.requires.column c.requires.groups c.requires.still c.requires.differing c.in_ok-lows.ensures c.due_groups-wanted.ensures (n + 1) next up.within up.passed
+    (due-apart before c.args.after.now.text c.args.searched.now c.args.still c.due_mask-wanted.result c.args.differing.now c.in_ok-lows.lows c.requires.before c.requires.after c.requires.searched c.requires.still c.requires.differing c.in_ok-lows.ensures c.due_mask-wanted.ensures (n + 1) next up.within up.passed
     (λ k first last at. up.apart k first last (at ∙ sym c.place-place.ensures.value))) in
     record {
-      within = omega (arith, up.within, count);
+      within = up.within;
       row = elim c.if-is_due_by_brief.branch [
         | then-is_due_by_brief+in_ok-push w ↦ ap (λ v. v.items) w.row-is ∙ w.in_ok-push.ensures.items ∙ row-added test n row c.lines.invariant.row (sym c.is_due_by_brief.ensures.due ∙ w.if-is_due_by_brief.true) ∙ apart
         | else-is_due_by_brief w ↦ ap (λ v. v.items) w.row-is ∙ row-kept test n row c.lines.invariant.row (sym c.is_due_by_brief.ensures.due ∙ w.if-is_due_by_brief.false) ∙ apart
@@ -69,7 +66,7 @@ returns-clause-due g c =
     let edit = edit_on before in
     let allowed = c.requires.before.allowed in
     let count : length c.args.after.now.text.lines.now ≡ length (lines_after lines edit) = ap length c.requires.after.lines in
-    let all : c.lines.i ≡ length c.args.after.now.text.lines.now = omega (arith, c.lines-test.false, c.lines.invariant.within, ap length c.requires.column) in
+    let all : c.lines.i ≡ length c.args.after.now.text.lines.now = omega (arith, c.lines-test.false, c.lines.invariant.within, ap length c.requires.searched, ap length c.lines-lines.ensures) in
     record {
       test = is_due base lines edit;
       tells = record {
@@ -85,22 +82,22 @@ returns-in_err-push-clause-compared g c =
     let counts = counts_of g.C.Count.parsed_count g.C.Count.valued_count g.C.Count.encoded_count in
     let old = counts c.args.counter.now in
     let new = counts c.is_due_by_brief.new.counter in
-    more-compared c.args.before.now (c.lines.i + 1) (length c.args.after.now.text.lines.now) old new (omega (arith, c.lines-test.true, ap length c.requires.column))
+    more-compared c.args.before.now (c.lines.i + 1) (length c.args.after.now.text.lines.now) old new (omega (arith, c.lines-test.true, ap length c.requires.searched, ap length c.lines-lines.ensures))
     (next-compared c.args.before.now c.lines.i old (counts c.lines.counter) new c.lines.invariant.compared c.is_due_by_brief.ensures.compared)
 
 pub lines_up_to_due-i-requires-in-lines : goal.lines_up_to_due-i-requires-in-lines
 lines_up_to_due-i-requires-in-lines g c = grind (arith, common_steps)
 
 pub is_due_by_brief-requires-clause-last : goal.is_due_by_brief-requires-clause-last
-is_due_by_brief-requires-clause-last g c = omega (arith, c.lines-test.true, ap length c.requires.column)
+is_due_by_brief-requires-clause-last g c = omega (arith, c.lines-test.true, ap length c.requires.searched, ap length c.lines-lines.ensures)
 
 pub overflow_cast-line : goal.overflow_cast-line
-overflow_cast-line g c = omega (arith, c.lines-test.true, c.requires.after.few, ap length c.requires.column)
+overflow_cast-line g c = omega (arith, c.lines-test.true, c.requires.after.few, ap length c.requires.searched, ap length c.lines-lines.ensures)
 
 pub overflow_add-line : goal.overflow_add-line
-overflow_add-line g c = omega (arith, c.lines-test.true, c.requires.after.few, ap length c.requires.column)
+overflow_add-line g c = omega (arith, c.lines-test.true, c.requires.after.few, ap length c.requires.searched, ap length c.lines-lines.ensures)
 
 pub returns-clause-compared : goal.returns-clause-compared
 returns-clause-compared g c =
     let counts = counts_of g.C.Count.parsed_count g.C.Count.valued_count g.C.Count.encoded_count in
-    more-compared c.args.before.now c.lines.i (length c.args.after.now.text.lines.now) (counts c.args.counter.now) (counts c.lines.counter) (omega (arith, c.lines.invariant.within, ap length c.requires.column)) c.lines.invariant.compared
+    more-compared c.args.before.now c.lines.i (length c.args.after.now.text.lines.now) (counts c.args.counter.now) (counts c.lines.counter) (omega (arith, c.lines.invariant.within, ap length c.requires.searched, ap length c.lines-lines.ensures)) c.lines.invariant.compared

@@ -6,7 +6,6 @@ use Rattle.rv_program.specs.internal.TextRows.{program_in, AreEquValuesIn}
 use Rattle.rv_program.specs.internal.Work.{equ_operands}
 use Rattle.rv_program.specs.lemmas.EquLaws.{equ_values-none, equ_values-past}
 use Rattle.rv_program.specs.lemmas.ShapeWork.{operands-next, operands-more}
-use Rattle.rv_program.specs.lemmas.LineGroups.{count-groups}
 use Rattle.rv_program.proofs.equ_values.equ_values.Goals as goal
 
 pub loop-i-init : goal.loop-i-init
@@ -14,9 +13,9 @@ loop-i-init g c =
     let text = c.args.text.now in
     let names = text.names.now in
     let none : c.in_ok-row.row.items ≡ replicate (length names) (Err LaterEqu) = search rules in
-    let past = c.lines_up_to-i.ensures in
-    let i = c.lines_up_to-i.result in
-    let passed = past.passed text.lines.now c.requires.groups in
+    let past = c.next_of_kind-i.ensures in
+    let i = c.next_of_kind-i.result in
+    let passed = past.passed text.lines.now c.requires.searched in
     record {
       within = past.within;
       values = rw none (equ_values-past text.base (program_in text) 0 i names (replicate (length names) (Err LaterEqu)) past.up passed (equ_values-none text.base (program_in text) names));
@@ -34,10 +33,10 @@ loop-i-preserved g c =
     let program = program_in text in
     let before = c.loop-i.invariant in
     let settled = c.settle_equ.ensures in
-    let past = c.lines_up_to-i-in-loop-i.ensures in
+    let past = c.next_of_kind-i-in-loop-i.ensures in
     let i = c.loop-i.i in
-    let next = c.lines_up_to-i-in-loop-i.result in
-    let passed = past.passed text.lines.now c.requires.groups in
+    let next = c.next_of_kind-i-in-loop-i.result in
+    let passed = past.passed text.lines.now c.requires.searched in
     let more = operands-more equ_operands program (i + 1) next past.up in
     record {
       within = past.within;
@@ -53,7 +52,7 @@ loop-i-preserved g c =
 pub returns-clause-values : goal.returns-clause-values
 returns-clause-values g c =
     let text = c.args.text.now in
-    let end : c.loop-i.i ≡ length text.lines.now = omega (arith, c.loop-i-test.false, c.loop-i.invariant.within, count-groups text.lines.now c.args.groups.now c.requires.groups) in
+    let end : c.loop-i.i ≡ length text.lines.now = omega (arith, c.loop-i-test.false, c.loop-i.invariant.within, ap length c.requires.searched) in
     subst (λ k. AreEquValuesIn text k c.loop-i.row.items) end c.loop-i.invariant.values
 
 pub returns-clause-parsed : goal.returns-clause-parsed
@@ -71,5 +70,5 @@ returns-clause-valued_within g c = grind (arith, common_steps)
 pub returns-clause-operands : goal.returns-clause-operands
 returns-clause-operands g c =
     let text = c.args.text.now in
-    let end : c.loop-i.i ≤ length text.lines.now = omega (arith, c.loop-i.invariant.within, count-groups text.lines.now c.args.groups.now c.requires.groups) in
+    let end : c.loop-i.i ≤ length text.lines.now = omega (arith, c.loop-i.invariant.within, ap length c.requires.searched) in
     omega (arith, c.loop-i.invariant.operands, operands-more equ_operands (program_in text) c.loop-i.i (length text.lines.now) end)

@@ -6,7 +6,7 @@ use Rattle.rv_program.proofs.equ_values.equ_values.Given as goal
 -- the values of the lines so far
 abbrev pub invariant-loop-i : goal.invariant-loop-i
 invariant-loop-i g l = record {
-  within : l.i ≤ length l.groups;
+  within : l.i ≤ length l.searched;
   values : AreEquValuesIn l.text l.i l.row.items;
   as_many : length l.row.items ≡ length l.text.names.now;
   valued : g.C.Count.valued_count l.initial.counter ≤ g.C.Count.valued_count l.counter;
@@ -17,4 +17,4 @@ invariant-loop-i g l = record {
 }
 
 abbrev pub decreases-loop-i : goal.decreases-loop-i
-decreases-loop-i g l = length l.groups - l.i
+decreases-loop-i g l = length l.searched - l.i

@@ -1,8 +1,7 @@
-use Rattle.std.proofs.Common.{◌≡◌, ◌+◌, length, arith, refl, subst, ◌∙◌}
+use Rattle.std.proofs.Common.{ap, ◌≡◌, ◌+◌, length, arith, refl, subst, ◌∙◌}
 use Rattle.rv_program.specs.internal.KeptEqus.{AreValuesAfter}
 use Rattle.rv_program.specs.internal.TextRows.{program_in}
 use Rattle.rv_program.specs.internal.Work.{equ_operands}
-use Rattle.rv_program.specs.lemmas.LineGroups.{count-groups}
 use Rattle.rv_program.specs.lemmas.ShapeWork.{operands-next, operands-more}
 use Rattle.rv_program.proofs.KeptEqus.{values-past, values-all}
 use Rattle.rv_program.proofs.equ_values_after.equ_values_after.Goals as goal
@@ -11,9 +10,9 @@ pub loop-i-init : goal.loop-i-init
 loop-i-init g c =
     let before = c.args.before.now in
     let text = c.args.text.now in
-    let past = c.lines_up_to-i.ensures in
-    let i = c.lines_up_to-i.result in
-    let passed = past.passed text.lines.now c.requires.groups in
+    let past = c.next_of_kind-i.ensures in
+    let i = c.next_of_kind-i.result in
+    let passed = past.passed text.lines.now c.requires.searched in
     let start = rw c.in-Some.is at c.in_ok-row.ensures in
     record {
       within = past.within;
@@ -31,10 +30,10 @@ loop-i-preserved g c =
     let program = program_in text in
     let before = c.loop-i.invariant in
     let settled = c.settle_after.ensures in
-    let past = c.lines_up_to-i-in-loop-i.ensures in
+    let past = c.next_of_kind-i-in-loop-i.ensures in
     let i = c.loop-i.i in
-    let next = c.lines_up_to-i-in-loop-i.result in
-    let passed = past.passed text.lines.now c.requires.groups in
+    let next = c.next_of_kind-i-in-loop-i.result in
+    let passed = past.passed text.lines.now c.requires.searched in
     let more = operands-more equ_operands program (i + 1) next past.up in
     record {
       within = past.within;
@@ -50,6 +49,6 @@ pub returns-clause-values : goal.returns-clause-values
 returns-clause-values g c =
     let before = c.args.before.now in
     let text = c.args.text.now in
-    let end : c.loop-i.i ≡ length text.lines.now = omega (arith, c.loop-i-test.false, c.loop-i.invariant.within, count-groups text.lines.now c.args.groups.now c.requires.groups) in
+    let end : c.loop-i.i ≡ length text.lines.now = omega (arith, c.loop-i-test.false, c.loop-i.invariant.within, ap length c.requires.searched) in
     values-all before text c.requires.before c.requires.rows c.requires.after c.loop-i.row.items c.loop-i.differing
     (subst (λ k. AreValuesAfter before text k c.loop-i.row.items c.loop-i.differing) end c.loop-i.invariant.values)

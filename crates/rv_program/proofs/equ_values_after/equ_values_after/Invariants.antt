@@ -7,7 +7,7 @@ use Rattle.rv_program.proofs.equ_values_after.equ_values_after.Given as goal
 -- the values of the lines so far
 abbrev pub invariant-loop-i : goal.invariant-loop-i
 invariant-loop-i g l = record {
-  within : l.i ≤ length l.groups;
+  within : l.i ≤ length l.searched;
   values : AreValuesAfter l.before l.text l.i l.row.items l.differing;
   valued : g.C.Count.valued_count l.initial.counter ≤ g.C.Count.valued_count l.counter;
   valued_within : g.C.Count.valued_count l.counter ≤ g.C.Count.valued_count l.initial.counter + l.i;
@@ -17,4 +17,4 @@ invariant-loop-i g l = record {
 }
 
 abbrev pub decreases-loop-i : goal.decreases-loop-i
-decreases-loop-i g l = length l.groups - l.i
+decreases-loop-i g l = length l.searched - l.i

@@ -7,9 +7,9 @@ use Rattle.rv_program.proofs.highs.all_own_highs.Given as goal
 -- the high halves on the lines so far
 abbrev pub invariant-loop-i : goal.invariant-loop-i
 invariant-loop-i g l = record {
-  within : l.i ≤ length l.groups;
+  within : l.i ≤ length l.searched;
   row : AreHighsThrough l.rows.text.base (program_in l.rows.text) l.i l.row.items;
-  many : length l.row.items ≡ length l.groups;
+  many : length l.row.items ≡ length l.searched;
   least : g.C.Count.valued_count l.initial.counter ≤ g.C.Count.valued_count l.counter;
   most : g.C.Count.valued_count l.counter ≤ g.C.Count.valued_count l.initial.counter + l.i;
   operands : g.C.Count.valued_count l.counter ≤ g.C.Count.valued_count l.initial.counter + operands_through high_operands (program_in l.rows.text) l.i;
@@ -18,4 +18,4 @@ invariant-loop-i g l = record {
 }
 
 abbrev pub decreases-loop-i : goal.decreases-loop-i
-decreases-loop-i g l = length l.groups - l.i
+decreases-loop-i g l = length l.searched - l.i

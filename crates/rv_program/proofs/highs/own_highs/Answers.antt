@@ -6,7 +6,6 @@ use Rattle.rv_program.specs.internal.Before.{base_before, lines_before, edit_on}
 use Rattle.rv_program.specs.internal.Rows.{own_high_of, AreOwnHighs}
 use Rattle.rv_program.specs.internal.TextRows.{program_in}
 use Rattle.rv_program.specs.internal.Work.{high_operands, work}
-use Rattle.rv_program.specs.lemmas.LineGroups.{count-groups}
 use Rattle.rv_program.proofs.HighRows.{AreHighsThrough, highs-none, highs-past, highs-set, highs-all}
 use Rattle.rv_program.specs.lemmas.Programs.{length-program}
 use Rattle.rv_program.specs.lemmas.WorkLaws.{work-up}
@@ -16,11 +15,11 @@ pub loop-i-init : goal.loop-i-init
 loop-i-init g c =
     let text = c.args.after.now.text in
     let program = program_in text in
-    let count = length c.args.groups.now in
-    let none : c.in_ok-row.row.items ≡ replicate count (Err NoPartner) = c.in_ok-row.ensures in
-    let past = c.lines_up_to-i.ensures in
-    let i = c.lines_up_to-i.result in
-    let passed = past.passed text.lines.now c.requires.groups in
+    let count = length c.args.searched.now in
+    let none : c.in_ok-row.row.items ≡ replicate count (Err NoPartner) = c.in_ok-row.ensures ∙ ap (λ n. replicate n (Err NoPartner)) c.len-count.ensures in
+    let past = c.next_of_kind-i.ensures in
+    let i = c.next_of_kind-i.result in
+    let passed = past.passed text.lines.now c.requires.searched in
     record {
       within = past.within;
       row = subst (AreHighsThrough text.base program i) (sym none)
@@ -38,11 +37,11 @@ loop-i-preserved g c =
     let text = c.args.after.now.text in
     let program = program_in text in
     let before = c.loop-i.invariant in
-    let past = c.lines_up_to-i-in-loop-i.ensures in
+    let past = c.next_of_kind-i-in-loop-i.ensures in
     let line = c.high_after.ensures in
     let i = c.loop-i.i in
-    let next = c.lines_up_to-i-in-loop-i.result in
-    let passed = past.passed text.lines.now c.requires.groups in
+    let next = c.next_of_kind-i-in-loop-i.result in
+    let passed = past.passed text.lines.now c.requires.searched in
     let row = c.loop-i.row.items in
     let high = c.high_after.result in
     let within : i < length row = omega (arith, c.loop-i-test.true, before.many) in
@@ -64,20 +63,20 @@ pub returns-clause-highs : goal.returns-clause-highs
 returns-clause-highs g c =
     let text = c.args.after.now.text in
     let program = program_in text in
-    let count : length program ≡ length c.args.groups.now = length-program text.lines.now ∙ sym (count-groups text.lines.now c.args.groups.now c.requires.groups) in
+    let count : length program ≡ length c.args.searched.now = length-program text.lines.now ∙ sym (ap length c.requires.searched) in
     let end : c.loop-i.i ≡ length program = omega (arith, c.loop-i-test.false, c.loop-i.invariant.within, count) in
     highs-all text.base program c.loop-i.row.items (omega (arith, c.loop-i.invariant.many, count))
     (subst (λ n. AreHighsThrough text.base program n c.loop-i.row.items) end c.loop-i.invariant.row)
 
 -- no line has a high half
-pub returns-then-i-groups-clause-highs : goal.returns-then-i-groups-clause-highs
-returns-then-i-groups-clause-highs g c =
+pub returns-then-i-count-clause-highs : goal.returns-then-i-count-clause-highs
+returns-then-i-count-clause-highs g c =
     let text = c.args.after.now.text in
     let program = program_in text in
-    let past = c.lines_up_to-i.ensures in
-    let i = c.lines_up_to-i.result in
-    let passed = past.passed text.lines.now c.requires.groups in
-    let end : i ≡ length program = omega (arith, c.if-i-groups.true, past.within, length-program text.lines.now, count-groups text.lines.now c.args.groups.now c.requires.groups) in
+    let past = c.next_of_kind-i.ensures in
+    let i = c.next_of_kind-i.result in
+    let passed = past.passed text.lines.now c.requires.searched in
+    let end : i ≡ length program = omega (arith, c.if-i-count.true, past.within, length-program text.lines.now, ap length c.requires.searched) in
     subst (AreOwnHighs text.base program) (sym c.new.ensures.items)
     (highs-all text.base program [] (omega arith)
     (subst (λ n. AreHighsThrough text.base program n []) end (highs-past text.base program 0 i [] past.up passed (highs-none text.base program 0))))
@@ -107,11 +106,11 @@ pub returns-clause-work : goal.returns-clause-work
 returns-clause-work g c =
     let before = c.args.before.now in
     let lines = c.args.after.now.text.lines.now in
-    let end : c.loop-i.i ≤ length lines = omega (arith, c.loop-i.invariant.within, count-groups lines c.args.groups.now c.requires.groups) in
+    let end : c.loop-i.i ≤ length lines = omega (arith, c.loop-i.invariant.within, ap length c.requires.searched) in
     omega (arith, c.loop-i.invariant.work, work-up high_operands (base_before before) (lines_before before) (edit_on before) c.loop-i.i (length lines) end)
 
 pub returns-clause-many : goal.returns-clause-many
-returns-clause-many g c = inr (c.loop-i.invariant.many ∙ count-groups c.args.after.now.text.lines.now c.args.groups.now c.requires.groups)
+returns-clause-many g c = inr (c.loop-i.invariant.many ∙ ap length c.requires.searched)
 
-pub returns-then-i-groups-clause-many : goal.returns-then-i-groups-clause-many
-returns-then-i-groups-clause-many g c = inl (ap length c.new.ensures.items)
+pub returns-then-i-count-clause-many : goal.returns-then-i-count-clause-many
+returns-then-i-count-clause-many g c = inl (ap length c.new.ensures.items)

@@ -8,9 +8,9 @@ use Rattle.rv_program.proofs.highs.own_highs.Given as goal
 -- the high halves on the lines so far
 abbrev pub invariant-loop-i : goal.invariant-loop-i
 invariant-loop-i g l = record {
-  within : l.i ≤ length l.groups;
+  within : l.i ≤ length l.searched;
   row : AreHighsThrough l.after.text.base (program_in l.after.text) l.i l.row.items;
-  many : length l.row.items ≡ length l.groups;
+  many : length l.row.items ≡ length l.searched;
   least : g.C.Count.valued_count l.initial.counter ≤ g.C.Count.valued_count l.counter;
   most : g.C.Count.valued_count l.counter ≤ g.C.Count.valued_count l.initial.counter + l.i;
   work : g.C.Count.valued_count l.counter ≤ g.C.Count.valued_count l.initial.counter + work high_operands (base_before l.before) (lines_before l.before) (edit_on l.before) l.i;
@@ -19,4 +19,4 @@ invariant-loop-i g l = record {
 }
 
 abbrev pub decreases-loop-i : goal.decreases-loop-i
-decreases-loop-i g l = length l.groups - l.i
+decreases-loop-i g l = length l.searched - l.i

@@ -14,7 +14,7 @@ pub keep_places-requires-clause-first : goal.keep_places-requires-clause-first
 keep_places-requires-clause-first c = place-first c.args.old.now (edit_of c.args.edit.now) c.requires.allowed
 
 pub keep_places-requires-clause-within : goal.keep_places-requires-clause-within
-keep_places-requires-clause-within c = place-within c.args.old.now c.args.lines.now (edit_of c.args.edit.now) c.requires.edited c.requires.allowed
+keep_places-requires-clause-within c = place-within c.args.old.now c.args.searched.now (edit_of c.args.edit.now) c.requires.edited c.requires.allowed
 
 pub returns-clause-definitions : goal.returns-clause-definitions
 returns-clause-definitions c =

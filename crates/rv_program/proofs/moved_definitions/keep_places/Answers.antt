@@ -8,7 +8,7 @@ use Rattle.rv_program.proofs.moved_definitions.keep_places.Goals as goal
 
 pub loop-number-init : goal.loop-number-init
 loop-number-init c = record {
-  kept = kept-none (edit_of c.args.edit.now) c.args.lines.now c.args.names.now c.args.row.now.items;
+  kept = kept-none (edit_of c.args.edit.now) c.args.searched.now c.args.names.now c.args.row.now.items;
   as_many = refl;
 }
 
@@ -20,12 +20,12 @@ loop-number-preserved c =
     let there : number < length row = omega (arith, c.loop-number-test.true, c.len-number-end.ensures, so_far.as_many) in
     let here : c.index.result.now ≡ get_or row number Nowhere = c.index.ensures ∙ get_or_default row number c.index.result.now Nowhere there in
     record {
-      kept = kept-more (edit_of c.args.edit.now) c.args.lines.now c.args.names.now c.args.row.now.items row number
+      kept = kept-more (edit_of c.args.edit.now) c.args.searched.now c.args.names.now c.args.row.now.items row number
           c.place_after.result so_far.kept there
-          (λ name named. c.place_after.ensures name named ∙ ap (place_after (edit_of c.args.edit.now) (found_after (edit_of c.args.edit.now) c.args.lines.now name)) here);
+          (λ name named. c.place_after.ensures name named ∙ ap (place_after (edit_of c.args.edit.now) (found_after (edit_of c.args.edit.now) c.args.searched.now name)) here);
       as_many = length-set row number c.place_after.result ∙ so_far.as_many;
     }
 
 pub returns-clause-row : goal.returns-clause-row
 returns-clause-row c =
-    kept-all (edit_of c.args.edit.now) c.args.lines.now c.args.names.now c.args.row.now.items c.loop-number.row.items c.loop-number.number c.loop-number.invariant.kept (omega (arith, c.loop-number-test.false, c.len-number-end.ensures))
+    kept-all (edit_of c.args.edit.now) c.args.searched.now c.args.names.now c.args.row.now.items c.loop-number.row.items c.loop-number.number c.loop-number.invariant.kept (omega (arith, c.loop-number-test.false, c.len-number-end.ensures))

@@ -1,11 +1,11 @@
-use Rattle.std.proofs.Common.{◌≡◌, ℕ, suc, ◌<◌, ◌==◌, not, true, false, List, [], ◌∷◌, ◌++◌, length, map, Option, Some, None, arith, ap, sym, subst, ◌∙◌}
+use Rattle.std.proofs.Common.{◌≡◌, ℕ, suc, ◌<◌, ◌==◌, not, true, false, List, [], ◌∷◌, ◌++◌, length, Option, Some, None, arith, ap, sym, subst, ◌∙◌}
 use Rattle.rv_stmt.specs.Statement.{statement_of}
 use Rattle.rv_layout.specs.declared.measured.Measured.{Measured}
 use Rattle.rv_layout.specs.Places.{IsLimited, AreLimited}
 use Rattle.rv_store.specs.declared.ends.Ends.{Ends}
 use Rattle.rv_program.specs.declared.limits.TheConstants.{MAX_LINES}
 use Rattle.rv_store.specs.internal.Appended.{adds, touches, TellEarlier, FindsLocals, IsApart}
-use Rattle.rv_program.specs.internal.Briefs.{groups_on}
+use Rattle.rv_program.specs.internal.FirstUses.{AreFirstUses}
 use Rattle.rv_store.specs.internal.Ends.{ends_of, IsBehind}
 use Rattle.rv_program.specs.Program.{Program, program_of, lines_that}
 use Rattle.rv_store.specs.internal.Still.{uses_any}
@@ -13,6 +13,7 @@ use Rattle.rv_program.specs.References.{among_local}
 use Rattle.rv_program.specs.internal.Rows.{AreShapes}
 use Rattle.std.specs.Option.{is_some}
 use Rattle.rv_expr.specs.declared.tree.Direction.TheVariants.{Forward}
+use Rattle.rv_program.specs.lemmas.Lists.{all-first}
 use Rattle.rv_program.specs.lemmas.LocalLines.{local_line-row}
 use Rattle.rv_store.proofs.ApartLines.{tell-text}
 use Rattle.rv_store.proofs.Endings.{ends-with, together-before, together-all, short-before, ending-line}
@@ -47,12 +48,15 @@ advance-requires-clause-short c =
 
 pub adds_apart-requires-clause-definitions : goal.adds_apart-requires-clause-definitions
 adds_apart-requires-clause-definitions c =
-    subst (TellEarlier c.as_slice-2.result.now c.args.names.now) (sym c.deref.ensures.value)
-    (subst (λ ls. TellEarlier ls c.args.names.now c.args.survey.now.definitions.items) (sym c.as_slice-2.ensures)
+    subst (TellEarlier c.in_tree-searched.result c.args.names.now) (sym c.deref.ensures.value)
+    (subst (λ ls. TellEarlier ls c.args.names.now c.args.survey.now.definitions.items) (sym (c.in_tree-searched.ensures ∙ c.as_slice-2.ensures))
     (tell-text c.args.survey.now.lines.items c.args.names.now c.args.survey.now.definitions.items c.requires.definitions))
 
-pub adds_apart-requires-clause-groups : goal.adds_apart-requires-clause-groups
-adds_apart-requires-clause-groups c = c.groups.ensures ∙ ap (map groups_on) (sym c.as_slice-2.ensures)
+pub adds_apart-requires-clause-uses : goal.adds_apart-requires-clause-uses
+adds_apart-requires-clause-uses c = subst (λ ls. AreFirstUses ls c.uses.result.now) (sym (c.in_tree-searched.ensures ∙ c.as_slice-2.ensures)) c.uses.ensures
+
+pub in_tree-searched-requires : goal.in_tree-searched-requires
+in_tree-searched-requires c = all-first (c.requires.items ∙ sym c.as_slice-2.ensures)
 
 pub stay_sections-requires-clause-ends_before : goal.stay_sections-requires-clause-ends_before
 stay_sections-requires-clause-ends_before c =
@@ -74,7 +78,7 @@ last_place-place-requires-clause-behind c =
     )
 
 pub adds_apart-requires-clause-locals : goal.adds_apart-requires-clause-locals
-adds_apart-requires-clause-locals c = subst (λ ls. FindsLocals (program_of ls) (statement_of c.args.line.now) c.reach-from.result) (sym c.as_slice-2.ensures) (λ number i has within before.
+adds_apart-requires-clause-locals c = subst (λ ls. FindsLocals (program_of ls) (statement_of c.args.line.now) c.reach-from.result) (sym (c.in_tree-searched.ensures ∙ c.as_slice-2.ensures)) (λ number i has within before.
     let lines = c.args.survey.now.lines.items in
     subst (λ o. is_some o ≡ true) (local_line-row (program_of lines) c.args.survey.now.locals i number Forward c.requires.locals within)
     (c.reach-from.ensures.found number i (ap (among_local number) (c.as_slice.ensures ∙ ap (λ t. t.labels) c.stmt.ensures) ∙ has) before))
@@ -91,8 +95,8 @@ returns c =
     let shapes = c.args.survey.now.shapes.items in
     let all = ends-with shapes c.args.shape c.args.survey.now.ends c.advance.new.self c.requires.ends c.advance.ensures in
     ending-line c.args.base c.args.survey.now.lines.items c.args.line.now c.reach-from.result shapes c.args.survey.now.ends _ _ c.requires.shapes c.requires.limited c.requires.few
-    (subst (λ ls. IsApart (program_of ls) (statement_of c.args.line.now) c.reach-from.result) c.as_slice-2.ensures c.in_ok-added.ensures.apart)
-    (subst (λ ls. c.in_ok-added.added.any ≡ false → (name : List ℕ) → adds (program_of ls) (statement_of c.args.line.now) name ≡ false) c.as_slice-2.ensures c.in_ok-added.ensures.nothing)
+    (subst (λ ls. IsApart (program_of ls) (statement_of c.args.line.now) c.reach-from.result) (c.in_tree-searched.ensures ∙ c.as_slice-2.ensures) c.in_ok-added.ensures.apart)
+    (subst (λ ls. c.in_ok-added.added.any ≡ false → (name : List ℕ) → adds (program_of ls) (statement_of c.args.line.now) name ≡ false) (c.in_tree-searched.ensures ∙ c.as_slice-2.ensures) c.in_ok-added.ensures.nothing)
     c.requires.shape c.requires.limited_shape c.requires.ends all (c.stay_sections.ensures c.if-not-stay_sections.false)
     (c.last_place-place.ensures shapes (behind c.args.survey.now.lines.items shapes c.args.shape c.args.survey.now.ends c.advance.new.self c.requires.shapes c.requires.limited c.requires.limited_shape c.requires.few c.requires.ends all))
     (λ lies. elim c.if-brief.branch [
@@ -113,4 +117,4 @@ returns c =
       )
       | else-brief w ↦ absurd (let no : None ≡ Some first = sym w.waiting-is ∙ e in cc)
     ])
-    (subst (λ ls. c.in_ok-added.added.users.items ≡ lines_that (uses_any (touches (program_of ls) (statement_of c.args.line.now) c.reach-from.result) (program_of ls)) (length ls)) c.as_slice-2.ensures c.in_ok-added.ensures.users)
+    (subst (λ ls. c.in_ok-added.added.users.items ≡ lines_that (uses_any (touches (program_of ls) (statement_of c.args.line.now) c.reach-from.result) (program_of ls)) (length ls)) (c.in_tree-searched.ensures ∙ c.as_slice-2.ensures) c.in_ok-added.ensures.users)

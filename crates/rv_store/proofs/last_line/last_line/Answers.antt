@@ -1,12 +1,10 @@
-use Rattle.std.proofs.Common.{◌≡◌, ◌≤◌, ◌==◌, ℕ, Bool, true, true≢false, List, [], ◌∷◌, ◌++◌, length, map, take, arith, ap, sym, subst, ◌∙◌, refl}
-use Rattle.std.proofs.Math.Seq.{take-append_seam}
-use Rattle.std.proofs.lemmas.List.{take-map}
+use Rattle.std.proofs.Common.{◌≡◌, ◌≤◌, ◌==◌, ℕ, Bool, true, false, true≢false, List, [], ◌∷◌, ◌++◌, length, arith, ap, sym, subst, ◌∙◌, refl}
 use Rattle.rv_stmt.specs.Statement.{statement_of}
 use Rattle.rv_program.specs.lemmas.LocalLines.{none-among}
-use Rattle.rv_program.specs.Program.{program_of}
+use Rattle.rv_program.specs.Program.{program_of, lines_that}
 use Rattle.rv_store.specs.declared.survey.Survey.{Survey}
-use Rattle.rv_store.specs.internal.Appended.{TellEarlier}
-use Rattle.rv_program.specs.internal.Briefs.{groups_on}
+use Rattle.rv_store.specs.internal.Appended.{TellEarlier, adds, touches, IsApart}
+use Rattle.rv_store.specs.internal.Still.{uses_any}
 use Rattle.rv_program.specs.internal.FirstUses.{AreFirstUses}
 use Rattle.rv_program.specs.lemmas.FirstUseLaws.{uses-before}
 use Rattle.rv_store.specs.internal.Ends.{ends_of}
@@ -60,7 +58,8 @@ stay_sections-requires-clause-ends c =
 pub adds_apart-requires-clause-uses : goal.adds_apart-requires-clause-uses
 adds_apart-requires-clause-uses c =
     let whole = sym c.as_slice.ensures ∙ c.in_ok-line.ensures.cases.0 in
-    uses-before c.in_ok-line.earlier.now (c.in_ok-line.line.now ∷ []) c.uses.result.now (subst (λ ls. AreFirstUses ls c.uses.result.now) whole c.uses.ensures)
+    subst (λ ls. AreFirstUses ls c.uses.result.now) (sym c.in_tree-searched.ensures)
+    (uses-before c.in_ok-line.earlier.now (c.in_ok-line.line.now ∷ []) c.uses.result.now (subst (λ ls. AreFirstUses ls c.uses.result.now) whole c.uses.ensures))
 
 pub adds_apart-requires-clause-definitions : goal.adds_apart-requires-clause-definitions
 adds_apart-requires-clause-definitions c =
@@ -68,18 +67,16 @@ adds_apart-requires-clause-definitions c =
     let lines = c.in_ok-line.earlier.now in
     let line = c.in_ok-line.line.now in
     let whole : s.lines.items ≡ lines ++ line ∷ [] = sym c.as_slice.ensures ∙ c.in_ok-line.ensures.cases.0 in
-    subst (TellEarlier lines c.args.names.now) (sym c.deref.ensures.value)
-    (tell-longer lines c.args.names.now s.definitions.items line (surveyed c.args.base lines line c.args.names.now s whole c.requires.survey).definitions)
+    subst (λ ls. TellEarlier ls c.args.names.now c.deref.result.now) (sym c.in_tree-searched.ensures)
+    (subst (TellEarlier lines c.args.names.now) (sym c.deref.ensures.value)
+    (tell-longer lines c.args.names.now s.definitions.items line (surveyed c.args.base lines line c.args.names.now s whole c.requires.survey).definitions))
 
-pub adds_apart-requires-clause-groups : goal.adds_apart-requires-clause-groups
-adds_apart-requires-clause-groups c =
-    let lines = c.in_ok-line.earlier.now in
-    let line = c.in_ok-line.line.now in
-    let whole : c.args.survey.now.lines.items ≡ lines ++ line ∷ [] = sym c.as_slice.ensures ∙ c.in_ok-line.ensures.cases.0 in
-    c.split_at.ensures.front
-    ∙ ap (take (length lines)) (c.groups.ensures ∙ ap (map groups_on) whole)
-    ∙ take-map groups_on (length lines) (lines ++ line ∷ [])
-    ∙ ap (map groups_on) (take-append_seam lines (line ∷ []))
+-- the lines before the last one are the first ones of the items
+pub in_tree-searched-requires : goal.in_tree-searched-requires
+in_tree-searched-requires c = record {
+  others = c.in_ok-line.line.now ∷ [];
+  whole = c.requires.items ∙ sym c.as_slice.ensures ∙ c.in_ok-line.ensures.cases.0;
+}
 
 pub adds_apart-requires-clause-locals : goal.adds_apart-requires-clause-locals
 adds_apart-requires-clause-locals c number i has = absurd (true≢false (sym has ∙ none-among number (statement_of c.in_ok-line.line.now).labels (sym (ap (λ b. b.local_labels) c.brief-brief.ensures) ∙ c.if-brief.false)))
@@ -93,8 +90,14 @@ returns c =
     let whole : s.lines.items ≡ lines ++ line ∷ [] = sym c.as_slice.ensures ∙ c.in_ok-line.ensures.cases.0 in
     let few : length (lines ++ line ∷ []) ≤ 16384 = omega (arith, c.requires.few, ap length whole) in
     let are = surveyed base lines line c.args.names.now s whole c.requires.survey in
+    let end = c.len-end.result in
+    let are_lines = c.in_tree-searched.ensures in
+    let added = c.in_ok-added.added in
+    let apart = subst (λ ls. IsApart (program_of ls) (statement_of line) end) are_lines c.in_ok-added.ensures.apart in
+    let nothing = subst (λ ls. added.any ≡ false → (name : List ℕ) → adds (program_of ls) (statement_of line) name ≡ false) are_lines c.in_ok-added.ensures.nothing in
+    let users = subst (λ ls. added.users.items ≡ lines_that (uses_any (touches (program_of ls) (statement_of line) end) (program_of ls)) (length ls)) are_lines c.in_ok-added.ensures.users in
     is-last_line base lines line (limited-with base lines line c.args.names.now s few are) (few-without base lines line c.args.names.now s few are) _ s.ends s.lines.items whole
     (ends-with base lines line c.args.names.now s few are)
     (ends-first base lines line c.args.names.now s few are c.index.result.now c.index.ensures c.before-before.result c.before-before.ensures)
-    (c.stay_sections.ensures c.if-not-stay_sections.false) c.len-end.result c.in_ok-added.ensures.apart (λ number. none-among number (statement_of line).labels (sym (ap (λ b. b.local_labels) c.brief-brief.ensures) ∙ c.if-brief.false)) (no_high (statement_of line) c.brief-brief.result c.brief-brief.ensures c.if-brief-2.false) c.in_ok-added.ensures.nothing
-    (empty c.in_ok-added.added.users.items c.is_empty.result (let count : c.in_ok-added.added.users.len ≡ length c.in_ok-added.added.users.items = omega (arith, c.in_ok-added.added.users.ok.0) in c.is_empty.ensures ∙ ap (λ n. n == 0) count) c.if-not-is_empty.false ∙ c.in_ok-added.ensures.users)
+    (c.stay_sections.ensures c.if-not-stay_sections.false) end apart (λ number. none-among number (statement_of line).labels (sym (ap (λ b. b.local_labels) c.brief-brief.ensures) ∙ c.if-brief.false)) (no_high (statement_of line) c.brief-brief.result c.brief-brief.ensures c.if-brief-2.false) nothing
+    (empty added.users.items c.is_empty.result (let count : added.users.len ≡ length added.users.items = omega (arith, added.users.ok.0) in c.is_empty.ensures ∙ ap (λ n. n == 0) count) c.if-not-is_empty.false ∙ users)

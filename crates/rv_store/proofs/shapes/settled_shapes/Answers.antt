@@ -1,10 +1,9 @@
-use Rattle.std.proofs.Common.{◌≡◌, ℕ, ◌+◌, ◌≤◌, ◌<◌, length, get_or, set, replicate, None, rules, arith, ap, sym, refl, subst, ◌∙◌}
-use Rattle.std.proofs.lemmas.List.{length-map, length-replicate}
+use Rattle.std.proofs.Common.{◌≡◌, ◌+◌, ◌≤◌, ◌<◌, length, get_or, set, replicate, None, rules, arith, ap, sym, refl, subst, ◌∙◌}
+use Rattle.std.proofs.lemmas.List.{length-replicate}
 use Rattle.rv_layout.specs.Places.{AreLimited}
 use Rattle.rv_program.specs.Layout.{shape_at}
 use Rattle.rv_program.specs.Program.{program_of, for_lines}
 use Rattle.rv_program.specs.internal.Before.{base_before, lines_before, edit_on}
-use Rattle.rv_program.specs.internal.Briefs.{groups_on}
 use Rattle.rv_program.specs.internal.Rows.{AreConstants}
 use Rattle.rv_program.specs.internal.Work.{constant_operands, work}
 use Rattle.rv_program.specs.lemmas.ConstantRows.{constants-none}
@@ -22,12 +21,12 @@ loop-i-init g c =
     let lines = c.args.lines.now in
     let made : c.in_ok-constants.constants.items ≡ replicate (length c.args.definitions.now) None = search rules in
     let none : c.in_ok-rows.rows.constants.items ≡ replicate (length c.args.definitions.now) None = ap (λ row. row.items) c.in_ok-rows.ensures.constants ∙ made in
-    let past = c.lines_up_to-i.ensures in
+    let past = c.next_of_kind-i.ensures in
     let start = g.C.Count.valued_count c.args.counter.now in
-    let within : c.lines_up_to-i.result ≤ length lines = omega (arith, past.within, ap length c.requires.groups, length-map lines groups_on) in
+    let within : c.next_of_kind-i.result ≤ length lines = omega (arith, past.within, ap length c.requires.searched) in
     record {
       within = within;
-      settled = settled-past before c.requires.before lines c.requires.after c.args.shape c.requires.shape start c.in_ok-rows.rows.shapes.items c.in_ok-rows.rows.constants.items start 0 c.lines_up_to-i.result past.up within (past.passed lines c.requires.groups)
+      settled = settled-past before c.requires.before lines c.requires.after c.args.shape c.requires.shape start c.in_ok-rows.rows.shapes.items c.in_ok-rows.rows.constants.items start 0 c.next_of_kind-i.result past.up within (past.passed lines c.requires.searched)
           (record {
             shapes = c.in_ok-rows.ensures.shapes;
             constants = rw none (constants-none (program_of lines) before.symbols.text.names.now (length c.args.definitions.now) c.requires.definitions.within);
@@ -85,13 +84,13 @@ loop-i-preserved g c =
     let rows = c.settle_line.new.rows in
     let start = g.C.Count.valued_count c.args.counter.now in
     let count = g.C.Count.valued_count c.settle_line.new.counter in
-    let past = c.lines_up_to-i-in-loop-i.ensures in
-    let next = c.lines_up_to-i-in-loop-i.result in
-    let within : next ≤ length lines = omega (arith, past.within, ap length c.requires.groups, length-map lines groups_on) in
+    let past = c.next_of_kind-i-in-loop-i.ensures in
+    let next = c.next_of_kind-i-in-loop-i.result in
+    let within : next ≤ length lines = omega (arith, past.within, ap length c.requires.searched) in
     let operands = operands-through before c.requires.before lines c.requires.after c.args.shape c.requires.shape start rows.shapes.items rows.constants.items count i in
     record {
       within = within;
-      settled = settled-past before c.requires.before lines c.requires.after c.args.shape c.requires.shape start rows.shapes.items rows.constants.items count (i + 1) next past.up within (past.passed lines c.requires.groups)
+      settled = settled-past before c.requires.before lines c.requires.after c.args.shape c.requires.shape start rows.shapes.items rows.constants.items count (i + 1) next past.up within (past.passed lines c.requires.searched)
           (record {
             shapes = settled.shapes ∙ ap (λ row. set row i (shape_at program (i + 1))) so_far.settled.shapes ∙ through-set program rest i there;
             constants = settled.constants;
@@ -154,11 +153,3 @@ pub returns-in_err-rows-clause-work : goal.returns-in_err-rows-clause-work
 returns-in_err-rows-clause-work g c =
     let before = c.args.before.now in
     omega (arith, nothing-shaped (base_before before) (lines_before before) (edit_on before) c.requires.before.allowed (length c.args.lines.now) (ap length c.requires.after))
-
-next-within : (i lines groups : ℕ) → i < lines → groups ≡ lines → i + 1 ≤ groups
-next-within i lines groups within same = omega arith
-
-pub lines_up_to-i-requires-in-loop-i : goal.lines_up_to-i-requires-in-loop-i
-lines_up_to-i-requires-in-loop-i g c = record {
-  within = next-within c.loop-i.i (length c.args.lines.now) (length c.args.groups.now) c.loop-i-test.true (ap length c.requires.groups ∙ length-map c.args.lines.now groups_on);
-}

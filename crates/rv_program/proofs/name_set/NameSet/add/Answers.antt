@@ -1,9 +1,9 @@
 use Rattle.std.proofs.Common.{◌≡◌, ◌<◌, length, slice_set, rules, ap, sym, subst, ◌∙◌, ℕ, get_or}
 use Rattle.std.proofs.lemmas.List.{length-set, get_or_default}
 use Rattle.rv_program.specs.declared.name_set.Mark.TheVariants.{Unknown}
-use Rattle.rv_program.specs.internal.NameSets.{IsBelow, AreGrouped, mark_of}
-use Rattle.rv_program.specs.internal.Groups.{with_group}
-use Rattle.rv_program.specs.lemmas.NameSetLaws.{below-put, grouped-with}
+use Rattle.rv_program.specs.internal.NameSets.{IsBelow, AreMasked, mark_of}
+use Rattle.rv_program.specs.internal.Masks.{both_masks, mask_of_bucket}
+use Rattle.rv_program.specs.lemmas.NameSetLaws.{below-put, masked-with}
 use Rattle.rv_program.proofs.name_set.NameSet.add.Goals.{After-differs}
 use Rattle.rv_program.proofs.name_set.NameSet.add.Goals as goal
 
@@ -15,8 +15,8 @@ invariant_of-self c =
     let within : place < length marks = search rules in
     let sized : length marks ≡ 16384 = c.self.invariant.0 in (
       length-set marks place c.with-mark.result ∙ sized,
-      subst (λ groups. AreGrouped (slice_set marks place c.with-mark.result) groups) (ap (with_group c.self.inside.groups) at ∙ sym c.with-self-inside.ensures)
-          (grouped-with marks c.self.inside.groups place c.with-mark.result within c.self.invariant.1),
+      subst (AreMasked (slice_set marks place c.with-mark.result)) (ap (λ bucket. both_masks c.self.inside.mask (mask_of_bucket bucket)) at ∙ ap (both_masks c.self.inside.mask) (sym c.of_bucket.ensures) ∙ sym c.with-self-inside.ensures)
+          (masked-with marks c.self.inside.mask place c.with-mark.result c.self.invariant.1),
     )
 
 kept : (c : After-differs) (other : ℕ) → IsBelow (mark_of c.args.self.now other) (get_or (slice_set c.self.inside.marks.items c.from-place.result c.with-mark.result) other Unknown)

@@ -1,6 +1,5 @@
 use Rattle.std.proofs.Common.{◌≡◌, ℕ, ◌≤◌, List, None, length, map, arith, ap, sym, subst, ◌∙◌, refl}
 use Rattle.std.specs.List.{AllPass}
-use Rattle.std.proofs.lemmas.List.{length-map}
 use Rattle.rv_program.specs.Changes.{changed_lines}
 use Rattle.rv_program.specs.Counted.{counts_of}
 use Rattle.rv_program.specs.Edits.{edit_of, edit_of_read}
@@ -36,14 +35,14 @@ pub assembled-made-requires-clause-survey : goal.assembled-made-requires-clause-
 assembled-made-requires-clause-survey g c =
     rw c.in_items.ensures (relined _ _ _ c.self.inside.survey _ c.self.invariant.surveyed)
 
-pub assembled-made-requires-clause-count : goal.assembled-made-requires-clause-count
-assembled-made-requires-clause-count g c =
+pub assembled-made-requires-clause-lines : goal.assembled-made-requires-clause-lines
+assembled-made-requires-clause-lines g c =
     let edit = edit_of c.args.edit.now in
     let edited : c.edit.new.self.items ≡ lines_after c.args.self.now.lines edit =
     c.in_ok-undo.ensures.lines
     ∙ ap (λ ls. lines_after ls (edit_of_read c.args.read)) (c.self.invariant.listed ∙ ap (λ t. t.lines) c.self.view_is)
     ∙ ap (lines_after c.args.self.now.lines) c.requires.read in
-    sym (length-map c.args.items.items (λ i. i.line)) ∙ ap length (c.requires.items ∙ sym edited)
+    c.requires.items ∙ sym edited
 
 pub assembled-made-requires-clause-former : goal.assembled-made-requires-clause-former
 assembled-made-requires-clause-former g c =

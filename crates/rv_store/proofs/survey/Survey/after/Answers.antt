@@ -1,4 +1,4 @@
-use Rattle.std.proofs.Common.{◌≡◌, ℕ, ◌≤◌, ◌+◌, ◌*◌, ◌^◌, List, length, map, ap, sym, subst, ◌∙◌, arith}
+use Rattle.std.proofs.Common.{◌≡◌, ℕ, ◌≤◌, ◌+◌, ◌*◌, ◌^◌, List, length, ap, sym, subst, ◌∙◌, arith}
 use Rattle.rv_layout.specs.Places.{is_base, sum_below}
 use Rattle.rv_layout.specs.Sections.{sections}
 use Rattle.rv_program.specs.declared.before.Before.{Before}
@@ -6,9 +6,8 @@ use Rattle.rv_program.specs.Text.{Edit, lines_after}
 use Rattle.rv_program.specs.internal.Before.{base_before, lines_before, edit_on}
 use Rattle.rv_program.specs.Edits.{edit_of}
 use Rattle.rv_store.specs.internal.Ends.{end_in, place_by_shapes}
-use Rattle.rv_program.specs.internal.Briefs.{groups_on}
 use Rattle.rv_program.specs.internal.NewShapes.{IsNewShape, shape_operands}
-use Rattle.rv_program.specs.internal.Rows.{AreDefinitions}
+use Rattle.rv_program.specs.internal.Rows.{AreDefinitions, AreLocals}
 use Rattle.rv_program.specs.Program.{program_of, for_lines}
 use Rattle.rv_program.specs.internal.Work.{equ_operands, constant_operands, high_operands, survey_operands, operands_through, work}
 use Rattle.rv_store.proofs.EndBases.{ends-together}
@@ -16,6 +15,7 @@ use Rattle.rv_store.specs.internal.Surveys.{IsSurvey}
 use Rattle.rv_store.specs.internal.Unmoved.{AreUnmoved}
 use Rattle.rv_store.proofs.StillShapes.{shapes-place}
 use Rattle.rv_store.proofs.Stores.{survey_grown}
+use Rattle.rv_program.specs.lemmas.Lists.{all-first}
 use Rattle.rv_program.specs.lemmas.SurveyWork.{survey_counted}
 use Rattle.rv_program.specs.lemmas.ShapeWork.{nothing-surveyed}
 use Rattle.rv_program.specs.lemmas.TextLines.{length_of_shapes}
@@ -40,20 +40,20 @@ pub returns-in_err-sized-clause-work : goal.returns-in_err-sized-clause-work
 returns-in_err-sized-clause-work g c =
     let count = g.C.Count.valued_count in
     let before = c.before-before.ensures in
-    surveyed c.before-before.result c.args.base c.args.old.now c.as_slice-lines.result.now c.args.self.now.lines.items (edit_of c.args.edit.now) before.base before.lines before.edit c.as_slice-lines.ensures c.requires.edited
+    surveyed c.before-before.result c.args.base c.args.old.now c.in_tree-searched.result c.args.self.now.lines.items (edit_of c.args.edit.now) before.base before.lines before.edit (c.in_tree-searched.ensures ∙ c.as_slice-lines.ensures) c.requires.edited
     (count c.args.counter.now) (count c.shapes.new.counter) (count c.shapes.new.counter) c.shapes.ensures.work (omega arith)
 
 pub returns-in_err-placed-clause-work : goal.returns-in_err-placed-clause-work
 returns-in_err-placed-clause-work g c =
     let count = g.C.Count.valued_count in
     let before = c.before-before.ensures in
-    surveyed c.before-before.result c.args.base c.args.old.now c.as_slice-lines.result.now c.args.self.now.lines.items (edit_of c.args.edit.now) before.base before.lines before.edit c.as_slice-lines.ensures c.requires.edited
+    surveyed c.before-before.result c.args.base c.args.old.now c.in_tree-searched.result c.args.self.now.lines.items (edit_of c.args.edit.now) before.base before.lines before.edit (c.in_tree-searched.ensures ∙ c.as_slice-lines.ensures) c.requires.edited
     (count c.args.counter.now) (count c.shapes.new.counter) (count c.shapes.new.counter) c.shapes.ensures.work (omega arith)
 
 pub placed-requires-clause-few : goal.placed-requires-clause-few
 placed-requires-clause-few g c =
-    let count = length_of_shapes c.as_slice-lines.result.now c.in_ok-sized.sized.shapes.items c.in_ok-sized.ensures.shapes in
-    omega (arith, count, ap length c.as_slice-lines.ensures, c.requires.few)
+    let count = length_of_shapes c.in_tree-searched.result c.in_ok-sized.sized.shapes.items c.in_ok-sized.ensures.shapes in
+    omega (arith, count, ap length (c.in_tree-searched.ensures ∙ c.as_slice-lines.ensures), c.requires.few)
 
 pub placed-requires-clause-guess : goal.placed-requires-clause-guess
 placed-requires-clause-guess g c =
@@ -88,21 +88,21 @@ pub returns-in_err-locals-clause-work : goal.returns-in_err-locals-clause-work
 returns-in_err-locals-clause-work g c =
     let count = g.C.Count.valued_count in
     let before = c.before-before.ensures in
-    surveyed c.before-before.result c.args.base c.args.old.now c.as_slice-lines.result.now c.args.self.now.lines.items (edit_of c.args.edit.now) before.base before.lines before.edit c.as_slice-lines.ensures c.requires.edited
+    surveyed c.before-before.result c.args.base c.args.old.now c.in_tree-searched.result c.args.self.now.lines.items (edit_of c.args.edit.now) before.base before.lines before.edit (c.in_tree-searched.ensures ∙ c.as_slice-lines.ensures) c.requires.edited
     (count c.args.counter.now) (count c.shapes.new.counter) (count c.shapes.new.counter) c.shapes.ensures.work (omega arith)
 
 pub returns-clause-work : goal.returns-clause-work
 returns-clause-work g c =
     let count = g.C.Count.valued_count in
     let before = c.before-before.ensures in
-    surveyed c.before-before.result c.args.base c.args.old.now c.as_slice-lines.result.now c.args.self.now.lines.items (edit_of c.args.edit.now) before.base before.lines before.edit c.as_slice-lines.ensures c.requires.edited
+    surveyed c.before-before.result c.args.base c.args.old.now c.in_tree-searched.result c.args.self.now.lines.items (edit_of c.args.edit.now) before.base before.lines before.edit (c.in_tree-searched.ensures ∙ c.as_slice-lines.ensures) c.requires.edited
     (count c.args.counter.now) (count c.shapes.new.counter) (count c.by_rows.new.counter) c.shapes.ensures.work c.by_rows.ensures.work
 
 pub returns-in_err-survey-clause-work : goal.returns-in_err-survey-clause-work
 returns-in_err-survey-clause-work g c =
     let count = g.C.Count.valued_count in
     let before = c.before-before.ensures in
-    surveyed c.before-before.result c.args.base c.args.old.now c.as_slice-lines.result.now c.args.self.now.lines.items (edit_of c.args.edit.now) before.base before.lines before.edit c.as_slice-lines.ensures c.requires.edited
+    surveyed c.before-before.result c.args.base c.args.old.now c.in_tree-searched.result c.args.self.now.lines.items (edit_of c.args.edit.now) before.base before.lines before.edit (c.in_tree-searched.ensures ∙ c.as_slice-lines.ensures) c.requires.edited
     (count c.args.counter.now) (count c.shapes.new.counter) (count c.by_rows.new.counter) c.shapes.ensures.work c.by_rows.ensures.work
 
 pub returns-in_err-sized-clause-parsed : goal.returns-in_err-sized-clause-parsed
@@ -151,15 +151,18 @@ returns-in_err-survey-clause-encoded g c = c.by_rows.ensures.encoded ∙ c.shape
 
 -- The rows of the text before
 
+pub in_tree-searched-requires : goal.in_tree-searched-requires
+in_tree-searched-requires g c = all-first (c.requires.items ∙ sym c.as_slice-lines.ensures)
+
 pub definitions_after-requires-clause-row : goal.definitions_after-requires-clause-row
 definitions_after-requires-clause-row g c =
     subst (AreDefinitions (program_of c.args.old.now) c.args.names.now) (sym c.deref.ensures.value) c.requires.old.definitions
 
 pub definitions_after-requires-clause-edited : goal.definitions_after-requires-clause-edited
-definitions_after-requires-clause-edited g c = c.as_slice-lines.ensures ∙ c.requires.edited
+definitions_after-requires-clause-edited g c = (c.in_tree-searched.ensures ∙ c.as_slice-lines.ensures) ∙ c.requires.edited
 
 pub definitions_after-requires-clause-few : goal.definitions_after-requires-clause-few
-definitions_after-requires-clause-few g c = subst (λ ls. length ls ≤ 16384) (sym c.as_slice-lines.ensures) c.requires.few
+definitions_after-requires-clause-few g c = subst (λ ls. length ls ≤ 16384) (sym (c.in_tree-searched.ensures ∙ c.as_slice-lines.ensures)) c.requires.few
 
 pub shapes-requires-clause-before : goal.shapes-requires-clause-before
 shapes-requires-clause-before g c = c.before-before.ensures.before
@@ -167,17 +170,14 @@ shapes-requires-clause-before g c = c.before-before.ensures.before
 pub shapes-requires-clause-after : goal.shapes-requires-clause-after
 shapes-requires-clause-after g c =
     let before = c.before-before.ensures in
-    c.as_slice-lines.ensures ∙ c.requires.edited ∙ sym (λ i. lines_after (before.lines i) (before.edit i))
-
-pub shapes-requires-clause-groups : goal.shapes-requires-clause-groups
-shapes-requires-clause-groups g c = c.groups-groups.ensures ∙ ap (map groups_on) (sym c.as_slice-lines.ensures)
+    (c.in_tree-searched.ensures ∙ c.as_slice-lines.ensures) ∙ c.requires.edited ∙ sym (λ i. lines_after (before.lines i) (before.edit i))
 
 pub shapes-requires-clause-few : goal.shapes-requires-clause-few
-shapes-requires-clause-few g c = subst (λ ls. length ls ≤ 16384) (sym c.as_slice-lines.ensures) c.requires.few
+shapes-requires-clause-few g c = subst (λ ls. length ls ≤ 16384) (sym (c.in_tree-searched.ensures ∙ c.as_slice-lines.ensures)) c.requires.few
 
 pub shapes-requires-clause-definitions : goal.shapes-requires-clause-definitions
 shapes-requires-clause-definitions g c =
-    let program = program_of c.as_slice-lines.result.now in
+    let program = program_of c.in_tree-searched.result in
     subst (λ names. AreDefinitions program names c.deref-2.result.now) (sym c.before-before.ensures.names)
     (subst (AreDefinitions program c.definitions_after.new.names) (sym c.deref-2.ensures.value) c.in_ok-definitions.ensures.definitions)
 
@@ -201,17 +201,14 @@ by_rows-requires-clause-before g c = c.before-before.ensures.before
 pub by_rows-requires-clause-edited : goal.by_rows-requires-clause-edited
 by_rows-requires-clause-edited g c =
     let before = c.before-before.ensures in
-    c.as_slice-lines.ensures ∙ c.requires.edited ∙ sym (λ i. lines_after (before.lines i) (before.edit i))
-
-pub by_rows-requires-clause-groups : goal.by_rows-requires-clause-groups
-by_rows-requires-clause-groups g c = c.groups-groups.ensures ∙ ap (map groups_on) (sym c.as_slice-lines.ensures)
+    (c.in_tree-searched.ensures ∙ c.as_slice-lines.ensures) ∙ c.requires.edited ∙ sym (λ i. lines_after (before.lines i) (before.edit i))
 
 pub by_rows-requires-clause-few : goal.by_rows-requires-clause-few
-by_rows-requires-clause-few g c = subst (λ ls. length ls ≤ 16384) (sym c.as_slice-lines.ensures) c.requires.few
+by_rows-requires-clause-few g c = subst (λ ls. length ls ≤ 16384) (sym (c.in_tree-searched.ensures ∙ c.as_slice-lines.ensures)) c.requires.few
 
 pub by_rows-requires-clause-definitions : goal.by_rows-requires-clause-definitions
 by_rows-requires-clause-definitions g c =
-    subst (λ names. AreDefinitions (program_of c.as_slice-lines.result.now) names c.in_ok-definitions.definitions.items) (sym c.before-before.ensures.names) c.in_ok-definitions.ensures.definitions
+    subst (λ names. AreDefinitions (program_of c.in_tree-searched.result) names c.in_ok-definitions.definitions.items) (sym c.before-before.ensures.names) c.in_ok-definitions.ensures.definitions
 
 pub by_rows-requires-clause-constants : goal.by_rows-requires-clause-constants
 by_rows-requires-clause-constants g c = c.in_ok-sized.ensures.constants
@@ -223,7 +220,8 @@ pub by_rows-requires-clause-limited : goal.by_rows-requires-clause-limited
 by_rows-requires-clause-limited g c = c.in_ok-sized.ensures.limited
 
 pub by_rows-requires-clause-locals : goal.by_rows-requires-clause-locals
-by_rows-requires-clause-locals g c = c.in_ok-locals.ensures
+by_rows-requires-clause-locals g c =
+    subst (λ ls. AreLocals (program_of ls) (length ls) c.in_ok-locals.locals) (sym c.in_tree-searched.ensures) c.in_ok-locals.ensures
 
 -- How many values are computed
 
@@ -242,7 +240,7 @@ both-least first shaped last least rest = omega arith
 pub by_rows-requires-clause-valued : goal.by_rows-requires-clause-valued
 by_rows-requires-clause-valued g c =
     let count = g.C.Count.valued_count in
-    shaped-room (count c.args.counter.now) (count c.shapes.new.counter) (length c.as_slice-lines.result.now) (length c.args.self.now.lines.items) c.requires.valued c.shapes.ensures.most (ap length c.as_slice-lines.ensures) c.requires.few
+    shaped-room (count c.args.counter.now) (count c.shapes.new.counter) (length c.in_tree-searched.result) (length c.args.self.now.lines.items) c.requires.valued c.shapes.ensures.most (ap length (c.in_tree-searched.ensures ∙ c.as_slice-lines.ensures)) c.requires.few
 
 pub returns-in_err-sized-clause-least : goal.returns-in_err-sized-clause-least
 returns-in_err-sized-clause-least g c = c.shapes.ensures.least
@@ -266,34 +264,34 @@ returns-clause-least g c =
 pub returns-in_err-sized-clause-most : goal.returns-in_err-sized-clause-most
 returns-in_err-sized-clause-most g c =
     let count = g.C.Count.valued_count in
-    shaped-most (count c.args.counter.now) (count c.shapes.new.counter) (length c.as_slice-lines.result.now) (length c.args.self.now.lines.items) c.shapes.ensures.most (ap length c.as_slice-lines.ensures)
+    shaped-most (count c.args.counter.now) (count c.shapes.new.counter) (length c.in_tree-searched.result) (length c.args.self.now.lines.items) c.shapes.ensures.most (ap length (c.in_tree-searched.ensures ∙ c.as_slice-lines.ensures))
 
 pub returns-in_err-placed-clause-most : goal.returns-in_err-placed-clause-most
 returns-in_err-placed-clause-most g c =
     let count = g.C.Count.valued_count in
-    shaped-most (count c.args.counter.now) (count c.shapes.new.counter) (length c.as_slice-lines.result.now) (length c.args.self.now.lines.items) c.shapes.ensures.most (ap length c.as_slice-lines.ensures)
+    shaped-most (count c.args.counter.now) (count c.shapes.new.counter) (length c.in_tree-searched.result) (length c.args.self.now.lines.items) c.shapes.ensures.most (ap length (c.in_tree-searched.ensures ∙ c.as_slice-lines.ensures))
 
 pub returns-in_err-locals-clause-most : goal.returns-in_err-locals-clause-most
 returns-in_err-locals-clause-most g c =
     let count = g.C.Count.valued_count in
-    shaped-most (count c.args.counter.now) (count c.shapes.new.counter) (length c.as_slice-lines.result.now) (length c.args.self.now.lines.items) c.shapes.ensures.most (ap length c.as_slice-lines.ensures)
+    shaped-most (count c.args.counter.now) (count c.shapes.new.counter) (length c.in_tree-searched.result) (length c.args.self.now.lines.items) c.shapes.ensures.most (ap length (c.in_tree-searched.ensures ∙ c.as_slice-lines.ensures))
 
 pub returns-in_err-survey-clause-most : goal.returns-in_err-survey-clause-most
 returns-in_err-survey-clause-most g c =
     let count = g.C.Count.valued_count in
-    both-most (count c.args.counter.now) (count c.shapes.new.counter) (count c.by_rows.new.counter) (length c.as_slice-lines.result.now) (length c.args.self.now.lines.items) c.shapes.ensures.most c.by_rows.ensures.most (ap length c.as_slice-lines.ensures)
+    both-most (count c.args.counter.now) (count c.shapes.new.counter) (count c.by_rows.new.counter) (length c.in_tree-searched.result) (length c.args.self.now.lines.items) c.shapes.ensures.most c.by_rows.ensures.most (ap length (c.in_tree-searched.ensures ∙ c.as_slice-lines.ensures))
 
 pub returns-clause-most : goal.returns-clause-most
 returns-clause-most g c =
     let count = g.C.Count.valued_count in
-    both-most (count c.args.counter.now) (count c.shapes.new.counter) (count c.by_rows.new.counter) (length c.as_slice-lines.result.now) (length c.args.self.now.lines.items) c.shapes.ensures.most c.by_rows.ensures.most (ap length c.as_slice-lines.ensures)
+    both-most (count c.args.counter.now) (count c.shapes.new.counter) (count c.by_rows.new.counter) (length c.in_tree-searched.result) (length c.args.self.now.lines.items) c.shapes.ensures.most c.by_rows.ensures.most (ap length (c.in_tree-searched.ensures ∙ c.as_slice-lines.ensures))
 
 pub returns-clause-survey : goal.returns-clause-survey
 returns-clause-survey g c =
     let before = c.before-before.ensures in
-    subst (λ ls. IsSurvey c.args.base (program_of ls) c.definitions_after.new.names c.in_ok-survey.survey) c.as_slice-lines.ensures
-    (subst (λ names. IsSurvey c.args.base (program_of c.as_slice-lines.result.now) names c.in_ok-survey.survey) before.names
-    (subst (λ base. IsSurvey base (program_of c.as_slice-lines.result.now) c.before-before.result.symbols.text.names.now c.in_ok-survey.survey) before.base c.in_ok-survey.ensures.survey))
+    subst (λ ls. IsSurvey c.args.base (program_of ls) c.definitions_after.new.names c.in_ok-survey.survey) (c.in_tree-searched.ensures ∙ c.as_slice-lines.ensures)
+    (subst (λ names. IsSurvey c.args.base (program_of c.in_tree-searched.result) names c.in_ok-survey.survey) before.names
+    (subst (λ base. IsSurvey base (program_of c.in_tree-searched.result) c.before-before.result.symbols.text.names.now c.in_ok-survey.survey) before.base c.in_ok-survey.ensures.survey))
 
 pub returns-in_err-locals-clause-names : goal.returns-in_err-locals-clause-names
 returns-in_err-locals-clause-names g c = c.definitions_after.ensures.names

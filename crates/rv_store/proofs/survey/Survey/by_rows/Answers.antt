@@ -7,30 +7,30 @@ use Rattle.rv_store.proofs.survey.Survey.by_rows.Goals as goal
 
 pub equ_values_after-requires-clause-rows : goal.equ_values_after-requires-clause-rows
 equ_values_after-requires-clause-rows g c = record {
-  defined = rw (c.in_column-column.ensures, c.deref.ensures.value) c.requires.definitions;
-  placed = rw (c.in_column-column.ensures, c.deref-2.ensures.value) (placed (base_before c.args.before.now) (program_of c.args.lines.now) c.args.sized.shapes.items _ c.requires.shapes c.requires.places);
-  located = rw (c.in_column-column.ensures, length-program) c.requires.locals;
+  defined = rw (c.in_column-column.ensures, c.lines.ensures, c.deref.ensures.value) c.requires.definitions;
+  placed = rw (c.in_column-column.ensures, c.lines.ensures, c.deref-2.ensures.value) (placed (base_before c.args.before.now) (program_of c.args.searched.now) c.args.sized.shapes.items _ c.requires.shapes c.requires.places);
+  located = rw (c.in_column-column.ensures, c.lines.ensures, length-program) c.requires.locals;
 }
 
 pub differing_names-requires-clause-rows : goal.differing_names-requires-clause-rows
 differing_names-requires-clause-rows g c = record {
   text = record {
-    defined = rw (c.in_column-column.ensures, c.deref.ensures.value) c.requires.definitions;
-    placed = rw (c.in_column-column.ensures, c.deref-2.ensures.value) (placed (base_before c.args.before.now) (program_of c.args.lines.now) c.args.sized.shapes.items _ c.requires.shapes c.requires.places);
-    located = rw (c.in_column-column.ensures, length-program) c.requires.locals;
+    defined = rw (c.in_column-column.ensures, c.lines.ensures, c.deref.ensures.value) c.requires.definitions;
+    placed = rw (c.in_column-column.ensures, c.lines.ensures, c.deref-2.ensures.value) (placed (base_before c.args.before.now) (program_of c.args.searched.now) c.args.sized.shapes.items _ c.requires.shapes c.requires.places);
+    located = rw (c.in_column-column.ensures, c.lines.ensures, length-program) c.requires.locals;
   };
-  constants = rw (c.in_column-column.ensures, c.deref-3.ensures.value) c.requires.constants;
+  constants = rw (c.in_column-column.ensures, c.lines.ensures, c.deref-3.ensures.value) c.requires.constants;
   equ_values = rw c.deref-4.ensures.value c.in_ok-equ_values.ensures.values;
 }
 
 pub highs-requires-clause-rows : goal.highs-requires-clause-rows
 highs-requires-clause-rows g c = record {
   text = record {
-    defined = rw (c.in_column-column.ensures, c.deref.ensures.value) c.requires.definitions;
-    placed = rw (c.in_column-column.ensures, c.deref-2.ensures.value) (placed (base_before c.args.before.now) (program_of c.args.lines.now) c.args.sized.shapes.items _ c.requires.shapes c.requires.places);
-    located = rw (c.in_column-column.ensures, length-program) c.requires.locals;
+    defined = rw (c.in_column-column.ensures, c.lines.ensures, c.deref.ensures.value) c.requires.definitions;
+    placed = rw (c.in_column-column.ensures, c.lines.ensures, c.deref-2.ensures.value) (placed (base_before c.args.before.now) (program_of c.args.searched.now) c.args.sized.shapes.items _ c.requires.shapes c.requires.places);
+    located = rw (c.in_column-column.ensures, c.lines.ensures, length-program) c.requires.locals;
   };
-  constants = rw (c.in_column-column.ensures, c.deref-3.ensures.value) c.requires.constants;
+  constants = rw (c.in_column-column.ensures, c.lines.ensures, c.deref-3.ensures.value) c.requires.constants;
   equ_values = rw c.deref-4.ensures.value c.in_ok-equ_values.ensures.values;
 }
 
@@ -41,10 +41,10 @@ returns-clause-survey g c = record {
   shapes = c.requires.shapes;
   limited = c.requires.limited;
   ends = c.requires.ends;
-  places = placed (base_before c.args.before.now) (program_of c.args.lines.now) c.args.sized.shapes.items _ c.requires.shapes c.requires.places;
+  places = placed (base_before c.args.before.now) (program_of c.args.searched.now) c.args.sized.shapes.items _ c.requires.shapes c.requires.places;
   locals = rw length-program c.requires.locals;
-  equ_values = rw length-program (rw c.in_column-column.ensures at c.in_ok-equ_values.ensures.values);
-  highs = rw c.in_column-column.ensures at c.in_ok-highs.ensures.highs;
+  equ_values = rw length-program (rw (c.in_column-column.ensures, c.lines.ensures) at c.in_ok-equ_values.ensures.values);
+  highs = rw (c.in_column-column.ensures, c.lines.ensures) at c.in_ok-highs.ensures.highs;
 }
 
 pub returns-in_err-equ_values-clause-parsed : goal.returns-in_err-equ_values-clause-parsed

@@ -23,5 +23,5 @@ returns-clause-symbols c any base lines listed earlier are =
     let front : c.split_at.result.0.now ≡ lines =
     c.split_at.ensures.front ∙ (λ i. take (let k : c.len-number.result - 1 ≡ length lines = omega (arith, number) in k i) (same i)) ∙ take-append_seam lines (line ∷ []) in
     symbols-forgotten base lines line earlier names forgotten _ left
-    (c.keep_places.ensures.row ∙ (λ i. kept_after (Delete (number i)) (front i) (in_row names forgotten.definitions.items Nowhere)))
+    (c.keep_places.ensures.row ∙ (λ i. kept_after (Delete (number i)) ((c.one_by_one-searched.ensures ∙ front) i) (in_row names forgotten.definitions.items Nowhere)))
     c.keep_places.ensures.as_many refl refl

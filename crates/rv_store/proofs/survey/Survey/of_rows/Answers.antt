@@ -11,9 +11,9 @@ equ_values-requires-clause-rows g c =
     let program = program_of c.args.lines.items in
     let shapes : AreShapes program c.args.sized.shapes.items = c.requires.sized.shapes ∙ ap (for_lines (shape_at program)) (sym (length-program c.args.lines.items)) in
     record {
-      defined = rw (c.in_column-column.ensures, c.as_slice.ensures, c.deref.ensures.value) c.requires.definitions;
-      placed = rw (c.in_column-column.ensures, c.as_slice.ensures, c.deref-2.ensures.value) (placed c.args.base program c.args.sized.shapes.items _ shapes c.requires.places);
-      located = rw (c.in_column-column.ensures, c.as_slice.ensures, length-program) c.requires.locals;
+      defined = rw (c.in_column-column.ensures, c.as_slice-2.ensures, c.deref.ensures.value) c.requires.definitions;
+      placed = rw (c.in_column-column.ensures, c.as_slice-2.ensures, c.deref-2.ensures.value) (placed c.args.base program c.args.sized.shapes.items _ shapes c.requires.places);
+      located = rw (c.in_column-column.ensures, c.as_slice-2.ensures, length-program) c.requires.locals;
     }
 
 pub all_highs-requires-clause-rows : goal.all_highs-requires-clause-rows
@@ -22,11 +22,11 @@ all_highs-requires-clause-rows g c =
     let shapes : AreShapes program c.args.sized.shapes.items = c.requires.sized.shapes ∙ ap (for_lines (shape_at program)) (sym (length-program c.args.lines.items)) in
     record {
       text = record {
-        defined = rw (c.in_column-column.ensures, c.as_slice.ensures, c.deref.ensures.value) c.requires.definitions;
-        placed = rw (c.in_column-column.ensures, c.as_slice.ensures, c.deref-2.ensures.value) (placed c.args.base program c.args.sized.shapes.items _ shapes c.requires.places);
-        located = rw (c.in_column-column.ensures, c.as_slice.ensures, length-program) c.requires.locals;
+        defined = rw (c.in_column-column.ensures, c.as_slice-2.ensures, c.deref.ensures.value) c.requires.definitions;
+        placed = rw (c.in_column-column.ensures, c.as_slice-2.ensures, c.deref-2.ensures.value) (placed c.args.base program c.args.sized.shapes.items _ shapes c.requires.places);
+        located = rw (c.in_column-column.ensures, c.as_slice-2.ensures, length-program) c.requires.locals;
       };
-      constants = rw (c.in_column-column.ensures, c.as_slice.ensures, c.deref-3.ensures.value) c.requires.sized.constants;
+      constants = rw (c.in_column-column.ensures, c.as_slice-2.ensures, c.deref-3.ensures.value) c.requires.sized.constants;
       equ_values = rw c.deref-4.ensures.value c.in_ok-equ_values.ensures.values;
     }
 
@@ -42,6 +42,6 @@ returns-clause-survey g c =
       ends = c.requires.ends;
       places = placed c.args.base program c.args.sized.shapes.items _ shapes c.requires.places;
       locals = rw length-program c.requires.locals;
-      equ_values = rw length-program (rw (c.in_column-column.ensures, c.as_slice.ensures) at c.in_ok-equ_values.ensures.values);
-      highs = rw (c.in_column-column.ensures, c.as_slice.ensures) at c.in_ok-highs.ensures.highs;
+      equ_values = rw length-program (rw (c.in_column-column.ensures, c.as_slice-2.ensures) at c.in_ok-equ_values.ensures.values);
+      highs = rw (c.in_column-column.ensures, c.as_slice-2.ensures) at c.in_ok-highs.ensures.highs;
     }

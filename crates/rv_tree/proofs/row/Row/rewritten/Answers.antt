@@ -1,4 +1,5 @@
-use Rattle.std.proofs.Common.{◌≡◌, ◌+◌, ◌++◌, ◌∙◌, append_assoc, arith, drop, take, take-add, take-append-drop, ap, refl, sym}
+use Rattle.std.proofs.Common.{◌≡◌, ◌+◌, ◌++◌, ◌∙◌, append_assoc, arith, drop, take, take-add, take-append-drop, ap, ap₂, refl, sym}
+use Rattle.std.proofs.lemmas.List.{map-append}
 use Rattle.std.specs.Prelude.{unwrap_or}
 use Rattle.rv_tree.specs.Passes.{none, Stops}
 use Rattle.rv_tree.specs.PassLaws.{runs-append, stops-append_right, accepts_after}
@@ -21,6 +22,7 @@ loop-at-init g c =
       runs = none;
       sum = sum;
       sums = tt;
+      alike = λ yes. refl;
       accepted = (c.requires.accepted.0, rw same c.requires.accepted.1);
     }
 
@@ -71,5 +73,6 @@ loop-at-preserved g c =
       runs = rw (old, new) runs;
       sum = sum;
       sums = rw new sums;
+      alike = λ yes. let both = step.alike yes in rw (old, new) (map-append of (take at was) its ∙ ap₂ (λ us vs. us ++ vs) (done.alike both.0) both.1 ∙ sym (map-append of (take at self) mine));
       accepted = (done.accepted.0, rw step.sum accepted);
     }

@@ -1,5 +1,5 @@
-use Rattle.std.proofs.Common.{◌≡◌, ◌≤◌, ◌-◌, ◌++◌, List, length, take, drop}
-use Rattle.std.specs.Prelude.{unwrap_or}
+use Rattle.std.proofs.Common.{◌≡◌, ◌≤◌, ◌-◌, ◌++◌, List, length, map, take, drop}
+use Rattle.std.specs.Prelude.{IsTrue, unwrap_or}
 use Rattle.rv_tree.specs.Passes.{Runs}
 use Rattle.rv_tree.specs.Sums.{total, AllSums}
 use Rattle.rv_tree.proofs.row.Row.rewritten.Given as goal
@@ -17,6 +17,7 @@ invariant-loop-at g l =
       runs : Runs g.P.Pass.gives j.op of l.fn.pass l.before (take l.at l.self) (take l.at made) l.pass;
       sum : l.sum ≡ j.op l.before (total j.empty j.op of (take l.at made));
       sums : AllSums j.IsValue of (take l.at made);
+      alike : IsTrue l.same → map of (take l.at made) ≡ map of (take l.at l.self);
       accepted : (rest : List g.row.T.Denot) × g.P.Pass.accepts l.pass l.sum (drop l.at l.self ++ rest);
     }
 
