@@ -1,4 +1,2 @@
-pub mod DocumentSymbols
-pub mod Modifiers
 pub mod Pieces
 pub mod QuickFixes

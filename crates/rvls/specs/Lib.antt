@@ -1,7 +1,4 @@
-pub mod DocumentSymbols
+pub mod DocumentDiagnostics
 pub mod Frames
-pub mod Names
-pub mod NewNames
 pub mod PlacedDocuments
 pub mod QuickFixes
-pub mod DocumentDiagnostics

@@ -2,25 +2,16 @@
 
 use crate::assembly::Assembly;
 use crate::bodies::has_text;
-use crate::completion::put_completions;
-use crate::definition::put_definition;
-use crate::document_symbols::put_document_symbols;
-use crate::encoding::put_encoding;
-use crate::folds::put_folds;
-use crate::hints::put_hints;
-use crate::hover::put_hover;
-use crate::name_at::{Named, name_at};
-use crate::places::lines_to;
 use crate::publishing::put_report;
 use crate::quick_fixes::{QUICK_FIX, put_quick_fixes};
-use crate::references::{PlaceForm, Wanted, put_references};
-use crate::rename::{put_name, put_rename};
-use crate::sections::put_section_places;
-use crate::semantic_tokens::put_semantic_tokens;
-use crate::signature_help::put_signature_help;
 use crate::writing::{Failure, Refusal};
 use rv_diagnostics::{Context, Message};
 use rv_doc::{Position, number_at, position_of, text_at};
+use rv_language::{
+    Named, PlaceForm, Wanted, lines_to, name_at, put_completions, put_definition,
+    put_document_symbols, put_encoding, put_folds, put_hints, put_hover, put_name, put_references,
+    put_rename, put_section_places, put_semantic_tokens, put_signature_help,
+};
 use rv_list::{LineSource, LineView, View};
 use serde_json::Value;
 use std::alloc::AllocError;

@@ -3,18 +3,10 @@
 ghost use Rattle.std.specs.Prelude.{◌≤◌, length};
 
 use crate::assembly::Assembly;
-use crate::broken_line::BrokenLine;
-use crate::fixes::{Fix, Fixes};
-use crate::names::text_of;
-use crate::other_lexemes::add_lexemes;
-use crate::other_names::{add_colon, add_names, add_symbols};
-use crate::other_operands::add_operands;
-use crate::other_signs::{add_commas, add_comment};
-use crate::references::put_edit;
-use crate::rewrites::add_rewrites;
 use crate::trial::{put_line, takes_fault_away};
 use rv_diagnostics::{Context, Message, Part};
 use rv_files::{first_names, first_symbols, searched};
+use rv_language::{BrokenLine, Fix, colon_fixes, possible_fixes, put_edit, text_of};
 use rv_list::{LineSource, LineView, View};
 use rv_show::{Text, part, place_shown};
 use rv_store::Store;
@@ -115,25 +107,6 @@ fn put_some(
     Ok(are_some)
 }
 
-// The changes of a line that may take its fault away.
-fn fixes_of<V: View>(
-    view: &V,
-    line: &BrokenLine<'_>,
-    symbols: &[&[u8]],
-) -> Result<Fixes, AllocError>
-    requires { length line.now.text.now ≤ 1000 }
-{
-    let mut fixes = Fixes::new(line.alloc);
-    add_names(&mut fixes, line)?;
-    add_symbols(&mut fixes, line, view, symbols)?;
-    add_commas(&mut fixes, line)?;
-    add_comment(&mut fixes, line)?;
-    add_rewrites(&mut fixes, line)?;
-    add_operands(&mut fixes, line, view)?;
-    add_lexemes(&mut fixes, line)?;
-    Ok(fixes)
-}
-
 // Writes the changes that take a fault of a line away.
 fn put_for_line<V: View>(
     m: &mut Message,
@@ -145,12 +118,11 @@ fn put_for_line<V: View>(
 ) -> Result<(), AllocError>
     requires { length line.now.text.now ≤ 1000 }
 {
-    let fixes = fixes_of(view, line, trial.symbols)?;
+    let fixes = possible_fixes(view, line, trial.symbols)?;
     if put_some(m, context, &mut trial.store, number, line, fixes.as_slice())? {
         return Ok(());
     }
-    let mut fixes = Fixes::new(line.alloc);
-    add_colon(&mut fixes, line)?;
+    let fixes = colon_fixes(line)?;
     put_some(m, context, &mut trial.store, number, line, fixes.as_slice())?;
     Ok(())
 }

@@ -5,10 +5,8 @@ ghost use Rattle.std.specs.List.{list_all};
 ghost use Rattle.rv_list.specs.Shown.{shown_line};
 ghost use Rattle.rvls.specs.QuickFixes.{changed, count_after, is_right_line, is_statement, may_stay};
 
-use crate::broken_line::BrokenLine;
-use crate::fixes::Fix;
-use crate::places::lines_to;
 use arrayvec::ArrayVec;
+use rv_language::{BrokenLine, Fix, lines_to};
 use rv_list::{LineSource, LineView, MAX_FAULTS, View, find_faults};
 use rv_ops::reg_by_name;
 use rv_show::{Text, bytes_from, first_bytes, part};

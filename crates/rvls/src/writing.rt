@@ -4,6 +4,7 @@ ghost use Rattle.std.specs.Prelude.{◌≡◌};
 ghost use Rattle.rvls.specs.declared.writing.Failure.TheVariants.{Memory};
 
 use rv_diagnostics::{Message, Part};
+use rv_language::{NameRefusal, RenameError};
 use serde_json::{Number, Value};
 use std::alloc::{AllocError, Global};
 use std::num::{nearest_i64_to_f64, saturating_f64_to_i64};
@@ -97,7 +98,29 @@ impl From<AllocError> for Failure {
     }
 }
 
+impl From<RenameError> for Failure {
+    ghost from_gives = { λ _ _. ⊤ };
+
+    fn from(error: RenameError) -> Self {
+        match error {
+            RenameError::Refused(refusal) => Failure::Refused(Refusal::of_name(refusal)),
+            RenameError::Memory => Failure::Memory,
+        }
+    }
+}
+
 impl Refusal {
+    // That of a name that gets no other one.
+    fn of_name(refusal: NameRefusal) -> Refusal {
+        match refusal {
+            NameRefusal::NotDefined => Refusal::NoName,
+            NameRefusal::NoSymbolName => Refusal::NoSymbolName,
+            NameRefusal::NoLocalName => Refusal::NoLocalName,
+            NameRefusal::Taken => Refusal::NameTaken,
+            NameRefusal::LineTooLong => Refusal::LineTooLong,
+        }
+    }
+
     // Its number.
     fn code(self) -> i64 {
         match self {

@@ -1,0 +1,9 @@
+pub mod DocumentSymbols
+pub mod LineNames
+pub mod Meanings
+pub mod NameUses
+pub mod Names
+pub mod NamesAt
+pub mod NewNames
+pub mod References
+pub mod Renames

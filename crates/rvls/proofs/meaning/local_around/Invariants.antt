@@ -1,9 +1,0 @@
-use Rattle.std.proofs.Common.{◌≡◌}
-use Rattle.rvls.proofs.meaning.local_around.Given as goal
-
--- so many lines are passed
-abbrev pub invariant-loop-k : goal.invariant-loop-k
-invariant-loop-k g l = record {
-  text : g.V.Lines.LineSource.shown l.lines ≡ g.V.View.shown l.view;
-  passed : g.V.Lines.LineSource.passed l.lines ≡ l.k;
-}

@@ -1,5 +1,0 @@
-use Rattle.std.proofs.Common.{length}
-use Rattle.rvls.proofs.names.push_labels.Given as goal
-
-abbrev pub decreases-labels : goal.decreases-labels
-decreases-labels l = length l.labels

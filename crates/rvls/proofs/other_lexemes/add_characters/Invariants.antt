@@ -1,5 +1,0 @@
-use Rattle.std.proofs.Common.{length}
-use Rattle.rvls.proofs.other_lexemes.add_characters.Given as goal
-
-abbrev pub decreases-characters : goal.decreases-characters
-decreases-characters l = length l.rest

@@ -1,5 +1,0 @@
-use Rattle.std.proofs.Common.{length}
-use Rattle.rvls.proofs.other_lexemes.without_suffix.Given as goal
-
-abbrev pub decreases-digits : goal.decreases-digits
-decreases-digits l = length l.digits

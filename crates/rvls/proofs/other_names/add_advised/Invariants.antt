@@ -1,5 +1,0 @@
-use Rattle.std.proofs.Common.{length}
-use Rattle.rvls.proofs.other_names.add_advised.Given as goal
-
-abbrev pub decreases-topics : goal.decreases-topics
-decreases-topics l = length l.topics

@@ -1,5 +1,0 @@
-use Rattle.std.proofs.Common.{length}
-use Rattle.rvls.proofs.other_names.add_words.Given as goal
-
-abbrev pub decreases-words : goal.decreases-words
-decreases-words l = length l.words

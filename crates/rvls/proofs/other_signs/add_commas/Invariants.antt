@@ -1,5 +1,0 @@
-use Rattle.std.proofs.Common.{length}
-use Rattle.rvls.proofs.other_signs.add_commas.Given as goal
-
-abbrev pub decreases-tokens : goal.decreases-tokens
-decreases-tokens l = length l.left

@@ -1,5 +1,0 @@
-use Rattle.std.proofs.Common.{length}
-use Rattle.rvls.proofs.rewrites.add_by_rows.Given as goal
-
-abbrev pub decreases-rows : goal.decreases-rows
-decreases-rows l = length l.rows
