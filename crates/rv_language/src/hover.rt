@@ -1,5 +1,7 @@
 //! What is shown of a line: its address and bytes, the instructions that it stands for, and what a name or a word in it means.
 
+ghost use Rattle.std.specs.Prelude.{◌≤◌, length};
+
 use crate::encoding::{instruction_rows, push_fields};
 use crate::explained::{entry_at, push_entry};
 use crate::named::name_at;
@@ -98,7 +100,9 @@ fn push_word<V: View>(
     number: u32,
     line: &LineView<'_>,
     column: u32,
-) -> Result<(), AllocError> {
+) -> Result<(), AllocError>
+    requires { length line.now.stmt.now.labels ≤ 1000 }
+{
     let alloc = context.alloc;
     if let Some(name) = name_at(alloc, context.encoding, view, number, line, column)? {
         return push_meaning(text, view, &name.meaning);
@@ -118,7 +122,9 @@ fn push_said<V: View>(
     number: u32,
     line: &LineView<'_>,
     column: u32,
-) -> Result<(), AllocError> {
+) -> Result<(), AllocError>
+    requires { length line.now.stmt.now.labels ≤ 1000 }
+{
     push_word(text, context, view, number, line, column)?;
     if line.place.size == 0 {
         return Ok(());
@@ -141,7 +147,9 @@ pub fn put_hover<V: View>(
     number: u32,
     line: &LineView<'_>,
     column: u32,
-) -> Result<(), AllocError> {
+) -> Result<(), AllocError>
+    requires { length line.now.stmt.now.labels ≤ 1000 }
+{
     let mut text = Text::new(context.alloc);
     push_said(&mut text, context, view, number, line, column)?;
     if text.bytes().is_empty() {

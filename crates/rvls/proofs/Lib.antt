@@ -1,2 +1,3 @@
+pub mod HeaderRows
 pub mod Pieces
 pub mod QuickFixes

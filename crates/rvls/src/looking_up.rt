@@ -1,5 +1,7 @@
 //! Requests about the lines of a document and the names in it.
 
+ghost use Rattle.std.specs.Prelude.{◌≤◌, length};
+
 use crate::assembly::Assembly;
 use crate::bodies::has_text;
 use crate::publishing::put_report;
@@ -256,7 +258,9 @@ fn put_about_line<V: View>(
     line: &LineView<'_>,
     position: Position,
     wish: Wish<'_>,
-) -> Result<(), Failure> {
+) -> Result<(), Failure>
+    requires { length line.now.stmt.now.labels ≤ 1000 }
+{
     let column = position.character;
     match wish {
         Wish::Hover => put_hover(m, context, view, number, line, column)?,
