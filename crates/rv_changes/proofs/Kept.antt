@@ -20,6 +20,10 @@ spliced_count old first count new le =
     let front : length (take first old) ≡ first = length-take-le first old (omega (arith, le)) in
     omega (arith, front, length-append (take first old) (new ++ drop (first + count) old), length-append new (drop (first + count) old), length-drop (first + count) old)
 
+-- some are taken out
+pub taken_count : {A : Type 0} (old now : List A) (first count : ℕ) → first + count ≤ length old → now ≡ spliced old first count [] → length now + count ≡ length old
+taken_count old now first count le is = ap (λ l. length l + count) is ∙ spliced_count old first count [] le ∙ omega arith
+
 -- Items at the end
 
 -- one is taken out there

@@ -70,9 +70,11 @@ pub(crate) fn delete_line(store: &mut Store, at: usize) -> Result<(), AllocError
 }
 
 // Takes some lines out.
+#[tactic(auto, using(crate::proofs::Kept::taken_count))]
 fn delete_lines(store: &mut Store, first: usize, count: usize) -> Result<(), AllocError>
     requires { first + count ≤ length store.old.lines }
-    ensures { OnOk result (store.new ≡ record { base = store.old.base; lines = spliced store.old.lines first count [] }) }
+    ensures lines { OnOk result (store.new ≡ record { base = store.old.base; lines = spliced store.old.lines first count [] }) }
+    ensures count { OnOk result (length store.new.lines + count ≡ length store.old.lines) }
 {
     let mut left = count;
     'lines: while left > 0 {
@@ -138,7 +140,8 @@ pub(crate) fn put_lines(
 ) -> Result<bool, AllocError>
     requires place { first + count ≤ length store.old.lines }
     requires few { length store.old.lines + length lines ≤ MAX_LINES + count }
-    ensures { IfOk result (λ done. done ≡ true → store.new ≡ record { base = store.old.base; lines = spliced store.old.lines first count (map assembled_line lines.entry) }) }
+    ensures count { IfOk result (λ done. done ≡ true → length store.new.lines + count ≡ length store.old.lines + length lines.entry) }
+    ensures lines { IfOk result (λ done. done ≡ true → store.new ≡ record { base = store.old.base; lines = spliced store.old.lines first count (map assembled_line lines.entry) }) }
 {
     let mut at = first;
     let mut left = count;

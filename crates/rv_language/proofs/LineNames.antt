@@ -1,5 +1,5 @@
 -- Names of a line that are found one after another.
-use Rattle.std.proofs.Common.{◌≡◌, ℕ, ◌+◌, List, [], ◌∷◌, ◌++◌, ap, sym, ◌∙◌, append_assoc}
+use Rattle.std.proofs.Common.{◌≡◌, ℕ, ◌+◌, List, [], ◌∷◌, ◌++◌, append_assoc}
 use Rattle.rv_stmt.specs.LabelNames.{Label}
 use Rattle.rv_language.specs.declared.names.NameSpan.{NameSpan}
 use Rattle.rv_language.specs.declared.names.Standing.TheVariants as standing

@@ -1,5 +1,5 @@
 -- Where a symbol can stand.
-use Rattle.std.proofs.Common.{◌≡◌, ℕ, zero, suc, ◌+◌, ◌-◌, ◌<◌, ◌≤◌, Bool, true, false, List, [], ◌∷◌, length, take, drop, Option, Some, None, refl, ap, sym, subst, ◌∙◌, arith, true≢false}
+use Rattle.std.proofs.Common.{◌≡◌, ℕ, ◌-◌, ◌<◌, ◌≤◌, Bool, true, false, List, length, take, drop, Option, Some, None, refl, ap, sym, subst, ◌∙◌, arith, true≢false}
 use Rattle.std.proofs.lemmas.Bool.Decides.{nat_tests}
 use Rattle.std.proofs.lemmas.Grind.{common_steps}
 use Rattle.std.proofs.lemmas.List.{get_or-take, get_or-drop, length-take, length-drop}
@@ -9,7 +9,7 @@ use Rattle.rv_text.specs.declared.lexeme.Span.{Span}
 use Rattle.rv_ops.specs.NameLaws.{bytes_eq-true}
 use Rattle.rv_expr.specs.TokenRoles.{label_number}
 use Rattle.rv_show.specs.Parts.{part}
-use Rattle.rv_language.specs.Meanings.{Name, Symbol, Label, Back, Forward, SymbolMeant, is_local, is_symbol, local_name, means_written, name_of}
+use Rattle.rv_language.specs.Meanings.{Name, Label, Back, Forward, SymbolMeant, is_local, is_symbol, local_name, means_written, name_of}
 
 -- A name of a local label is no symbol.
 

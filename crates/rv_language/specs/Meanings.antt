@@ -1,5 +1,5 @@
 -- What names mean. (docs/EDITORS.md, Names)
-use Rattle.std.specs.Prelude.{ℕ, zero, suc, ◌+◌, ◌-◌, ◌==◌, ◌&&◌, nat_le, nat_lt, not, min, bytes_eq, Bool, true, false, List, [], ◌∷◌, length, take, slice_index, Option, Some, None, option_map, if◌then◌else◌}
+use Rattle.std.specs.Prelude.{ℕ, zero, suc, ◌+◌, ◌-◌, ◌==◌, ◌&&◌, nat_le, nat_lt, min, bytes_eq, Bool, true, false, List, [], ◌∷◌, length, take, slice_index, Option, Some, None, option_map, if◌then◌else◌}
 use Rattle.std.specs.Char.{is_ascii_digit}
 use Rattle.std.specs.List.{list_any}
 use Rattle.rv_expr.specs.TokenRoles.{label_number}

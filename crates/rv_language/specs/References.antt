@@ -1,12 +1,11 @@
 -- The places of a name in a text, and its definition. (Language Server Protocol 3.17, textDocument/references)
-use Rattle.std.specs.Prelude.{ℕ, ◌+◌, ◌-◌, ◌||◌, ◌&&◌, not, nat_le, Bool, false, List, [], ◌∷◌, ◌++◌, take, codes, Option, Some, None, if◌then◌else◌}
+use Rattle.std.specs.Prelude.{ℕ, ◌-◌, ◌||◌, ◌&&◌, not, nat_le, Bool, List, [], ◌∷◌, ◌++◌, take, codes, Option, Some, if◌then◌else◌}
 use Rattle.json.specs.Token.{Token, begin_object, end_object, key, null}
 use Rattle.rv_text.specs.declared.lexeme.Span.{Span}
 use Rattle.rv_doc.specs.declared.encoding.Encoding.{Encoding}
 use Rattle.rv_list.specs.Shown.{Shown, ShownLine, from_lines}
 use Rattle.rv_show.specs.Parts.{part}
 use Rattle.rv_language.specs.declared.names.NameSpan.{NameSpan}
-use Rattle.rv_language.specs.declared.names.Standing.{Standing}
 use Rattle.rv_language.specs.declared.references.PlaceForm.{PlaceForm}
 use Rattle.rv_language.specs.declared.references.PlaceForm.TheVariants.{Location, Highlight, Edit}
 use Rattle.rv_language.specs.declared.references.Wanted.{Wanted}

@@ -8,7 +8,6 @@ use Rattle.rv_expr.specs.TokenRoles.{label_number}
 use Rattle.rv_doc.specs.declared.encoding.Encoding.{Encoding}
 use Rattle.rv_list.specs.Shown.{Shown, ShownLine}
 use Rattle.rv_show.specs.Parts.{part}
-use Rattle.rv_language.specs.declared.meaning.LocalLabel.{LocalLabel}
 use Rattle.rv_language.specs.declared.names.NameSpan.{NameSpan}
 use Rattle.rv_language.specs.declared.rename.NameRefusal.{NameRefusal}
 use Rattle.rv_language.specs.declared.rename.NameRefusal.TheVariants as refusal

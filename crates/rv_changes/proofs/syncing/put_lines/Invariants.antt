@@ -11,6 +11,7 @@ invariant-lines l = record {
   lines : spliced l.store.lines l.at l.left (map assembled_line l.lines) ≡ spliced l.fn.store.lines l.first l.count (map assembled_line l.initial.lines);
   within : l.at + l.left ≤ length l.store.lines;
   room : length l.store.lines + length l.lines ≤ MAX_LINES + l.left;
+  count : length l.store.lines + length l.lines + l.count ≡ length l.fn.store.lines + length l.initial.lines + l.left;
 }
 
 abbrev pub decreases-lines : goal.decreases-lines

@@ -1,4 +1,4 @@
-use Rattle.std.proofs.Common.{ap, sym, ◌∙◌}
+use Rattle.std.proofs.Common.{sym, ◌∙◌}
 use Rattle.rv_language.proofs.MeantNames.{none_in}
 use Rattle.rv_language.proofs.meaning.may_stand_in.Goals as goal
 
