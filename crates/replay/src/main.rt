@@ -36,6 +36,9 @@
 //! - `edits`, `edits fail`: a list of edits, and bytes that are disassembled, by `live_assembler_is_exact`.
 //! - `errors`: the numbers, statuses and messages of the ends of a run.
 //!
+//! A row `searched K` makes a text of 16,384 lines of which line K alone uses a name, and searches for it: whether the line is found, and about how
+//! many thousand parts the search was asked.
+//!
 //! A row `call NAME` makes a call, once more where it finds no memory, and is answered what came of it. `tools/refusals` runs such
 //! a row with each request for memory refused in turn. What a call needs is made with it, so that this may be refused too. Whatever
 //! is refused, the call says that there was no memory, leaves its arguments as its contract says, and is made when it is asked again.
@@ -44,11 +47,13 @@
 mod calls;
 mod editor;
 mod script;
+mod searches;
 mod texts;
 
 use calls::outcome_of;
 use editor::Session;
-use script::{number_of, parts_of};
+use script::{number_in, number_of, parts_of};
+use searches::searched;
 use std::io::Read;
 use std::test::Fail;
 use texts::Text;
@@ -97,6 +102,10 @@ impl<'a> Replay<'a> {
                 Some(base) => self.begin_session(rt, row, base),
                 None => self.answer(rt, row),
             },
+            "searched" => {
+                let found = searched(rt.alloc(), number_in(rest)?)?;
+                Ok(println!(rt; "{row} => {found}")?)
+            }
             "call" => Ok(println!(rt; "{row} => {}", outcome_of(rt.alloc(), rest))?),
             _ => self.answer(rt, row),
         }
