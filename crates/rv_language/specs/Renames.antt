@@ -2,10 +2,13 @@
 use Rattle.std.specs.Prelude.{◌≡◌, ⊤, ℕ, zero, suc, ◌+◌, ◌-◌, ◌^◌, ◌==◌, nat_lt, not, min, Bool, true, List, [], ◌∷◌, ◌++◌, length, take, codes, Option, Some, None, Result, Ok, Err, unwrap_or, if◌then◌else◌}
 use Rattle.std.specs.List.{list_all}
 use Rattle.std.specs.Option.{option_or}
-use Rattle.json.specs.Token.{Token, begin_array, begin_object, end_array, end_object, key}
+use Rattle.json.specs.Token.{Token, begin_array, begin_object, end_array, end_object, key, null}
+use Rattle.std.specs.Str.Lossy.{utf8_lossy}
+use Rattle.rv_text.specs.declared.lexeme.Span.{Span}
 use Rattle.rv_text.specs.Numbers.{is_local_number}
 use Rattle.rv_expr.specs.TokenRoles.{label_number}
 use Rattle.rv_doc.specs.declared.encoding.Encoding.{Encoding}
+use Rattle.rv_diagnostics.specs.Json.{string_member}
 use Rattle.rv_list.specs.Shown.{Shown, ShownLine}
 use Rattle.rv_show.specs.Parts.{part}
 use Rattle.rv_language.specs.declared.names.NameSpan.{NameSpan}
@@ -16,6 +19,8 @@ use Rattle.rv_language.specs.declared.rename.RenameError.TheVariants as errors
 use Rattle.rv_language.specs.declared.rename.Renaming.{Renaming}
 use Rattle.rv_language.specs.LineNames.{names_of}
 use Rattle.rv_language.specs.Meanings.{Meant, meant, SymbolMeant, LocalMeant, Name, Symbol, Label, Back, Forward, definition_line, meaning_of, means, means_local, means_written, name_of}
+use Rattle.rv_language.specs.Names.{name_range}
+use Rattle.rv_language.specs.NamesAt.{Seen}
 use Rattle.rv_language.specs.NewNames.{is_symbol_name}
 use Rattle.rv_language.specs.References.{Replaced, references}
 
@@ -121,3 +126,13 @@ edits encoding uri shown meaning new_text =
 unfoldable pub workspace_edit : (uri : List ℕ) → (edits : List Token) → List Token
 workspace_edit uri edits =
     begin_object ∷ (key (codes "changes") ∷ (begin_object ∷ (key uri ∷ (begin_array ∷ (edits ++ end_array ∷ (end_object ∷ (end_object ∷ [])))))))
+
+-- the place of a name, and its text (Language Server Protocol 3.17, PrepareRenameResult)
+unfoldable pub placed_name : Encoding → (number : ℕ) → (text : List ℕ) → Span → List Token
+placed_name encoding number text span =
+    begin_object ∷ (key (codes "range") ∷ (name_range encoding number text span ++ (string_member (codes "placeholder") (utf8_lossy (part text span)) ++ end_object ∷ [])))
+
+-- a name of a line can get another one: it is defined
+abbrev pub prepared : Encoding → Shown → (number : ℕ) → (text : List ℕ) → Seen → List Token
+prepared encoding shown number text seen =
+    if definition_line shown seen.meaning == 0 then null ∷ [] else placed_name encoding number text seen.span

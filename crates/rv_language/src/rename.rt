@@ -1,11 +1,12 @@
 //! Another name for what a name means.
 
-ghost use Rattle.std.specs.Prelude.{◌≡◌, ◌++◌, ◌-◌, ◌≤◌, None, Ok, length, IfErr, IfOk, OnOk};
+ghost use Rattle.std.specs.Prelude.{◌≡◌, ◌++◌, ◌-◌, ◌≤◌, None, Ok, length, take, IfErr, IfOk, OnOk};
 ghost use Rattle.rv_list.specs.Shown.{shown_line};
 ghost use Rattle.rv_language.specs.declared.rename.RenameError.TheVariants.{Memory};
 ghost use Rattle.rv_language.specs.Meanings.{meant, means, name_lent};
+ghost use Rattle.rv_language.specs.NamesAt.{seen_of};
 ghost use Rattle.rv_language.specs.References.{asked_of, references};
-ghost use Rattle.rv_language.specs.Renames.{IsMeaningRefusal, IsRefusal, change_of, edits, keeps, length_with, line_refusal, lines_refusal, names_refusal, new_meaning, rename_refusal, with_number, workspace_edit};
+ghost use Rattle.rv_language.specs.Renames.{IsMeaningRefusal, IsRefusal, change_of, edits, keeps, length_with, line_refusal, lines_refusal, names_refusal, new_meaning, placed_name, prepared, rename_refusal, with_number, workspace_edit};
 
 use crate::definition::definition_line;
 use crate::meaning::{Meaning, Written, as_written, meaning_of};
@@ -18,7 +19,7 @@ use rv_diagnostics::{Context, Message, Part};
 use rv_expr::label_number;
 use rv_list::{LineSource, LineView, View};
 use rv_show::part;
-use rv_text::{MAX_LINE_LENGTH, is_local_number};
+use rv_text::{MAX_LINE_LENGTH, Span, is_local_number};
 use std::alloc::{AllocError, Global};
 
 /// Why a name gets no other one.
@@ -184,6 +185,28 @@ fn check_lines<V: View>(alloc: Global, view: &V, renaming: &Renaming<'_>) -> Res
     Ok(())
 }
 
+// Writes the place of a name in a line, by its number from 1 on, and its text.
+fn put_placed_name(
+    m: &mut Message,
+    context: &Context<'_>,
+    number: u32,
+    text: &[u8],
+    span: Span,
+) -> Result<(), AllocError>
+    requires { length text.now ≤ 1000 }
+    ensures { OnOk result (m.new ≡ m.old ++ placed_name context.now.encoding number text.now span) }
+{
+    let shown = String::from_utf8_lossy(context.alloc, part(text, span))?;
+    m.put_all(&[Part::BeginObject, Part::Key("range")])?;
+    put_name_range(m, context.encoding, number, text, span)?;
+    m.put_all(&[
+        Part::Key("placeholder"),
+        Part::Text(shown.as_str()),
+        Part::EndObject,
+    ])?;
+    Ok(())
+}
+
 /// Writes that a name of a line can get another one, and where it stands, or null.
 ///
 /// # Errors
@@ -196,19 +219,13 @@ pub fn put_name<V: View>(
     number: u32,
     line: &LineView<'_>,
     name: &Named<'_>,
-) -> Result<(), AllocError> {
+) -> Result<(), AllocError>
+    ensures { OnOk result (m.new ≡ m.old ++ prepared context.now.encoding (V.shown view.now) number (take 1000 line.now.text.now) (seen_of name.now)) }
+{
     if definition_line(view, &name.meaning) == 0 {
         return m.null();
     }
-    let text = text_of(line);
-    let shown = String::from_utf8_lossy(context.alloc, part(text, name.span))?;
-    m.put_all(&[Part::BeginObject, Part::Key("range")])?;
-    put_name_range(m, context.encoding, number, text, name.span)?;
-    m.put_all(&[
-        Part::Key("placeholder"),
-        Part::Text(shown.as_str()),
-        Part::EndObject,
-    ])
+    put_placed_name(m, context, number, text_of(line), name.span)
 }
 
 // Writes the edits of a document.

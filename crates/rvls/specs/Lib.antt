@@ -2,3 +2,4 @@ pub mod DocumentDiagnostics
 pub mod Frames
 pub mod PlacedDocuments
 pub mod QuickFixes
+pub mod Refusals

@@ -2,6 +2,7 @@
 
 ghost use Rattle.std.specs.Prelude.{◌≡◌};
 ghost use Rattle.rvls.specs.declared.writing.Failure.TheVariants.{Memory};
+ghost use Rattle.rvls.specs.Refusals.{failure_of, refusal_of};
 
 use rv_diagnostics::{Message, Part};
 use rv_language::{NameRefusal, RenameError};
@@ -99,7 +100,7 @@ impl From<AllocError> for Failure {
 }
 
 impl From<RenameError> for Failure {
-    ghost from_gives = { λ _ _. ⊤ };
+    ghost from_gives = { λ error f. f ≡ failure_of error };
 
     fn from(error: RenameError) -> Self {
         match error {
@@ -111,7 +112,9 @@ impl From<RenameError> for Failure {
 
 impl Refusal {
     // That of a name that gets no other one.
-    fn of_name(refusal: NameRefusal) -> Refusal {
+    fn of_name(refusal: NameRefusal) -> Refusal
+        ensures { result ≡ refusal_of refusal }
+    {
         match refusal {
             NameRefusal::NotDefined => Refusal::NoName,
             NameRefusal::NoSymbolName => Refusal::NoSymbolName,
