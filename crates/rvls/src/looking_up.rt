@@ -1,6 +1,10 @@
 //! Requests about the lines of a document and the names in it.
 
-ghost use Rattle.std.specs.Prelude.{◌≤◌, length};
+ghost use Rattle.std.specs.Prelude.{◌≡◌, ◌++◌, ◌≤◌, length, take, OnOk};
+ghost use Rattle.rv_language.specs.Meanings.{meant};
+ghost use Rattle.rv_language.specs.NamesAt.{seen_of};
+ghost use Rattle.rv_language.specs.References.{form_of, references};
+ghost use Rattle.rvls.specs.NameAnswers.{about_name, in_list};
 
 use crate::assembly::Assembly;
 use crate::bodies::has_text;
@@ -172,7 +176,9 @@ fn put_places<V: View>(
     name: &Named<'_>,
     with_definition: bool,
     form: PlaceForm<'_>,
-) -> Result<(), AllocError> {
+) -> Result<(), AllocError>
+    ensures { OnOk result (m.new ≡ m.old ++ in_list (references context.now.encoding context.now.uri.now (V.shown view.now) (record { meaning = meant name.now.meaning; with_definition = with_definition; form = form_of form }))) }
+{
     let wanted = Wanted {
         meaning: name.meaning,
         with_definition,
@@ -218,7 +224,9 @@ fn put_about_name<V: View>(
     line: &LineView<'_>,
     name: &Named<'_>,
     wish: NameWish<'_>,
-) -> Result<(), Failure> {
+) -> Result<(), Failure>
+    ensures { OnOk result (m.new ≡ m.old ++ about_name context.now.encoding context.now.uri.now (V.shown view.now) number (take 1000 line.now.text.now) (seen_of name.now) wish) }
+{
     match wish {
         NameWish::Definition => put_definition(m, context, view, &name.meaning)?,
         NameWish::References(with_definition) => put_places(
