@@ -188,7 +188,8 @@ for (const type of [1, 2, 3]) write({ method: "window/showMessage", params: { ty
 async function announcesNothing() {
   await begin({ "rvls.path": program("fake", FAKE) });
   await until("messages", () => editor.messages.length === 3);
-  check("messages of each type", editor.messages.map(({ kind, text }) => `${kind}: ${text}`), ["error: message 1", "warning: message 2", "information: message 3"]);
+  const told = editor.messages.map(({ kind, text }) => `${kind}: ${text}`);
+  check("messages of each type", told, ["error: message 1", "warning: message 2", "information: message 3"]);
   check("what is not announced is not asked for", providers(), 0);
 }
 
@@ -204,9 +205,9 @@ const RANGE = "2048 is out of range (-2048 to 2047); load the number by 'li' int
 
 async function showsFaults() {
   await begin();
-  check("the log", editor.output, [`rvls ${description.version}, base 0x00000000`]);
   const document = editor.open(Uri.file("/t/first text \u00e4.s"), FAULTY);
   check("faults of a text that is opened", await faults(document), ["1:21-25 Error Range", "2:17-20 Error Undefined"]);
+  check("the log", editor.output, [`rvls ${description.version}, base 0x00000000`]);
   const said = editor.diagnostics.get(document.uri).map(({ message, source }) => [source, message]);
   check("their messages", said, [["rvls", RANGE], ["rvls", "'lop' is not defined; did you mean 'loop'?"]]);
   const all = ["0:18 00000000 13 05 50 00", "1:25 00000004 00 00 00 00", "2:20 00000008 00 00 00 00", "3:14 0000000c 73 00 10 00"];
