@@ -177,7 +177,7 @@ fn put_places<V: View>(
     with_definition: bool,
     form: PlaceForm<'_>,
 ) -> Result<(), AllocError>
-    ensures { OnOk result (m.new ≡ m.old ++ in_list (references context.now.encoding context.now.uri.now (V.shown view.now) (record { meaning = meant name.now.meaning; with_definition = with_definition; form = form_of form }))) }
+    ensures { OnOk result (m.new ≡ m.old ++ in_list (references context.now.encoding context.now.uri.now (V.shown view.now) (record { meaning = meant name.now.meaning; with_definition = with_definition; form = form_of form.entry }))) }
 {
     let wanted = Wanted {
         meaning: name.meaning,
@@ -225,7 +225,7 @@ fn put_about_name<V: View>(
     name: &Named<'_>,
     wish: NameWish<'_>,
 ) -> Result<(), Failure>
-    ensures { OnOk result (m.new ≡ m.old ++ about_name context.now.encoding context.now.uri.now (V.shown view.now) number (take 1000 line.now.text.now) (seen_of name.now) wish) }
+    ensures { OnOk result (m.new ≡ m.old ++ about_name context.now.encoding context.now.uri.now (V.shown view.now) number (take 1000 line.now.text.now) (seen_of name.now) wish.entry) }
 {
     match wish {
         NameWish::Definition => put_definition(m, context, view, &name.meaning)?,
