@@ -174,17 +174,19 @@ def published_of(params, text, encoding):
 
 
 def difference(published, reported, hidden):
-    """What differs, or nothing. All instructions at odd addresses are published, and only the first of some reported."""
+    """What differs, or nothing. All instructions at odd addresses are published, and only the first of some reported. That a text has too many lines
+    is published beside as many others as are shown at most."""
     more = [item for item in published if item[4] == "more"]
     published = collections.Counter(item for item in published if item[4] != "more")
     reported = collections.Counter(reported)
+    shown = sum(count for item, count in published.items() if item[4] != "too-many-lines")
     lost, added = reported - published, published - reported
     if more:
         count = int(more[0][5].split()[0])
         has_faults = any(item[3] == 1 for item in lost) or hidden > sum(added.values())
-        right = len(more) == 1 and sum(published.values()) == MAX_SHOWN and sum(reported.values()) == sum(lost.values()) + sum(published.values()) - sum(added.values())
-        right = right and more[0][3] == (1 if has_faults else 2)
-        return None if right and count > 0 else (more, lost, added)
+        left = sum(reported.values()) + hidden - sum(published.values())
+        right = len(more) == 1 and shown == MAX_SHOWN and count == left > 0 and more[0][3] == (1 if has_faults else 2)
+        return None if right and all(item[4] in ("OddAddress", "too-many-lines") for item in added) else (more, lost, added)
     if any(item[4] != "OddAddress" for item in added) or sum(added.values()) != hidden or lost:
         return (lost, added, hidden)
     return None
@@ -218,6 +220,6 @@ def hint_difference(hints, listed):
     found = {hint["position"]["line"]: (hint["position"]["character"], *hint["label"].partition(" ")[::2]) for hint in hints}
     for number, line in enumerate(listed):
         hint = found.pop(number, None)
-        if hint != line and (line[2] or hint and hint[:2] != line[:2]):
+        if hint != line and (line[2] or hint):
             return (number, hint, line)
     return found or None

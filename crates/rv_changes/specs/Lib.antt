@@ -1,1 +1,2 @@
 pub mod Assembled
+pub mod PlacedDocuments

@@ -1,9 +1,12 @@
-//! The lines of a store where its document changes.
+//! Documents with their assembly: the lines of a store where its document changes, and texts that are put into a new one.
 #![tactic(auto)]
 
 mod assembled;
+mod assembly;
+mod base;
 mod limits;
+mod loading;
 mod syncing;
 
-pub use assembled::assembled_line;
-pub use limits::change_lines;
+pub use assembly::Assembly;
+pub use base::{Base, base_in};

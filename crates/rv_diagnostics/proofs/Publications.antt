@@ -3,6 +3,7 @@ use Rattle.std.proofs.Common.{◌≡◌, ℕ, zero, suc, ◌+◌, ◌-◌, ◌�
 use Rattle.std.proofs.lemmas.List.{length-append, length-drop, length-map, nil_from_length}
 use Rattle.json.specs.Token.{Token, begin_object, end_object, end_array}
 use Rattle.std.specs.Prelude.{codes}
+use Rattle.rv_report.specs.Words.{Words}
 use Rattle.rv_diagnostics.specs.Json.{message, string_member}
 use Rattle.rv_expr.specs.Value.{Environment}
 use Rattle.rv_list.specs.Faults.{faults_of}
@@ -24,15 +25,15 @@ unfolding warning_diagnostics
 warnings_shown encoding shown number line = length-map (warnings_about shown number line) (warning_diagnostic encoding number line.text)
 
 -- a text without faults has no diagnostics of them
-pub no_faults : (encoding : Encoding) (uri : List ℕ) (given : ℕ → ℕ → Environment) (shown : Shown) (symbols : List (List ℕ)) (w : Window) (old : List Token) → fault_count shown ≡ 0 → old ≡ old ++ shown_in w (all_diagnostics encoding uri given shown symbols)
-no_faults encoding uri given shown symbols w old none =
-    none_shown w old (all_diagnostics encoding uri given shown symbols)
-    (nil_from_length (all_diagnostics encoding uri given shown symbols)
+pub no_faults : (encoding : Encoding) (uri : List ℕ) (given : ℕ → ℕ → Environment) (shown : Shown) (words : Words) (w : Window) (old : List Token) → fault_count shown ≡ 0 → old ≡ old ++ shown_in w (all_diagnostics encoding uri given shown words)
+no_faults encoding uri given shown words w old none =
+    none_shown w old (all_diagnostics encoding uri given shown words)
+    (nil_from_length (all_diagnostics encoding uri given shown words)
     (same_lengths
-    (λ k. line_diagnostics encoding uri given shown symbols (k + 1) (shown.line (k + 1)))
+    (λ k. line_diagnostics encoding uri given shown words (k + 1) (shown.line (k + 1)))
     (λ k. faults_of shown (k + 1) (shown.line (k + 1)))
     shown.count
-    (λ k. diagnostic_count encoding uri given shown symbols (k + 1) (shown.line (k + 1)))
+    (λ k. diagnostic_count encoding uri given shown words (k + 1) (shown.line (k + 1)))
     ∙ none))
 
 -- nor has one without warnings

@@ -15,6 +15,7 @@ use Rattle.rv_list.specs.JoinedLaws.{joined_more, joined_then}
 use Rattle.rv_list.specs.Shown.{Shown, ShownLine}
 use Rattle.rv_report.specs.Warnings.{Warning, warning_of}
 use Rattle.rv_doc.specs.declared.encoding.Encoding.{Encoding}
+use Rattle.rv_report.specs.Words.{Words}
 use Rattle.rv_diagnostics.specs.Diagnostics.{fault_diagnostic, long_line, warning_diagnostic}
 use Rattle.rv_doc.specs.declared.window.Window.{Window}
 use Rattle.rv_diagnostics.specs.Published.{is_long, line_diagnostic, line_diagnostics, long_lines, optional, shown_in, warning_diagnostics}
@@ -114,12 +115,12 @@ mapped f w xs =
     ∙ flat_map-map (λ tokens. tokens) f (windowed w xs))
 
 -- the diagnostics of faults of a line
-pub line_written : (encoding : Encoding) (uri : List ℕ) (given : ℕ → ℕ → Environment) (shown : Shown) (symbols : List (List ℕ)) (number : ℕ) (line : ShownLine) (names : ℕ → Environment) (bytes : List ℕ) (values : List Entry) (faults : List Fault) → names ≡ given number → bytes ≡ line.text → values ≡ operand_values_of (names line.place.address) line.place.address line.stmt.body → flat_map (fault_diagnostic encoding uri (names line.place.address) shown (record { number = number; text = bytes; stmt = line.stmt; address = line.place.address; values = values; symbols = symbols })) faults ≡ flat_map (line_diagnostic encoding uri given shown symbols number line) faults
+pub line_written : (encoding : Encoding) (uri : List ℕ) (given : ℕ → ℕ → Environment) (shown : Shown) (words : Words) (number : ℕ) (line : ShownLine) (names : ℕ → Environment) (bytes : List ℕ) (values : List Entry) (faults : List Fault) → names ≡ given number → bytes ≡ line.text → values ≡ operand_values_of (names line.place.address) line.place.address line.stmt.body → flat_map (fault_diagnostic encoding uri (names line.place.address) shown (record { number = number; text = bytes; stmt = line.stmt; address = line.place.address; values = values; words = words })) faults ≡ flat_map (line_diagnostic encoding uri given shown words number line) faults
 unfolding line_diagnostic
-line_written encoding uri given shown symbols number line names bytes values faults named same valued =
-    ap (λ v. flat_map (fault_diagnostic encoding uri (names line.place.address) shown (record { number = number; text = bytes; stmt = line.stmt; address = line.place.address; values = v; symbols = symbols })) faults) valued
-    ∙ ap (λ (n : ℕ → Environment). flat_map (fault_diagnostic encoding uri (n line.place.address) shown (record { number = number; text = bytes; stmt = line.stmt; address = line.place.address; values = operand_values_of (n line.place.address) line.place.address line.stmt.body; symbols = symbols })) faults) named
-    ∙ ap (λ b. flat_map (fault_diagnostic encoding uri (given number line.place.address) shown (record { number = number; text = b; stmt = line.stmt; address = line.place.address; values = operand_values_of (given number line.place.address) line.place.address line.stmt.body; symbols = symbols })) faults) same
+line_written encoding uri given shown words number line names bytes values faults named same valued =
+    ap (λ v. flat_map (fault_diagnostic encoding uri (names line.place.address) shown (record { number = number; text = bytes; stmt = line.stmt; address = line.place.address; values = v; words = words })) faults) valued
+    ∙ ap (λ (n : ℕ → Environment). flat_map (fault_diagnostic encoding uri (n line.place.address) shown (record { number = number; text = bytes; stmt = line.stmt; address = line.place.address; values = operand_values_of (n line.place.address) line.place.address line.stmt.body; words = words })) faults) named
+    ∙ ap (λ b. flat_map (fault_diagnostic encoding uri (given number line.place.address) shown (record { number = number; text = b; stmt = line.stmt; address = line.place.address; values = operand_values_of (given number line.place.address) line.place.address line.stmt.body; words = words })) faults) same
 
 found_in : (w : Window) (fs : List Fault) → found (windowed w (map (λ f. Some f) fs)) ≡ windowed w fs
 found_in w fs =
@@ -127,20 +128,20 @@ found_in w fs =
     ∙ all_found (windowed w fs)
 
 -- those that a window shows
-pub line_shown : (encoding : Encoding) (uri : List ℕ) (given : ℕ → ℕ → Environment) (shown : Shown) (symbols : List (List ℕ)) (number : ℕ) (line : ShownLine) (w : Window) (faults rows : List (Option Fault)) → faults ≡ map (λ f. Some f) (faults_of shown number line) → rows ≡ windowed w faults → flat_map (line_diagnostic encoding uri given shown symbols number line) (found rows) ≡ shown_in w (line_diagnostics encoding uri given shown symbols number line)
+pub line_shown : (encoding : Encoding) (uri : List ℕ) (given : ℕ → ℕ → Environment) (shown : Shown) (words : Words) (number : ℕ) (line : ShownLine) (w : Window) (faults rows : List (Option Fault)) → faults ≡ map (λ f. Some f) (faults_of shown number line) → rows ≡ windowed w faults → flat_map (line_diagnostic encoding uri given shown words number line) (found rows) ≡ shown_in w (line_diagnostics encoding uri given shown words number line)
 unfolding line_diagnostics
-line_shown encoding uri given shown symbols number line w faults rows faulty passed_rows =
-    let written = line_diagnostic encoding uri given shown symbols number line in
+line_shown encoding uri given shown words number line w faults rows faulty passed_rows =
+    let written = line_diagnostic encoding uri given shown words number line in
     ap (λ (f : List (Option Fault)). flat_map written (found f)) passed_rows
     ∙ ap (λ (f : List (Option Fault)). flat_map written (found (windowed w f))) faulty
     ∙ ap (flat_map written) (found_in w (faults_of shown number line))
     ∙ mapped written w (faults_of shown number line)
 
 -- there are as many as it has faults
-pub diagnostic_count : (encoding : Encoding) (uri : List ℕ) (given : ℕ → ℕ → Environment) (shown : Shown) (symbols : List (List ℕ)) (number : ℕ) (line : ShownLine) → length (line_diagnostics encoding uri given shown symbols number line) ≡ length (faults_of shown number line)
+pub diagnostic_count : (encoding : Encoding) (uri : List ℕ) (given : ℕ → ℕ → Environment) (shown : Shown) (words : Words) (number : ℕ) (line : ShownLine) → length (line_diagnostics encoding uri given shown words number line) ≡ length (faults_of shown number line)
 unfolding line_diagnostics
-diagnostic_count encoding uri given shown symbols number line =
-    length-map (faults_of shown number line) (line_diagnostic encoding uri given shown symbols number line)
+diagnostic_count encoding uri given shown words number line =
+    length-map (faults_of shown number line) (line_diagnostic encoding uri given shown words number line)
 
 pub found_count : (shown : Shown) (number : ℕ) (line : ShownLine) (faults : List (Option Fault)) → faults ≡ map (λ f. Some f) (faults_of shown number line) → length faults ≡ length (faults_of shown number line)
 found_count shown number line faults is = ap length is ∙ length-map (faults_of shown number line) (λ f. Some f)

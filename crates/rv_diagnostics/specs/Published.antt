@@ -14,9 +14,10 @@ use Rattle.rv_list.specs.Joined.{joined}
 use Rattle.rv_list.specs.Shown.{Shown, ShownLine, from_lines}
 use Rattle.rv_report.specs.Lines.{Line}
 use Rattle.rv_report.specs.Warnings.{Warning, warning_of}
+use Rattle.rv_report.specs.Words.{Words}
 use Rattle.rv_doc.specs.declared.encoding.Encoding.{Encoding}
 use Rattle.rv_program.specs.declared.limits.TheConstants.{MAX_LINES}
-use Rattle.rv_files.specs.Symbols.{searched, symbols_of}
+use Rattle.rv_files.specs.Words.{searched_words}
 use Rattle.rv_diagnostics.specs.Diagnostics.{fault_diagnostic, long_line, many_lines, more_diagnostics, warning_diagnostic}
 use Rattle.rv_diagnostics.specs.declared.publishing.TheConstants.{MOST}
 use Rattle.rv_doc.specs.declared.window.Window.{Window}
@@ -40,34 +41,34 @@ fault_count shown = length (from_lines shown (faults_of shown))
 abbrev pub faults_before : Shown → (at : ℕ) → ℕ
 faults_before shown at = length (from_first shown at (faults_of shown))
 
--- the names among which one is looked for that may be meant, where a text has so many faults: those of the first symbols
-abbrev pub searched_names : Shown → (faults : ℕ) → List (List ℕ)
-searched_names shown faults = map (λ s. s.name) (take (searched (min faults MOST)) (symbols_of shown))
+-- the words among which a name is looked for that may be meant, where a text has so many faults
+abbrev pub words_with : Shown → (faults : ℕ) → Words
+words_with shown faults = searched_words shown (min faults MOST)
 
 -- a line with what its messages may name; `given` is what names give on a line, by its number, where `.` is an address
-abbrev pub faulty_line : (given : ℕ → ℕ → Environment) → (symbols : List (List ℕ)) → (number : ℕ) → ShownLine → Line
-faulty_line given symbols number line = record {
+abbrev pub faulty_line : (given : ℕ → ℕ → Environment) → Words → (number : ℕ) → ShownLine → Line
+faulty_line given words number line = record {
   number = number;
   text = line.text;
   stmt = line.stmt;
   address = line.place.address;
   values = operand_values_of (given number line.place.address) line.place.address line.stmt.body;
-  symbols = symbols;
+  words = words;
 }
 
 -- the diagnostic of a fault of a line
-unfoldable pub line_diagnostic : Encoding → (uri : List ℕ) → (given : ℕ → ℕ → Environment) → Shown → (symbols : List (List ℕ)) → (number : ℕ) → ShownLine → Fault → List Token
-line_diagnostic encoding uri given shown symbols number line =
-    fault_diagnostic encoding uri (given number line.place.address) shown (faulty_line given symbols number line)
+unfoldable pub line_diagnostic : Encoding → (uri : List ℕ) → (given : ℕ → ℕ → Environment) → Shown → Words → (number : ℕ) → ShownLine → Fault → List Token
+line_diagnostic encoding uri given shown words number line =
+    fault_diagnostic encoding uri (given number line.place.address) shown (faulty_line given words number line)
 
 -- the diagnostics of a line, one for each fault
-unfoldable pub line_diagnostics : Encoding → (uri : List ℕ) → (given : ℕ → ℕ → Environment) → Shown → (symbols : List (List ℕ)) → (number : ℕ) → ShownLine → List (List Token)
-line_diagnostics encoding uri given shown symbols number line =
-    map (line_diagnostic encoding uri given shown symbols number line) (faults_of shown number line)
+unfoldable pub line_diagnostics : Encoding → (uri : List ℕ) → (given : ℕ → ℕ → Environment) → Shown → Words → (number : ℕ) → ShownLine → List (List Token)
+line_diagnostics encoding uri given shown words number line =
+    map (line_diagnostic encoding uri given shown words number line) (faults_of shown number line)
 
 -- those of a text
-abbrev pub all_diagnostics : Encoding → (uri : List ℕ) → (given : ℕ → ℕ → Environment) → Shown → (symbols : List (List ℕ)) → List (List Token)
-all_diagnostics encoding uri given shown symbols = from_lines shown (line_diagnostics encoding uri given shown symbols)
+abbrev pub all_diagnostics : Encoding → (uri : List ℕ) → (given : ℕ → ℕ → Environment) → Shown → Words → List (List Token)
+all_diagnostics encoding uri given shown words = from_lines shown (line_diagnostics encoding uri given shown words)
 
 -- Warnings
 
@@ -128,7 +129,7 @@ some_long encoding lines at =
 -- those of the faults, at most so many
 abbrev pub fault_diagnostics : Encoding → (uri : List ℕ) → (given : ℕ → ℕ → Environment) → Shown → (most at : ℕ) → List Token
 fault_diagnostics encoding uri given shown most at =
-    shown_in (nearest most (faults_before shown at) (fault_count shown)) (all_diagnostics encoding uri given shown (searched_names shown (fault_count shown)))
+    shown_in (nearest most (faults_before shown at) (fault_count shown)) (all_diagnostics encoding uri given shown (words_with shown (fault_count shown)))
 
 -- those of the warnings, at most so many
 abbrev pub some_warnings : Encoding → Shown → (most at : ℕ) → List Token

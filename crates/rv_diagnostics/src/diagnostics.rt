@@ -1,13 +1,13 @@
 //! Diagnostics as they are written: faults of lines, warnings about them, and lines past a limit.
 
-ghost use Rattle.std.specs.Prelude.{◌≡◌, ◌≤◌, ◌<◌, ◌^◌, ◌++◌, [], codes, decimal, length, option_map, string_bytes, IfOk, OnOk};
+ghost use Rattle.std.specs.Prelude.{◌≡◌, ◌≤◌, ◌<◌, ◌^◌, ◌++◌, [], codes, decimal, length, option_map, IfOk, OnOk};
 ghost use Rattle.std.specs.List.{flat_map};
 ghost use Rattle.std.specs.Str.Lossy.{utf8_lossy};
 ghost use Rattle.rv_list.specs.Faults.{body_faults, found};
 ghost use Rattle.rv_report.specs.FaultyNames.{name_used};
 ghost use Rattle.rv_report.specs.Lines.{line_of};
 ghost use Rattle.rv_report.specs.Messages.{message_of};
-ghost use Rattle.rv_report.specs.Warnings.{warning_message, warning_seen};
+ghost use Rattle.rv_report.specs.Warnings.{warning_seen};
 ghost use Rattle.rv_diagnostics.specs.Diagnostics.{column_at, diagnostic, diagnostic_by_place, diagnostic_head, diagnostic_of_fault, fault_diagnostic, first_line_of, long_line, many_lines, more_diagnostics, place_of_fault, place_of_name, related_line, related_of, related_place, warning_diagnostic};
 
 use crate::defined_names::{Definition, name_of_fault, place_of_word, text_of_place};
@@ -89,6 +89,22 @@ fn begin_diagnostic<'a>(
         Part::Key("message"),
         Part::Text(message),
     ])?;
+    Ok(())
+}
+
+// Begins a diagnostic of which this is said. What is not UTF-8 is U+FFFD.
+fn begin_said(
+    m: &mut Message,
+    alloc: Global,
+    place: Place,
+    severity: u64,
+    code: &str,
+    said: &[u8],
+) -> Result<(), AllocError>
+    ensures { OnOk result (m.new ≡ m.old ++ diagnostic_head place.line place.from place.to severity code.now (utf8_lossy said.now)) }
+{
+    let message = String::from_utf8_lossy(alloc, said)?;
+    begin_diagnostic(m, place, severity, code, message.as_str())?;
     Ok(())
 }
 
@@ -222,23 +238,23 @@ fn push_first_line(
     }
 }
 
-// The message of a fault as a text, whose name is defined here.
-fn fault_text<N: Names, V: View>(
+// The message of a fault, whose name is defined here.
+fn fault_said<N: Names, V: View>(
     alloc: Global,
     line: &FaultyLine<'_>,
     names: &N,
     view: &V,
     definition: DefinitionPlace,
     fault: Fault,
-) -> Result<String, AllocError>
+) -> Result<Vec<u8>, AllocError>
     requires labels { length line.now.stmt.now.labels ≤ 1000 }
     requires text { length line.now.text.now ≤ 1000 }
-    ensures { IfOk result (λ s. string_bytes s ≡ utf8_lossy (message_of (N.environment names.now line.now.address) (V.shown view.now) (line_of line.now) fault ++ first_line_of fault.number definition)) }
+    ensures { IfOk result (λ said. said.items ≡ message_of (N.environment names.now line.now.address) (V.shown view.now) (line_of line.now) fault ++ first_line_of fault.number definition) }
 {
-    let mut bytes = Vec::new(alloc);
-    message(&mut bytes, alloc, line, names, view, fault)?;
-    push_first_line(&mut bytes, fault.number, definition)?;
-    String::from_utf8_lossy(alloc, bytes.as_slice())
+    let mut said = Vec::new(alloc);
+    message(&mut said, alloc, line, names, view, fault)?;
+    push_first_line(&mut said, fault.number, definition)?;
+    Ok(said)
 }
 
 // Where a name is defined for which an operand has no value.
@@ -275,18 +291,19 @@ fn put_said(
     line: &FaultyLine<'_>,
     definition: &Definition<'_>,
     fault: Fault,
-    said: &str,
+    said: &[u8],
 ) -> Result<(), AllocError>
     requires line { length line.now.text.now ≤ 1000 }
     requires definition { length definition.now.text.now ≤ 1000 }
-    ensures { OnOk result (m.new ≡ m.old ++ diagnostic_of_fault context.now.encoding context.now.uri.now definition.now.place definition.now.text.now definition.now.span (line_of line.now) fault said.now) }
+    ensures { OnOk result (m.new ≡ m.old ++ diagnostic_of_fault context.now.encoding context.now.uri.now definition.now.place definition.now.text.now definition.now.span (line_of line.now) fault (utf8_lossy said.now)) }
 {
     let place = Place {
         line: line.number.saturating_sub(1),
         from: column_at(context.encoding, line.text, fault.span.from),
         to: column_at(context.encoding, line.text, fault.span.to),
     };
-    begin_diagnostic(m, place, ERROR, fault_name(fault.number), said)?;
+    let code = fault_name(fault.number);
+    begin_said(m, context.alloc, place, ERROR, code, said)?;
     put_related(m, context, fault.number, definition)?;
     m.end_object()?;
     Ok(())
@@ -311,8 +328,8 @@ fn put_fault<N: Names, T: Told>(
     let name = name_of_fault(line, names, fault);
     let span = place_of_word(context.alloc, text, name)?;
     let definition = Definition { place, text, span };
-    let said = fault_text(context.alloc, line, names, told, place, fault)?;
-    put_said(m, context, line, &definition, fault, said.as_str())?;
+    let said = fault_said(context.alloc, line, names, told, place, fault)?;
+    put_said(m, context, line, &definition, fault, said.as_slice())?;
     Ok(())
 }
 
@@ -355,15 +372,6 @@ pub fn put_faults<N: Names, T: Told>(
     Ok(())
 }
 
-// What a warning says.
-fn warning_text(alloc: Global, warning: &Warning<'_>) -> Result<String, AllocError>
-    ensures { IfOk result (λ s. string_bytes s ≡ utf8_lossy (warning_message warning.now.label.now)) }
-{
-    let mut text = Text::new(alloc);
-    push_warning_message(&mut text, warning.label)?;
-    String::from_utf8_lossy(alloc, text.bytes())
-}
-
 /// Writes the diagnostic of a warning about a line, by its number from 1 on.
 #[tactic(auto, unfolding(crate::specs::Diagnostics::warning_diagnostic))]
 pub fn put_warning(
@@ -376,14 +384,16 @@ pub fn put_warning(
     requires { length text.now ≤ 1000 }
     ensures { OnOk result (m.new ≡ m.old ++ warning_diagnostic context.now.encoding number text.now (warning_seen warning.now)) }
 {
-    let said = warning_text(context.alloc, warning)?;
+    let mut said = Text::new(context.alloc);
+    push_warning_message(&mut said, warning.label)?;
     let place = Place {
         line: number.saturating_sub(1),
         from: column_at(context.encoding, text, warning.span.from),
         to: column_at(context.encoding, text, warning.span.to),
     };
     let code = "label-as-register";
-    put_diagnostic(m, place, WARNING, code, said.as_str())?;
+    begin_said(m, context.alloc, place, WARNING, code, said.bytes())?;
+    m.end_object()?;
     Ok(())
 }
 

@@ -1,6 +1,6 @@
 //! Messages that are written.
 
-ghost use Rattle.std.specs.Prelude.{◌≡◌, ◌∷◌, ◌++◌, [], true, codes, decimal, IfOk, OnOk};
+ghost use Rattle.std.specs.Prelude.{◌≡◌, ◌∷◌, ◌++◌, [], true, codes, decimal, map, IfOk, OnOk};
 ghost use Rattle.std.specs.Fmt.{signed_decimal};
 ghost use Rattle.json.specs.Print.{print};
 ghost use Rattle.json.specs.Token.{begin_object, end_object, begin_array, end_array, key, string, number, boolean, null};
@@ -107,6 +107,17 @@ impl Message {
         ensures { OnOk result (self.new ≡ self.old ++ number (decimal n) ∷ []) }
     {
         self.writer.u64(n)
+    }
+
+    /// Writes numbers, one after another.
+    pub fn numbers(&mut self, mut numbers: &[u64]) -> Result<(), AllocError>
+        ensures { OnOk result (self.new ≡ self.old ++ map (λ n. number (decimal n)) numbers.entry.now) }
+    {
+        'numbers: while let [first, later @ ..] = numbers {
+            self.writer.u64(*first)?;
+            numbers = later;
+        }
+        Ok(())
     }
 
     /// Writes a number with its sign.

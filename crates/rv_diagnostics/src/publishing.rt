@@ -4,11 +4,12 @@ ghost use Rattle.std.specs.Prelude.{◌≡◌, ◌≤◌, ◌∷◌, ◌+◌, �
 ghost use Rattle.std.specs.List.{flat_map};
 ghost use Rattle.rv_list.specs.Faults.{found};
 ghost use Rattle.rv_list.specs.Shown.{shown_line};
+ghost use Rattle.rv_report.specs.Lines.{words_of};
 ghost use Rattle.json.specs.Print.{print};
 ghost use Rattle.json.specs.Token.{end_array, end_object};
 ghost use Rattle.rv_doc.specs.Positions.{lines_of};
 ghost use Rattle.rv_diagnostics.specs.Json.{frame};
-ghost use Rattle.rv_diagnostics.specs.Published.{all_diagnostics, all_warnings, diagnostics_of, fault_count, fault_diagnostics, gravest_left_out, left_out, line_diagnostic, long_count, long_lines, publication, publication_head, searched_names, shown_in, some_long, some_warnings, too_many, version_member, warning_count, warning_diagnostics};
+ghost use Rattle.rv_diagnostics.specs.Published.{all_diagnostics, all_warnings, diagnostics_of, fault_count, fault_diagnostics, gravest_left_out, left_out, line_diagnostic, long_count, long_lines, publication, publication_head, shown_in, some_long, some_warnings, too_many, version_member, warning_count, warning_diagnostics, words_with};
 ghost use Rattle.rv_doc.specs.Windows.{passed};
 
 use crate::counting::{count_faults, count_long, count_warnings, has_many_lines, is_long};
@@ -20,11 +21,11 @@ use crate::part::Part;
 use crate::told::Told;
 use arrayvec::ArrayVec;
 use rv_doc::{Lines, Window};
-use rv_files::{first_names, first_symbols, searched};
+use rv_files::{first_names, first_symbols, first_unknown_words, searched};
 use rv_fix::operand_values;
 use rv_list::{LineSource, LineView, MAX_FAULTS, TestedLines, View, find_faults};
 use rv_program::MAX_LINES;
-use rv_report::{FaultyLine, find_warning};
+use rv_report::{FaultyLine, TextWords, find_warning};
 use rv_text::{Fault, Tally};
 use std::alloc::{AllocError, Global};
 
@@ -91,7 +92,7 @@ fn put_line<T: Told>(
     m: &mut Message,
     context: &Context<'_>,
     told: &T,
-    symbols: &[&[u8]],
+    words: TextWords<'_>,
     number: u32,
     line: &LineView<'_>,
     faults: &[Option<Fault>],
@@ -101,7 +102,7 @@ fn put_line<T: Told>(
     requires line { shown_line line.now ≡ (T.View.shown told.now).line number }
     requires labels { length line.now.stmt.now.labels ≤ 1000 }
     ensures { OnOk result (m.new ≡ m.old
-        ++ flat_map (line_diagnostic context.now.encoding context.now.uri.now (T.environments told.now) (T.View.shown told.now) (map (λ s. s.now) symbols.now) number ((T.View.shown told.now).line number)) (found faults.now)) }
+        ++ flat_map (line_diagnostic context.now.encoding context.now.uri.now (T.environments told.now) (T.View.shown told.now) (words_of words.entry) number ((T.View.shown told.now).line number)) (found faults.now)) }
 {
     if faults.is_empty() {
         return Ok(());
@@ -118,7 +119,7 @@ fn put_line<T: Told>(
         stmt: line.stmt,
         address,
         values: &values,
-        symbols,
+        words,
     };
     put_faults(m, context, &line, &names, told, faults)
 }
@@ -129,12 +130,12 @@ fn put_lines<T: Told>(
     window: &mut Window,
     context: &Context<'_>,
     told: &T,
-    symbols: &[&[u8]],
+    words: TextWords<'_>,
 ) -> Result<(), AllocError>
 where
     T::Lines: TestedLines,
     ensures { OnOk result (m.new ≡ m.old
-        ++ shown_in window.old (all_diagnostics context.now.encoding context.now.uri.now (T.environments told.now) (T.View.shown told.now) (map (λ s. s.now) symbols.now))) }
+        ++ shown_in window.old (all_diagnostics context.now.encoding context.now.uri.now (T.environments told.now) (T.View.shown told.now) (words_of words.entry))) }
 {
     let mut faults = ArrayVec::<Option<Fault>, MAX_FAULTS>::new();
     let mut lines = told.lines();
@@ -149,7 +150,7 @@ where
         let line = lines.line();
         find_faults(&mut faults, told, k + 1, &line);
         let shown = window.pass(faults.as_slice());
-        put_line(m, context, told, symbols, k + 1, &line, shown)?;
+        put_line(m, context, told, words, k + 1, &line, shown)?;
     }
     Ok(())
 }
@@ -228,7 +229,7 @@ where
     T::Lines: TestedLines,
     requires { count ≡ fault_count (T.View.shown told.now) }
     ensures { OnOk result (m.new ≡ m.old
-        ++ shown_in window.old (all_diagnostics context.now.encoding context.now.uri.now (T.environments told.now) (T.View.shown told.now) (searched_names (T.View.shown told.now) (fault_count (T.View.shown told.now))))) }
+        ++ shown_in window.old (all_diagnostics context.now.encoding context.now.uri.now (T.environments told.now) (T.View.shown told.now) (words_with (T.View.shown told.now) (fault_count (T.View.shown told.now))))) }
 {
     if count == 0 {
         return Ok(());
@@ -236,7 +237,12 @@ where
     let most = searched(count.min(MOST));
     let symbols = first_symbols(context.alloc, told, most)?;
     let names = first_names(context.alloc, symbols.as_slice(), most)?;
-    put_lines(m, window, context, told, names.as_slice())
+    let unknown = first_unknown_words(context.alloc, told, most)?;
+    let words = TextWords {
+        symbols: names.as_slice(),
+        unknown: unknown.as_slice(),
+    };
+    put_lines(m, window, context, told, words)
 }
 
 // Writes the diagnostics of the faults of a text that are nearest to a line, and says how many faults it has.

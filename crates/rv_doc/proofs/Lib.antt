@@ -7,3 +7,4 @@ pub mod Rooms
 pub mod ChangedTexts
 pub mod Blocks
 pub mod LongLines
+pub mod HeaderRows

@@ -4,3 +4,4 @@ pub mod Borders
 pub mod LinesLeft
 pub mod Windows
 pub mod Changes
+pub mod Frames

@@ -1,10 +1,11 @@
-//! Documents as editors see them: positions of lines and columns, changes as messages say them, the lines that changes touch, and which of many
-//! rows about a document are shown.
+//! Documents as editors see them: the frames of messages, positions of lines and columns, changes as messages say them, the lines that changes
+//! touch, and which of many rows about a document are shown.
 #![tactic(auto)]
 
 mod changing;
 mod document;
 mod encoding;
+mod frame;
 mod laws;
 mod lines;
 mod lines_left;
@@ -17,6 +18,7 @@ mod window;
 pub use changing::change_all;
 pub use document::Document;
 pub use encoding::{Encoding, before_column, column_of};
+pub use frame::{Frame, MAX_BODY, MAX_HEADER, frame_at};
 pub use laws::{columns_have_room, lines_begin_there};
 pub use lines::{line_count, may_have_longer_line};
 pub use lines_left::Lines;

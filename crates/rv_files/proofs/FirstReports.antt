@@ -12,12 +12,14 @@ use Rattle.rv_show.specs.declared.page.Style.{Style}
 use Rattle.rv_show.specs.Origins.{Source}
 use Rattle.rv_show.specs.Totals.{last_rows}
 use Rattle.rv_report.specs.Reports.{warning_report_of}
+use Rattle.rv_report.specs.Words.{Words}
 use Rattle.rv_report.specs.Warnings.{Warning, warning_of}
 use Rattle.rv_store.specs.Shown.{shown_of}
 use Rattle.rv_program.specs.Text.{Text}
 use Rattle.rv_files.specs.declared.odd_addresses.Reported.{Reported}
 use Rattle.rv_files.specs.OddAddresses.{reported_faults}
-use Rattle.rv_files.specs.TextReports.{all_reports, all_warnings, asked_warnings, fault_count, line_reports, optional, own_report_of, report_count, searched_symbols, text_reports, warning_count, warning_reports, warnings_about}
+use Rattle.rv_files.specs.TextReports.{all_reports, all_warnings, asked_warnings, fault_count, line_reports, optional, own_report_of, report_count, text_reports, warning_count, warning_reports, warnings_about}
+use Rattle.rv_files.specs.Words.{searched_words}
 use Rattle.rv_files.proofs.OddAddresses.{as_many_reported, no_more_reports}
 use Rattle.rv_list.specs.JoinedLaws.{Then, joined_more, joined_then}
 
@@ -101,28 +103,28 @@ first_lost f most k n old now new within before lost =
 -- Reports
 
 -- a line has as many reports as it has faults with one
-line_count : (style : Style) (source : Source) (text : Text) (symbols : List (List ℕ)) (number : ℕ) (line : ShownLine) → length (line_reports style source text symbols number line) ≡ length (reported_faults (shown_of text) number line)
+line_count : (style : Style) (source : Source) (text : Text) (words : Words) (number : ℕ) (line : ShownLine) → length (line_reports style source text words number line) ≡ length (reported_faults (shown_of text) number line)
 unfolding line_reports
-line_count style source text symbols number line =
-    length-map (reported_faults (shown_of text) number line) (own_report_of style source text symbols number line)
+line_count style source text words number line =
+    length-map (reported_faults (shown_of text) number line) (own_report_of style source text words number line)
 
-pub found_reports : (style : Style) (source : Source) (text : Text) (symbols : List (List ℕ)) (number : ℕ) (line : ShownLine) (found : List (Option Reported)) → found ≡ map (λ r. Some r) (reported_faults (shown_of text) number line) → length found ≡ length (line_reports style source text symbols number line)
-found_reports style source text symbols number line found is =
+pub found_reports : (style : Style) (source : Source) (text : Text) (words : Words) (number : ℕ) (line : ShownLine) (found : List (Option Reported)) → found ≡ map (λ r. Some r) (reported_faults (shown_of text) number line) → length found ≡ length (line_reports style source text words number line)
+found_reports style source text words number line found is =
     as_many_reported found (reported_faults (shown_of text) number line) is
-    ∙ sym (line_count style source text symbols number line)
+    ∙ sym (line_count style source text words number line)
 
 -- as many of them as there are faults among the first
 pub as_many : {A : Type 0} (xs : List A) (n left : ℕ) → n ≡ min left (length xs) → take n xs ≡ take left xs
 as_many xs n left is = ap (λ c. take c xs) is ∙ take_min left xs
 
 -- and so has a text
-pub all_counted : (style : Style) (source : Source) (text : Text) (symbols : List (List ℕ)) → length (all_reports style source text symbols) ≡ report_count text
-all_counted style source text symbols =
+pub all_counted : (style : Style) (source : Source) (text : Text) (words : Words) → length (all_reports style source text words) ≡ report_count text
+all_counted style source text words =
     same_lengths
-    (λ k. line_reports style source text symbols (k + 1) ((shown_of text).line (k + 1)))
+    (λ k. line_reports style source text words (k + 1) ((shown_of text).line (k + 1)))
     (λ k. reported_faults (shown_of text) (k + 1) ((shown_of text).line (k + 1)))
     (shown_of text).count
-    (λ k. line_count style source text symbols (k + 1) ((shown_of text).line (k + 1)))
+    (λ k. line_count style source text words (k + 1) ((shown_of text).line (k + 1)))
 
 -- Warnings
 
@@ -172,9 +174,9 @@ first_of_both most count xs ys is =
 pub none_reported : (style : Style) (source : Source) (text : Text) (most : ℕ) (warns : Bool) → fault_count text ≡ 0 → asked_warnings text warns ≡ 0 → text_reports style source text most warns ≡ []
 unfolding text_reports
 none_reported style source text most warns no_fault no_warning =
-    let symbols = searched_symbols text (min (report_count text) most) in
+    let words = searched_words (shown_of text) (min (report_count text) most) in
     let none : report_count text ≡ 0 = omega (arith, no_more_reports text, no_fault) in
-    let faults : all_reports style source text symbols ≡ [] = nil_from_length (all_reports style source text symbols) (all_counted style source text symbols ∙ none) in
+    let faults : all_reports style source text words ≡ [] = nil_from_length (all_reports style source text words) (all_counted style source text words ∙ none) in
     let warnings : (if warns then all_warnings style source text else []) ≡ [] = nil_from_length (if warns then all_warnings style source text else []) (asked_counted style source text warns ∙ no_warning) in
     ap (λ (l : List (List ℕ)). concat (take most (l ++ (if warns then all_warnings style source text else []))) ++ last_rows source.file (fault_count text) (asked_warnings text warns) (report_count text + asked_warnings text warns) most) faults
     ∙ ap (λ (l : List (List ℕ)). concat (take most l) ++ last_rows source.file (fault_count text) (asked_warnings text warns) (report_count text + asked_warnings text warns) most) warnings

@@ -8,6 +8,7 @@ use Rattle.rv_fix.specs.Values.{Entry, operand_values_of}
 use Rattle.rv_list.specs.Shown.{ShownLine}
 use Rattle.rv_show.specs.declared.page.Style.{Style}
 use Rattle.rv_show.specs.Origins.{Source}
+use Rattle.rv_report.specs.Words.{Words}
 use Rattle.rv_report.specs.Reports.{report_of}
 use Rattle.rv_store.specs.LinesOfTexts.{LineOfText, names_from}
 use Rattle.rv_store.specs.Shown.{shown_of}
@@ -46,12 +47,12 @@ bytes_of_line lines k text e = at (k == 0) e
 in_order : {X : Type 0} (f : X → List ℕ) (n : ℕ) (xs : List X) → flat_map f (take n xs) ≡ concat (take n (map f xs))
 in_order f n xs = sym (ap concat (take-map f n xs) ∙ concat_is (map f (take n xs)) ∙ flat_map-map (λ x. x) f (take n xs))
 
-pub line_reports-are : (style : Style) (source : Source) (text : Text) (symbols : List (List ℕ)) (number count : ℕ) (shown : ShownLine) (names : LineOfText) (bytes : List ℕ) (values : List Entry) (reported : List (Option Reported)) → names ≡ record { text = text; line = number } → bytes ≡ shown.text → values ≡ operand_values_of (names_from names shown.place.address) shown.place.address shown.stmt.body → reported ≡ map (λ r. Some r) (take count (reported_faults (shown_of text) number shown)) → flat_map (λ r. report_of style source (names_from names shown.place.address) (shown_of text) (record { number = number; text = bytes; stmt = shown.stmt; address = shown.place.address; values = values; symbols = symbols }) r.more r.fault) (flat_map one_reported reported) ≡ concat (take count (line_reports style source text symbols number shown))
+pub line_reports-are : (style : Style) (source : Source) (text : Text) (words : Words) (number count : ℕ) (shown : ShownLine) (names : LineOfText) (bytes : List ℕ) (values : List Entry) (reported : List (Option Reported)) → names ≡ record { text = text; line = number } → bytes ≡ shown.text → values ≡ operand_values_of (names_from names shown.place.address) shown.place.address shown.stmt.body → reported ≡ map (λ r. Some r) (take count (reported_faults (shown_of text) number shown)) → flat_map (λ r. report_of style source (names_from names shown.place.address) (shown_of text) (record { number = number; text = bytes; stmt = shown.stmt; address = shown.place.address; values = values; words = words }) r.more r.fault) (flat_map one_reported reported) ≡ concat (take count (line_reports style source text words number shown))
 unfolding line_reports
-line_reports-are style source text symbols number count shown names bytes values reported named same valued faulty =
-    ap (λ v. flat_map (λ (r : Reported). report_of style source (names_from names shown.place.address) (shown_of text) (record { number = number; text = bytes; stmt = shown.stmt; address = shown.place.address; values = v; symbols = symbols }) r.more r.fault) (flat_map one_reported reported)) valued
-    ∙ ap (λ (n : LineOfText). flat_map (λ (r : Reported). report_of style source (names_from n shown.place.address) (shown_of text) (record { number = number; text = bytes; stmt = shown.stmt; address = shown.place.address; values = operand_values_of (names_from n shown.place.address) shown.place.address shown.stmt.body; symbols = symbols }) r.more r.fault) (flat_map one_reported reported)) named
-    ∙ ap (λ b. flat_map (λ (r : Reported). report_of style source (names_from (record { text = text; line = number }) shown.place.address) (shown_of text) (record { number = number; text = b; stmt = shown.stmt; address = shown.place.address; values = operand_values_of (names_from (record { text = text; line = number }) shown.place.address) shown.place.address shown.stmt.body; symbols = symbols }) r.more r.fault) (flat_map one_reported reported)) same
-    ∙ ap (λ (f : List (Option Reported)). flat_map (own_report_of style source text symbols number shown) (flat_map one_reported f)) faulty
-    ∙ ap (flat_map (own_report_of style source text symbols number shown)) (all_reported_found (take count (reported_faults (shown_of text) number shown)))
-    ∙ in_order (own_report_of style source text symbols number shown) count (reported_faults (shown_of text) number shown)
+line_reports-are style source text words number count shown names bytes values reported named same valued faulty =
+    ap (λ v. flat_map (λ (r : Reported). report_of style source (names_from names shown.place.address) (shown_of text) (record { number = number; text = bytes; stmt = shown.stmt; address = shown.place.address; values = v; words = words }) r.more r.fault) (flat_map one_reported reported)) valued
+    ∙ ap (λ (n : LineOfText). flat_map (λ (r : Reported). report_of style source (names_from n shown.place.address) (shown_of text) (record { number = number; text = bytes; stmt = shown.stmt; address = shown.place.address; values = operand_values_of (names_from n shown.place.address) shown.place.address shown.stmt.body; words = words }) r.more r.fault) (flat_map one_reported reported)) named
+    ∙ ap (λ b. flat_map (λ (r : Reported). report_of style source (names_from (record { text = text; line = number }) shown.place.address) (shown_of text) (record { number = number; text = b; stmt = shown.stmt; address = shown.place.address; values = operand_values_of (names_from (record { text = text; line = number }) shown.place.address) shown.place.address shown.stmt.body; words = words }) r.more r.fault) (flat_map one_reported reported)) same
+    ∙ ap (λ (f : List (Option Reported)). flat_map (own_report_of style source text words number shown) (flat_map one_reported f)) faulty
+    ∙ ap (flat_map (own_report_of style source text words number shown)) (all_reported_found (take count (reported_faults (shown_of text) number shown)))
+    ∙ in_order (own_report_of style source text words number shown) count (reported_faults (shown_of text) number shown)

@@ -13,3 +13,4 @@ pub mod Segments
 pub mod Symbols
 pub mod TextLimits
 pub mod TextReports
+pub mod Words

@@ -11,6 +11,7 @@ use Rattle.rv_show.specs.Totals.{last_rows}
 use Rattle.rv_report.specs.Lines.{Line}
 use Rattle.rv_report.specs.Reports.{report_of, warning_report_of}
 use Rattle.rv_report.specs.Warnings.{Warning, warning_of}
+use Rattle.rv_report.specs.Words.{Words}
 use Rattle.rv_store.specs.LinesOfTexts.{names_from}
 use Rattle.rv_store.specs.Shown.{shown_of}
 use Rattle.rv_program.specs.Text.{Text}
@@ -18,36 +19,32 @@ use Rattle.rv_files.specs.declared.report_error.ReportError.{ReportError}
 use Rattle.rv_files.specs.declared.report_error.ReportError.TheVariants.{Write, Memory}
 use Rattle.rv_files.specs.declared.odd_addresses.Reported.{Reported}
 use Rattle.rv_files.specs.OddAddresses.{all_reported, reported_faults}
-use Rattle.rv_files.specs.Symbols.{searched, symbols_of}
+use Rattle.rv_files.specs.Words.{searched_words}
 
 -- a line with what its reports may name
-abbrev pub reported_line : Text → (symbols : List (List ℕ)) → (number : ℕ) → ShownLine → Line
-reported_line text symbols number line = record {
+abbrev pub reported_line : Text → Words → (number : ℕ) → ShownLine → Line
+reported_line text words number line = record {
   number = number;
   text = line.text;
   stmt = line.stmt;
   address = line.place.address;
   values = operand_values_of (names_from (record { text = text; line = number }) line.place.address) line.place.address line.stmt.body;
-  symbols = symbols;
+  words = words;
 }
 
 -- the report of a fault of a line
-abbrev pub own_report_of : Style → Source → Text → (symbols : List (List ℕ)) → (number : ℕ) → ShownLine → Reported → List ℕ
-own_report_of style source text symbols number line reported =
-    report_of style source (names_from (record { text = text; line = number }) line.place.address) (shown_of text) (reported_line text symbols number line) reported.more reported.fault
+abbrev pub own_report_of : Style → Source → Text → Words → (number : ℕ) → ShownLine → Reported → List ℕ
+own_report_of style source text words number line reported =
+    report_of style source (names_from (record { text = text; line = number }) line.place.address) (shown_of text) (reported_line text words number line) reported.more reported.fault
 
 -- the reports of a line, one for each fault that has one of its own
-unfoldable pub line_reports : Style → Source → Text → (symbols : List (List ℕ)) → (number : ℕ) → ShownLine → List (List ℕ)
-line_reports style source text symbols number line =
-    map (own_report_of style source text symbols number line) (reported_faults (shown_of text) number line)
+unfoldable pub line_reports : Style → Source → Text → Words → (number : ℕ) → ShownLine → List (List ℕ)
+line_reports style source text words number line =
+    map (own_report_of style source text words number line) (reported_faults (shown_of text) number line)
 
 -- those of a text
-abbrev pub all_reports : Style → Source → Text → (symbols : List (List ℕ)) → List (List ℕ)
-all_reports style source text symbols = from_lines (shown_of text) (line_reports style source text symbols)
-
--- their names, those of the first ones of a text
-abbrev pub searched_symbols : Text → (shown : ℕ) → List (List ℕ)
-searched_symbols text shown = map (λ s. s.name) (take (searched shown) (symbols_of (shown_of text)))
+abbrev pub all_reports : Style → Source → Text → Words → List (List ℕ)
+all_reports style source text words = from_lines (shown_of text) (line_reports style source text words)
 
 abbrev pub fault_count : Text → ℕ
 fault_count text = length (fault_rows (shown_of text))
@@ -81,9 +78,9 @@ warning_count text = length (from_lines (shown_of text) (λ number line. warning
 -- All
 
 -- the reports of a text, where warnings are asked for or not
-abbrev pub reports : Style → Source → Text → (symbols : List (List ℕ)) → (warns : Bool) → List (List ℕ)
-reports style source text symbols warns =
-    all_reports style source text symbols ++ (if warns then all_warnings style source text else [])
+abbrev pub reports : Style → Source → Text → Words → (warns : Bool) → List (List ℕ)
+reports style source text words warns =
+    all_reports style source text words ++ (if warns then all_warnings style source text else [])
 
 -- how many warnings there are, where they are asked for
 abbrev pub asked_warnings : Text → (warns : Bool) → ℕ
@@ -92,7 +89,7 @@ asked_warnings text warns = if warns then warning_count text else 0
 -- the first reports, and how many there are
 unfoldable pub text_reports : Style → Source → Text → (most : ℕ) → (warns : Bool) → List ℕ
 text_reports style source text most warns =
-    concat (take most (reports style source text (searched_symbols text (min (report_count text) most)) warns))
+    concat (take most (reports style source text (searched_words (shown_of text) (min (report_count text) most)) warns))
     ++ last_rows source.file (fault_count text) (asked_warnings text warns) (report_count text + asked_warnings text warns) most
 
 -- how many calls of a writer have failed after its reports

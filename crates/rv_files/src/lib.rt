@@ -22,6 +22,7 @@ mod sections;
 mod segment;
 mod segment_bytes;
 mod text_symbols;
+mod unknown_words;
 
 pub use bin::write_bin;
 pub use counting::{Counts, report_counts};
@@ -42,3 +43,4 @@ pub use sections::segments;
 pub use segment::Segment;
 pub use segment_bytes::SegmentBytes;
 pub use text_symbols::{Symbol, first_names, first_symbols, searched, symbols};
+pub use unknown_words::first_unknown_words;

@@ -5,25 +5,25 @@ ghost use Rattle.std.specs.List.{concat, flat_map};
 ghost use Rattle.rv_list.specs.Shown.{shown_line};
 ghost use Rattle.rv_show.specs.Origins.{source_of};
 ghost use Rattle.rv_show.specs.Totals.{last_rows};
-ghost use Rattle.rv_report.specs.Lines.{line_of};
+ghost use Rattle.rv_report.specs.Lines.{line_of, words_of};
 ghost use Rattle.rv_report.specs.Reports.{report_of, warning_report_of};
 ghost use Rattle.rv_report.specs.Warnings.{warning_seen};
 ghost use Rattle.rv_store.specs.LinesOfTexts.{names_from};
 ghost use Rattle.rv_store.specs.Shown.{shown_of};
 ghost use Rattle.rv_text.specs.Streams.{Writes};
 ghost use Rattle.rv_files.specs.OddAddresses.{one_reported, parities_of, reported_faults};
-ghost use Rattle.rv_files.specs.Symbols.{symbols_of};
 ghost use Rattle.rv_files.specs.TextReports.{all_reports, all_warnings, asked_warnings, failures_by_report, fault_count, line_reports, report_count, reports, text_reports};
 
 use crate::counting::{Counts, count_warnings};
 use crate::odd_addresses::{Parity, Reported, fault_counts, find_reported, parities};
 use crate::report_error::ReportError;
 use crate::text_symbols::{first_names, first_symbols, searched};
+use crate::unknown_words::first_unknown_words;
 use arrayvec::ArrayVec;
 use rv_expr::Names;
 use rv_fix::operand_values;
 use rv_list::{LineSource, LineView, MAX_FAULTS, View};
-use rv_report::{FaultyLine, Warning, find_warning, report, report_warning};
+use rv_report::{FaultyLine, TextWords, Warning, find_warning, report, report_warning};
 use rv_show::{Page, push_report_count};
 use rv_store::Store;
 use rv_text::{Sink, Tally, write_all};
@@ -69,7 +69,7 @@ fn push_line(
     alloc: Global,
     page: &Page<'_>,
     store: &Store,
-    symbols: &[&[u8]],
+    words: TextWords<'_>,
     number: u32,
     line: &LineView<'_>,
     faults: &[Option<Reported>],
@@ -80,7 +80,7 @@ fn push_line(
     requires labels { length line.now.stmt.now.labels ≤ 1000 }
     requires faults { faults.now ≡ map Some (take (length faults.now) (reported_faults (shown_of store.now) number (shown_line line.now))) }
     ensures { OnOk result (out.new.items ≡ out.old.items
-        ++ concat (take (length faults.now) (line_reports page.now.style (source_of page.now) store.now (map (λ s. s.now) symbols.now) number ((shown_of store.now).line number)))) }
+        ++ concat (take (length faults.now) (line_reports page.now.style (source_of page.now) store.now (words_of words.entry) number ((shown_of store.now).line number)))) }
 {
     if faults.is_empty() {
         return Ok(());
@@ -98,7 +98,7 @@ fn push_line(
         stmt: line.stmt,
         address,
         values: &values,
-        symbols,
+        words,
     };
     push_faults(out, alloc, page, &line, &names, &store, faults)
 }
@@ -109,7 +109,7 @@ fn write_line<W: Sink>(
     alloc: Global,
     page: &Page<'_>,
     store: &Store,
-    symbols: &[&[u8]],
+    words: TextWords<'_>,
     number: u32,
     line: &LineView<'_>,
     faults: &[Option<Reported>],
@@ -120,11 +120,11 @@ fn write_line<W: Sink>(
     requires labels { length line.now.stmt.now.labels ≤ 1000 }
     requires faults { faults.now ≡ map Some (take (length faults.now) (reported_faults (shown_of store.now) number (shown_line line.now))) }
     requires failures { W.failures sink.old < 2 ^ 64 - 1 }
-    ensures text { Writes (W.taken sink.old) (concat (take (length faults.now) (line_reports page.now.style (source_of page.now) store.now (map (λ s. s.now) symbols.now) number ((shown_of store.now).line number)))) result (W.taken sink.new) }
+    ensures text { Writes (W.taken sink.old) (concat (take (length faults.now) (line_reports page.now.style (source_of page.now) store.now (words_of words.entry) number ((shown_of store.now).line number)))) result (W.taken sink.new) }
     ensures count { W.failures sink.new ≡ failures_by_report (W.failures sink.old) result }
 {
     let mut text = Vec::new(alloc);
-    push_line(&mut text, alloc, page, store, symbols, number, line, faults)?;
+    push_line(&mut text, alloc, page, store, words, number, line, faults)?;
     write_all(sink, text.as_slice())?;
     Ok(())
 }
@@ -135,14 +135,14 @@ fn write_lines<W: Sink>(
     alloc: Global,
     page: &Page<'_>,
     store: &Store,
-    symbols: &[&[u8]],
+    words: TextWords<'_>,
     parities: &[Parity],
     most: u32,
 ) -> Result<(), ReportError>
     requires parities { parities.now ≡ parities_of (shown_of store.now) }
     requires few { length parities.now ≤ 16384 }
     requires failures { W.failures sink.old < 2 ^ 64 - 1 }
-    ensures text { Writes (W.taken sink.old) (concat (take most (all_reports page.now.style (source_of page.now) store.now (map (λ s. s.now) symbols.now)))) result (W.taken sink.new) }
+    ensures text { Writes (W.taken sink.old) (concat (take most (all_reports page.now.style (source_of page.now) store.now (words_of words.entry)))) result (W.taken sink.new) }
     ensures count { W.failures sink.new ≡ failures_by_report (W.failures sink.old) result }
 {
     let view = &store;
@@ -157,7 +157,7 @@ fn write_lines<W: Sink>(
         let line = lines.line();
         find_reported(&mut faults, view, parities, k + 1, &line);
         let (first, _) = faults.as_slice().split_at(faults.len().min(left));
-        write_line(sink, alloc, page, store, symbols, k + 1, &line, first)?;
+        write_line(sink, alloc, page, store, words, k + 1, &line, first)?;
         left -= first.len();
     }
     Ok(())
@@ -240,7 +240,7 @@ fn write_first<W: Sink>(
     alloc: Global,
     page: &Page<'_>,
     store: &Store,
-    symbols: &[&[u8]],
+    words: TextWords<'_>,
     parities: &[Parity],
     reported: u32,
     wanted: Wanted,
@@ -249,10 +249,10 @@ fn write_first<W: Sink>(
     requires few { length parities.now ≤ 16384 }
     requires reported { reported ≡ report_count store.now }
     requires failures { W.failures sink.old < 2 ^ 64 - 1 }
-    ensures text { Writes (W.taken sink.old) (concat (take wanted.most (reports page.now.style (source_of page.now) store.now (map (λ s. s.now) symbols.now) wanted.warnings))) result (W.taken sink.new) }
+    ensures text { Writes (W.taken sink.old) (concat (take wanted.most (reports page.now.style (source_of page.now) store.now (words_of words.entry) wanted.warnings))) result (W.taken sink.new) }
     ensures count { W.failures sink.new ≡ failures_by_report (W.failures sink.old) result }
 {
-    write_lines(sink, alloc, page, store, symbols, parities, wanted.most)?;
+    write_lines(sink, alloc, page, store, words, parities, wanted.most)?;
     if !wanted.warnings {
         return Ok(());
     }
@@ -312,16 +312,12 @@ fn write_some<W: Sink>(
     let searched = searched(reported.min(wanted.most) as usize);
     let symbols = first_symbols(alloc, &store, searched)?;
     let names = first_names(alloc, symbols.as_slice(), searched)?;
-    write_first(
-        sink,
-        alloc,
-        page,
-        store,
-        names.as_slice(),
-        parities,
-        reported,
-        wanted,
-    )?;
+    let unknown = first_unknown_words(alloc, &store, searched)?;
+    let words = TextWords {
+        symbols: names.as_slice(),
+        unknown: unknown.as_slice(),
+    };
+    write_first(sink, alloc, page, store, words, parities, reported, wanted)?;
     let reports = reported + counts.warnings;
     write_count(sink, alloc, page.file, counts, reports, wanted.most)
 }
@@ -329,7 +325,7 @@ fn write_some<W: Sink>(
 /// Writes the reports of a text on a page, as many as are wanted: those of each fault, in the order of the lines and of the faults of
 /// a line, then those of each warning, and how many there are. Of instructions at odd addresses for one reason the first has a
 /// report, with how many more there are. Returns the counts of all faults and warnings. No more memory is taken than for the
-/// reports of one line, for the symbols among which names are looked for that may be meant, and a few bytes for each line.
+/// reports of one line, for the words of the text among which names are looked for that may be meant, and a few bytes for each line.
 ///
 /// # Errors
 ///

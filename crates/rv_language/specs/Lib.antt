@@ -1,4 +1,5 @@
 pub mod DocumentSymbols
+pub mod Encodings
 pub mod LineNames
 pub mod Meanings
 pub mod NameUses

@@ -1,28 +1,57 @@
 //! The fields of the instructions that a line stands for.
 
+ghost use Rattle.std.specs.Prelude.{◌≡◌, IfOk};
+ghost use Rattle.rv_dis.specs.Assembling.{GiveBytes};
+ghost use Rattle.rv_dis.specs.Rows.{Shows};
+ghost use Rattle.rv_list.specs.Shown.{shown_line};
+ghost use Rattle.rv_language.specs.Encodings.{instruction_bytes, is_in_image, is_instruction};
+
 use rv_code::Ins;
 use rv_diagnostics::{Message, Part};
 use rv_dis::{DisRow, disassemble};
+use rv_layout::section_number;
 use rv_list::LineView;
 use rv_manual::{EncodedField, encoded_fields, instruction_of};
 use rv_show::Text;
-use rv_stmt::Body;
+use rv_stmt::{Body, Sect};
 use std::alloc::{AllocError, Global};
 use std::fmt::Display;
 
-/// The rows of the instructions that a line stands for: none if it stands for none or has a fault.
+/// Whether a line has bytes in the image: those of `.bss` have none.
+pub fn is_in_image(line: &LineView<'_>) -> bool
+    ensures { result ≡ is_in_image (shown_line line.now) }
+{
+    section_number(line.place.section) != section_number(Sect::Bss)
+}
+
+// Whether a line stands for instructions.
+fn is_instruction(body: &Body) -> bool
+    ensures { result ≡ is_instruction body.now }
+{
+    matches!(body, Body::Instr(_) | Body::Pseudo(_))
+}
+
+// The bytes of the instructions that a line stands for.
+fn instruction_bytes(alloc: Global, line: &LineView<'_>) -> Result<Vec<u8>, AllocError>
+    ensures { IfOk result (λ bytes. bytes.items ≡ instruction_bytes (shown_line line.now)) }
+{
+    let mut bytes = Vec::new(alloc);
+    if is_instruction(&line.stmt.body) && line.code.fault.is_none() && is_in_image(line) {
+        line.code.payload.append_to(&mut bytes)?;
+    }
+    Ok(bytes)
+}
+
+/// The rows of the instructions that a line stands for: none if it stands for none, has a fault, or has no bytes in the image.
 ///
 /// # Errors
 ///
 /// `AllocError` if there is no memory for them.
-pub fn instruction_rows(alloc: Global, line: &LineView<'_>) -> Result<Vec<DisRow>, AllocError> {
-    let mut bytes = Vec::new(alloc);
-    match &line.stmt.body {
-        Body::Instr(_) | Body::Pseudo(_) if line.code.fault.is_none() => {
-            line.code.payload.append_to(&mut bytes)?;
-        }
-        _ => {}
-    }
+pub fn instruction_rows(alloc: Global, line: &LineView<'_>) -> Result<Vec<DisRow>, AllocError>
+    ensures rows { IfOk result (λ rows. Shows line.now.place.address (instruction_bytes (shown_line line.now)) rows.items) }
+    ensures bytes { IfOk result (λ rows. GiveBytes rows.items (instruction_bytes (shown_line line.now))) }
+{
+    let bytes = instruction_bytes(alloc, line)?;
     let Ok(rows) = disassemble(alloc, bytes.as_slice(), line.place.address) else {
         return Err(AllocError);
     };

@@ -2,7 +2,7 @@
 
 ghost use Rattle.std.specs.Prelude.{◌≤◌, length};
 
-use crate::encoding::{instruction_rows, push_fields};
+use crate::encoding::{instruction_rows, is_in_image, push_fields};
 use crate::explained::{entry_at, push_entry};
 use crate::named::name_at;
 use crate::names::text_of;
@@ -42,10 +42,14 @@ fn push_bytes(text: &mut Text, payload: &Payload, most: usize) -> Result<(), All
     Ok(())
 }
 
-// Appends the address and the first bytes of a line.
+// Appends the address and the first bytes of a line. One in `.bss` has none.
 fn push_place(text: &mut Text, line: &LineView<'_>, most: usize) -> Result<(), AllocError> {
     text.push_word(line.place.address)?;
-    push_bytes(text, &line.code.payload, most)
+    if is_in_image(line) {
+        push_bytes(text, &line.code.payload, most)
+    } else {
+        Ok(())
+    }
 }
 
 // Appends the instructions that a line stands for, each with its fields.

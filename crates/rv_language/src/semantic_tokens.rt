@@ -105,12 +105,13 @@ fn put_token(
         column
     };
     *before = Before { line, column };
-    m.put_all(&[
-        Part::Number(u64::from(down)),
-        Part::Number(u64::from(across)),
-        Part::Number(u64::from(end.columns.saturating_sub(column))),
-        Part::Number(kind),
-        Part::Number(0),
+    let length = end.columns.saturating_sub(column);
+    m.numbers(&[
+        u64::from(down),
+        u64::from(across),
+        u64::from(length),
+        kind,
+        0,
     ])?;
     Ok(end)
 }

@@ -34,7 +34,8 @@ use Rattle.rv_report.specs.Counts.{numbers_text, some_numbers}
 use Rattle.rv_report.specs.Csrs.{counter_number, its_number, standard_number, unknown_csr}
 use Rattle.rv_report.specs.LexicalMessages.{bad_byte, bad_number, bad_string, number_wrong}
 use Rattle.rv_report.specs.Lines.{Line}
-use Rattle.rv_report.specs.Messages.{operand_count, register_range, undefined_near, later_equ, line_of_equ, faulty_equ_of, later_line, not_constant, no_partner, beyond_reach, out_of_range, not_multiple, odd_distance, odd_address, message_of}
+use Rattle.rv_expr.specs.declared.tree.LabelReference.TheVariants.{Symbol}
+use Rattle.rv_report.specs.Messages.{operand_count, register_range, undefined_but_for_colon, undefined_name, undefined_near, later_equ, line_of_equ, faulty_equ_of, later_line, not_constant, no_partner, beyond_reach, out_of_range, not_multiple, odd_distance, odd_address, message_of}
 use Rattle.rv_report.specs.OperandMessages.{comment_help, expected, missing_comma, no_operand, no_register, no_statement, parentheses_of, separation_of}
 use Rattle.rv_report.specs.Reports.{note_at, odd_note_at, odd_note_by, report_of, warning_report_of}
 use Rattle.rv_report.specs.UnknownNames.{missing_colon, replacement, unknown_name}
@@ -42,6 +43,10 @@ use Rattle.rv_report.specs.Wanted.{register_given}
 use Rattle.rv_report.specs.Warnings.{warning_message}
 
 -- Names
+
+colon_missing : undefined_name (record { symbols = codes "loop" ∷ []; unknown = record { word = codes "adi"; line = 2 } ∷ (record { word = codes "lop"; line = 7 } ∷ []) }) (Symbol (codes "lop")) ≡ codes "'lop' is not defined; is a ':' missing in line 7?"
+unfolding undefined_but_for_colon quoted about digits
+colon_missing = refl
 
 long_names : undefined_near (codes "configuration_of_the_serial_interface_number_1") (codes "configuration_of_the_serial_interface_number_12" ∷ codes "configuration_of_the_serial_interface_number_7" ∷ []) ≡ codes "'...ce_number_1' is not defined; did you mean '...ce_number_12' or '...ce_number_7'?"
 unfolding undefined_near quoted_from did_you_mean
@@ -79,7 +84,7 @@ faulty number text values = record {
   stmt = statement_of text;
   address = 1;
   values = values;
-  symbols = codes "loop" ∷ codes "start" ∷ [];
+  words = record { symbols = codes "loop" ∷ codes "start" ∷ []; unknown = [] };
 }
 
 abbrev fault_at : FaultNumber → (from to : ℕ) → Fault

@@ -13,3 +13,4 @@ pub mod Reports
 pub mod UnknownNames
 pub mod Wanted
 pub mod Warnings
+pub mod Words

@@ -6,15 +6,21 @@ use Rattle.rv_stmt.specs.declared.statement.Stmt.{Stmt}
 use Rattle.rv_fix.specs.Values.{Entry}
 use Rattle.rv_show.specs.Parts.{part}
 use Rattle.rv_report.specs.declared.faulty_line.FaultyLine.{FaultyLine}
+use Rattle.rv_report.specs.declared.text_words.TextWords.{TextWords}
+use Rattle.rv_report.specs.Words.{Words}
 
--- a line: its number, its bytes, its statement, its address, the values of its operands, and the symbols of its text
+-- words as a caller lends them
+abbrev pub words_of : TextWords → Words
+words_of words = record { symbols = map (λ s. s.now) words.symbols.now; unknown = words.unknown.now }
+
+-- a line: its number, its bytes, its statement, its address, the values of its operands, and words of its text
 pub record Line : Type 0 where
   pub number : ℕ
   pub text : List ℕ
   pub stmt : Stmt
   pub address : ℕ
   pub values : List Entry
-  pub symbols : List (List ℕ)
+  pub words : Words
 
 -- a line as a caller lends it
 abbrev pub line_of : FaultyLine → Line
@@ -24,7 +30,7 @@ line_of line = record {
   stmt = line.stmt.now;
   address = line.address;
   values = line.values.now;
-  symbols = map (λ s. s.now) line.symbols.now;
+  words = words_of line.words;
 }
 
 abbrev pub part_of_token : List ℕ → Option Token → List ℕ

@@ -44,6 +44,7 @@ use Rattle.rv_report.specs.OperandMessages.{bad_operand, bad_register, no_statem
 use Rattle.rv_report.specs.Operands.{operand_at, value_at}
 use Rattle.rv_report.specs.UnknownNames.{unknown_name}
 use Rattle.rv_report.specs.Wanted.{register_given, wanted_of}
+use Rattle.rv_report.specs.Words.{UnknownWord, Words, line_of_label}
 
 -- Faults of statements
 
@@ -67,26 +68,41 @@ unfoldable pub undefined_near : (name : List ℕ) → (near : List (List ℕ)) �
 undefined_near name near =
     quoted_from (place_shown name near) name ++ (codes " is not defined" ++ did_you_mean (place_shown name near) near)
 
-abbrev pub undefined_name : (symbols : List (List ℕ)) → LabelReference → List ℕ
-undefined_name symbols name = undefined_near (name_text name) (near_symbols symbols name)
+-- the line of the label that a name may be, if its colon is missing there
+abbrev pub line_without_colon : List UnknownWord → LabelReference → Option ℕ
+line_without_colon unknown (Symbol name) = line_of_label name unknown
+line_without_colon unknown (Local number direction) = None
+line_without_colon unknown Here = None
+
+unfoldable pub undefined_but_for_colon : (name : List ℕ) → (line : ℕ) → List ℕ
+undefined_but_for_colon name line =
+    about [] name (codes " is not defined; is a ':' missing in line ") ++ (decimal line ++ codes "?")
+
+-- a name, with the line of what may be its label, or with those that may be meant
+abbrev pub undefined_by : (symbols : List (List ℕ)) → LabelReference → (line : Option ℕ) → List ℕ
+undefined_by symbols name (Some line) = undefined_but_for_colon (name_text name) line
+undefined_by symbols name None = undefined_near (name_text name) (near_symbols symbols name)
+
+abbrev pub undefined_name : Words → LabelReference → List ℕ
+undefined_name words name = undefined_by words.symbols name (line_without_colon words.unknown name)
 
 -- a name alone in the place of a control and status register is meant to be one
-abbrev pub undefined_as : Wanted → (symbols : List (List ℕ)) → (text name : List ℕ) → List ℕ
-undefined_as Csr symbols text name = if bytes_eq name text then unknown_csr name else undefined_name symbols (Symbol name)
-undefined_as wanted symbols text name = undefined_name symbols (Symbol name)
+abbrev pub undefined_as : Wanted → Words → (text name : List ℕ) → List ℕ
+undefined_as Csr words text name = if bytes_eq name text then unknown_csr name else undefined_name words (Symbol name)
+undefined_as wanted words text name = undefined_name words (Symbol name)
 
 -- a register's name is meant to be the register
-abbrev pub undefined_symbol : (statement : List ℕ) → Wanted → (symbols : List (List ℕ)) → (text name : List ℕ) → List ℕ
-undefined_symbol statement wanted symbols text name =
-    if is_some (register_named name) then register_given statement wanted name else undefined_as wanted symbols text name
+abbrev pub undefined_symbol : (statement : List ℕ) → Wanted → Words → (text name : List ℕ) → List ℕ
+undefined_symbol statement wanted words text name =
+    if is_some (register_named name) then register_given statement wanted name else undefined_as wanted words text name
 
-abbrev pub undefined_reference : (statement : List ℕ) → Wanted → (symbols : List (List ℕ)) → (text : List ℕ) → LabelReference → List ℕ
-undefined_reference statement wanted symbols text (Symbol name) = undefined_symbol statement wanted symbols text name
-undefined_reference statement wanted symbols text name = undefined_name symbols name
+abbrev pub undefined_reference : (statement : List ℕ) → Wanted → Words → (text : List ℕ) → LabelReference → List ℕ
+undefined_reference statement wanted words text (Symbol name) = undefined_symbol statement wanted words text name
+undefined_reference statement wanted words text name = undefined_name words name
 
-abbrev pub undefined : (statement : List ℕ) → Wanted → (symbols : List (List ℕ)) → (text : List ℕ) → Option LabelReference → List ℕ
-undefined statement wanted symbols text None = about (codes "a name that ") text (codes " needs is not defined")
-undefined statement wanted symbols text (Some name) = undefined_reference statement wanted symbols text name
+abbrev pub undefined : (statement : List ℕ) → Wanted → Words → (text : List ℕ) → Option LabelReference → List ℕ
+undefined statement wanted words text None = about (codes "a name that ") text (codes " needs is not defined")
+undefined statement wanted words text (Some name) = undefined_reference statement wanted words text name
 
 -- the name, or the operand where no name of its own has the fault
 abbrev pub name_or : (text : List ℕ) → Option LabelReference → List ℕ
@@ -141,24 +157,24 @@ constant_help statement shown number operand text =
 abbrev pub operand_not_constant : (statement : List ℕ) → Shown → (number : ℕ) → Option Operand → (text : List ℕ) → List ℕ
 operand_not_constant statement shown number operand text = not_constant text ++ constant_help statement shown number operand text
 
-unfoldable pub undefined_constant : (symbols : List (List ℕ)) → LabelReference → List ℕ
-undefined_constant symbols name = codes "the size of a line needs a constant; " ++ undefined_name symbols name
+unfoldable pub undefined_constant : Words → LabelReference → List ℕ
+undefined_constant words name = codes "the size of a line needs a constant; " ++ undefined_name words name
 
-abbrev pub name_not_constant : DefinitionPlace → (symbols : List (List ℕ)) → (text name : List ℕ) → List ℕ
-name_not_constant Nowhere symbols text name = undefined_constant symbols (Symbol name)
-name_not_constant place symbols text name = not_constant text
+abbrev pub name_not_constant : DefinitionPlace → Words → (text name : List ℕ) → List ℕ
+name_not_constant Nowhere words text name = undefined_constant words (Symbol name)
+name_not_constant place words text name = not_constant text
 
-abbrev pub symbol_not_constant : (statement : List ℕ) → Shown → (symbols : List (List ℕ)) → (text name : List ℕ) → List ℕ
-symbol_not_constant statement shown symbols text name =
+abbrev pub symbol_not_constant : (statement : List ℕ) → Shown → Words → (text name : List ℕ) → List ℕ
+symbol_not_constant statement shown words text name =
     if is_some (register_named name) then register_given statement Number name
-    else name_not_constant (shown.definition name) symbols text name
+    else name_not_constant (shown.definition name) words text name
 
 -- the first name without a value tells why an operand is no constant
-abbrev pub why_not_constant : (statement : List ℕ) → Shown → (symbols : List (List ℕ)) → (number : ℕ) → Option Operand → (text : List ℕ) → Option LabelReference → List ℕ
-why_not_constant statement shown symbols number operand text (Some (Symbol name)) = symbol_not_constant statement shown symbols text name
-why_not_constant statement shown symbols number operand text (Some (Local label direction)) = undefined_constant symbols (Local label direction)
-why_not_constant statement shown symbols number operand text (Some Here) = operand_not_constant statement shown number operand text
-why_not_constant statement shown symbols number operand text None = operand_not_constant statement shown number operand text
+abbrev pub why_not_constant : (statement : List ℕ) → Shown → Words → (number : ℕ) → Option Operand → (text : List ℕ) → Option LabelReference → List ℕ
+why_not_constant statement shown words number operand text (Some (Symbol name)) = symbol_not_constant statement shown words text name
+why_not_constant statement shown words number operand text (Some (Local label direction)) = undefined_constant words (Local label direction)
+why_not_constant statement shown words number operand text (Some Here) = operand_not_constant statement shown number operand text
+why_not_constant statement shown words number operand text None = operand_not_constant statement shown number operand text
 
 unfoldable pub no_partner : List ℕ → List ℕ
 no_partner label = about (codes "no 'auipc .., %pcrel_hi(..)' stands at ") label []
@@ -241,8 +257,8 @@ message_by faults.BadRegister given shown line span = bad_register (name_of_stat
 message_by faults.RegisterRange given shown line span = register_range (name_of_statement line) (part line.text span)
 message_by faults.BadOperand given shown line span = bad_operand (name_of_statement line) (part line.text span) (drop span.to line.text)
 message_by faults.TooDeep given shown line span = codes "more than 64 open parentheses"
-message_by faults.NotConstant given shown line span = why_not_constant (name_of_statement line) shown line.symbols line.number (operand_of_line line span) (part line.text span) (faulty_name_of given (operand_of_line line span))
-message_by faults.Undefined given shown line span = undefined (name_of_statement line) (wanted_of line.stmt.body (operand_of_line line span)) line.symbols (part line.text span) (faulty_name_of given (operand_of_line line span))
+message_by faults.NotConstant given shown line span = why_not_constant (name_of_statement line) shown line.words line.number (operand_of_line line span) (part line.text span) (faulty_name_of given (operand_of_line line span))
+message_by faults.Undefined given shown line span = undefined (name_of_statement line) (wanted_of line.stmt.body (operand_of_line line span)) line.words (part line.text span) (faulty_name_of given (operand_of_line line span))
 message_by faults.LaterEqu given shown line span = later_equ (name_or (part line.text span) (faulty_name_of given (operand_of_line line span)))
 message_by faults.FaultyEqu given shown line span = faulty_equ shown (part line.text span) (faulty_name_of given (operand_of_line line span))
 message_by faults.Arithmetic given shown line span = codes "no value: a division by zero, a shift out of 0 to 63, or more than 64 bits"

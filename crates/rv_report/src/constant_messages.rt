@@ -1,9 +1,9 @@
 //! The messages of operands that have to be constants, and are none.
 
-ghost use Rattle.std.specs.Prelude.{◌≡◌, ◌≤◌, ◌++◌, length, map, option_map, OnOk};
+ghost use Rattle.std.specs.Prelude.{◌≡◌, ◌≤◌, ◌++◌, length, option_map, OnOk};
 ghost use Rattle.rv_show.specs.Parts.{part};
 ghost use Rattle.rv_report.specs.FaultyNames.{faulty_name_of, name_used};
-ghost use Rattle.rv_report.specs.Lines.{line_of};
+ghost use Rattle.rv_report.specs.Lines.{line_of, words_of};
 ghost use Rattle.rv_report.specs.Messages.{constant_help, is_local_label, is_local_name, is_local_value, later_line, name_not_constant, name_of_statement, not_constant, operand_not_constant, operand_of_line, place_help, symbol_not_constant, undefined_constant, why_not_constant};
 
 use crate::advice::{Topic, advice};
@@ -11,6 +11,7 @@ use crate::faulty_line::{FaultyLine, operand_in};
 use crate::faulty_names::UsedName;
 use crate::name_messages::{faulty_name_at, push_undefined_name};
 use crate::statement_words::name_of_statement;
+use crate::text_words::TextWords;
 use crate::wanted::{Wanted, push_register_given};
 use rv_expr::{Expr, Names, Node};
 use rv_list::{DefinitionPlace, View};
@@ -105,13 +106,13 @@ fn push_operand<V: View>(
 fn push_undefined_constant(
     out: &mut Text,
     alloc: Global,
-    symbols: &[&[u8]],
+    words: TextWords<'_>,
     name: UsedName<'_>,
 ) -> Result<(), AllocError>
-    ensures { OnOk result (out.new ≡ out.old ++ undefined_constant (map (λ s. s.now) symbols.now) (name_used name.entry)) }
+    ensures { OnOk result (out.new ≡ out.old ++ undefined_constant (words_of words.entry) (name_used name.entry)) }
 {
     out.push(b"the size of a line needs a constant; ")?;
-    push_undefined_name(out, alloc, symbols, name)
+    push_undefined_name(out, alloc, words, name)
 }
 
 // Appends that a name has no definition, or is no constant.
@@ -119,15 +120,15 @@ fn push_name(
     out: &mut Text,
     alloc: Global,
     place: DefinitionPlace,
-    symbols: &[&[u8]],
+    words: TextWords<'_>,
     text: &[u8],
     name: &[u8],
 ) -> Result<(), AllocError>
-    ensures { OnOk result (out.new ≡ out.old ++ name_not_constant place (map (λ s. s.now) symbols.now) text.now name.now) }
+    ensures { OnOk result (out.new ≡ out.old ++ name_not_constant place (words_of words.entry) text.now name.now) }
 {
     match place {
         DefinitionPlace::Nowhere => {
-            push_undefined_constant(out, alloc, symbols, UsedName::Symbol(name))
+            push_undefined_constant(out, alloc, words, UsedName::Symbol(name))
         }
         _ => push_no_constant(out, text),
     }
@@ -139,16 +140,16 @@ fn push_symbol<V: View>(
     alloc: Global,
     view: &V,
     statement: &[u8],
-    symbols: &[&[u8]],
+    words: TextWords<'_>,
     text: &[u8],
     name: &[u8],
 ) -> Result<(), AllocError>
-    ensures { OnOk result (out.new ≡ out.old ++ symbol_not_constant statement.now (V.shown view.now) (map (λ s. s.now) symbols.now) text.now name.now) }
+    ensures { OnOk result (out.new ≡ out.old ++ symbol_not_constant statement.now (V.shown view.now) (words_of words.entry) text.now name.now) }
 {
     if reg_by_name(name).is_some() {
         return push_register_given(out, statement, Wanted::Number, name);
     }
-    push_name(out, alloc, view.definition(name), symbols, text, name)
+    push_name(out, alloc, view.definition(name), words, text, name)
 }
 
 /// An operand that is no constant, at a span of a line.
@@ -162,17 +163,17 @@ pub fn push_not_constant<N: Names, V: View>(
 ) -> Result<(), AllocError>
     requires labels { length line.now.stmt.now.labels ≤ 1000 }
     requires text { length line.now.text.now ≤ 1000 }
-    ensures { OnOk result (out.new ≡ out.old ++ why_not_constant (name_of_statement (line_of line.now)) (V.shown view.now) (line_of line.now).symbols line.now.number (operand_of_line (line_of line.now) span) (part line.now.text.now span) (faulty_name_of (N.environment names.now line.now.address) (operand_of_line (line_of line.now) span))) }
+    ensures { OnOk result (out.new ≡ out.old ++ why_not_constant (name_of_statement (line_of line.now)) (V.shown view.now) (line_of line.now).words line.now.number (operand_of_line (line_of line.now) span) (part line.now.text.now span) (faulty_name_of (N.environment names.now line.now.address) (operand_of_line (line_of line.now) span))) }
 {
     let statement = name_of_statement(alloc, line)?;
     match faulty_name_at(line, names, span) {
         Some(UsedName::Symbol(name)) => {
             let text = part(line.text, span);
-            push_symbol(out, alloc, view, statement, line.symbols, text, name)
+            push_symbol(out, alloc, view, statement, line.words, text, name)
         }
         Some(UsedName::Local(number, direction)) => {
             let name = UsedName::Local(number, direction);
-            push_undefined_constant(out, alloc, line.symbols, name)
+            push_undefined_constant(out, alloc, line.words, name)
         }
         Some(UsedName::Here) => push_operand(out, view, line, statement, span),
         None => push_operand(out, view, line, statement, span),

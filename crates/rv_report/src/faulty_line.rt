@@ -5,6 +5,7 @@ ghost use Rattle.rv_report.specs.Lines.{line_of, word_at};
 ghost use Rattle.rv_report.specs.Messages.{operand_of_line, value_of_line};
 
 use crate::operands::{operand_at, value_at};
+use crate::text_words::TextWords;
 use rv_fix::Values;
 use rv_show::part;
 use rv_stmt::{Operand, Stmt};
@@ -21,8 +22,8 @@ pub struct FaultyLine<'a> {
     pub address: u32,
     /// The values of its operands.
     pub values: &'a Values,
-    /// The symbols of the text, each once.
-    pub symbols: &'a [&'a [u8]],
+    /// Words of the text.
+    pub words: TextWords<'a>,
 }
 
 /// A word of a line, by its number among the tokens.

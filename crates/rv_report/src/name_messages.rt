@@ -3,14 +3,15 @@
 ghost use Rattle.std.specs.Prelude.{◌≡◌, ◌≤◌, ◌++◌, length, map, option_map, take, IfOk, OnOk};
 ghost use Rattle.rv_show.specs.Parts.{part};
 ghost use Rattle.rv_report.specs.FaultyNames.{faulty_name_of, low_label_of, name_text, name_used};
-ghost use Rattle.rv_report.specs.Lines.{line_of};
-ghost use Rattle.rv_report.specs.Messages.{faulty_equ, faulty_equ_of, later_equ, line_of_equ, name_of_statement, name_or, no_partner, near_symbols, operand_of_line, undefined, undefined_as, undefined_name, undefined_near, undefined_symbol};
+ghost use Rattle.rv_report.specs.Lines.{line_of, words_of};
+ghost use Rattle.rv_report.specs.Messages.{faulty_equ, faulty_equ_of, later_equ, line_of_equ, line_without_colon, name_of_statement, name_or, no_partner, near_symbols, operand_of_line, undefined, undefined_as, undefined_but_for_colon, undefined_name, undefined_near, undefined_symbol};
 ghost use Rattle.rv_report.specs.Wanted.{wanted_of};
 
 use crate::csr_messages::push_unknown_csr;
 use crate::faulty_line::{FaultyLine, operand_in};
 use crate::faulty_names::{UsedName, faulty_name_of, low_label_of, push_name};
 use crate::statement_words::name_of_statement;
+use crate::text_words::{TextWords, UnknownWord, line_of_label};
 use crate::wanted::{Wanted, push_register_given, wanted_at};
 use rv_expr::Names;
 use rv_list::{DefinitionPlace, View};
@@ -65,17 +66,41 @@ fn push_undefined_near(out: &mut Text, name: &[u8], near: &[&[u8]]) -> Result<()
     push_question(out, place, near)
 }
 
+// The line of the label that a name may be, if its colon is missing there.
+fn line_without_colon(unknown: &[UnknownWord], name: UsedName<'_>) -> Option<u32>
+    ensures { result ≡ line_without_colon unknown.now (name_used name.entry) }
+{
+    match name {
+        UsedName::Symbol(symbol) => line_of_label(unknown, symbol),
+        UsedName::Local(_, _) => None,
+        UsedName::Here => None,
+    }
+}
+
+// Appends that a name has no definition, and the line of what may be its label.
+#[tactic(auto, unfolding(crate::specs::Messages::undefined_but_for_colon))]
+fn push_undefined_but_for_colon(out: &mut Text, name: &[u8], line: u32) -> Result<(), AllocError>
+    ensures { OnOk result (out.new ≡ out.old ++ undefined_but_for_colon name.now line) }
+{
+    out.push_about(b"", name, b" is not defined; is a ':' missing in line ")?;
+    out.push_number(line)?;
+    out.push(b"?")
+}
+
 /// Appends that a name has no definition.
 pub fn push_undefined_name(
     out: &mut Text,
     alloc: Global,
-    symbols: &[&[u8]],
+    words: TextWords<'_>,
     name: UsedName<'_>,
 ) -> Result<(), AllocError>
-    ensures { OnOk result (out.new ≡ out.old ++ undefined_name (map (λ s. s.now) symbols.now) (name_used name.entry)) }
+    ensures { OnOk result (out.new ≡ out.old ++ undefined_name (words_of words.entry) (name_used name.entry)) }
 {
     let text = written(alloc, name)?;
-    let near = near_symbols(alloc, symbols, name)?;
+    if let Some(line) = line_without_colon(words.unknown, name) {
+        return push_undefined_but_for_colon(out, text.bytes(), line);
+    }
+    let near = near_symbols(alloc, words.symbols, name)?;
     push_undefined_near(out, text.bytes(), first_few(near.as_slice()))
 }
 
@@ -84,16 +109,16 @@ fn push_undefined_as(
     out: &mut Text,
     alloc: Global,
     wanted: Wanted,
-    symbols: &[&[u8]],
+    words: TextWords<'_>,
     text: &[u8],
     name: &[u8],
 ) -> Result<(), AllocError>
-    ensures { OnOk result (out.new ≡ out.old ++ undefined_as wanted (map (λ s. s.now) symbols.now) text.now name.now) }
+    ensures { OnOk result (out.new ≡ out.old ++ undefined_as wanted (words_of words.entry) text.now name.now) }
 {
     if wanted == Wanted::Csr && name == text {
         return push_unknown_csr(out, alloc, name);
     }
-    push_undefined_name(out, alloc, symbols, UsedName::Symbol(name))
+    push_undefined_name(out, alloc, words, UsedName::Symbol(name))
 }
 
 // Appends that a symbol has no definition, or is a register.
@@ -107,10 +132,10 @@ fn push_undefined_symbol(
 ) -> Result<(), AllocError>
     requires labels { length line.now.stmt.now.labels ≤ 1000 }
     requires text { length line.now.text.now ≤ 1000 }
-    ensures { OnOk result (out.new ≡ out.old ++ undefined_symbol (name_of_statement (line_of line.now)) wanted (line_of line.now).symbols text.now name.now) }
+    ensures { OnOk result (out.new ≡ out.old ++ undefined_symbol (name_of_statement (line_of line.now)) wanted (line_of line.now).words text.now name.now) }
 {
     if reg_by_name(name).is_none() {
-        return push_undefined_as(out, alloc, wanted, line.symbols, text, name);
+        return push_undefined_as(out, alloc, wanted, line.words, text, name);
     }
     let statement = name_of_statement(alloc, line)?;
     push_register_given(out, statement, wanted, name)
@@ -126,14 +151,14 @@ pub fn push_undefined<N: Names>(
 ) -> Result<(), AllocError>
     requires labels { length line.now.stmt.now.labels ≤ 1000 }
     requires text { length line.now.text.now ≤ 1000 }
-    ensures { OnOk result (out.new ≡ out.old ++ undefined (name_of_statement (line_of line.now)) (wanted_of line.now.stmt.now.body (operand_of_line (line_of line.now) span)) (line_of line.now).symbols (part line.now.text.now span) (faulty_name_of (N.environment names.now line.now.address) (operand_of_line (line_of line.now) span))) }
+    ensures { OnOk result (out.new ≡ out.old ++ undefined (name_of_statement (line_of line.now)) (wanted_of line.now.stmt.now.body (operand_of_line (line_of line.now) span)) (line_of line.now).words (part line.now.text.now span) (faulty_name_of (N.environment names.now line.now.address) (operand_of_line (line_of line.now) span))) }
 {
     let text = part(line.text, span);
     match faulty_name_at(line, names, span) {
         Some(UsedName::Symbol(name)) => {
             push_undefined_symbol(out, alloc, line, wanted_at(line, span), text, name)
         }
-        Some(name) => push_undefined_name(out, alloc, line.symbols, name),
+        Some(name) => push_undefined_name(out, alloc, line.words, name),
         None => out.push_about(b"a name that ", text, b" needs is not defined"),
     }
 }

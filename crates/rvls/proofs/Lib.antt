@@ -1,3 +1,1 @@
-pub mod HeaderRows
-pub mod Pieces
 pub mod QuickFixes

@@ -9,7 +9,7 @@ use Rattle.rv_store.specs.LinesOfTexts.{names_from}
 use Rattle.rv_store.specs.Shown.{shown_of}
 use Rattle.rv_diagnostics.specs.Json.{string_member}
 use Rattle.rv_diagnostics.specs.Published.{diagnostics_of}
-use Rattle.rvls.specs.PlacedDocuments.{PlacedDocument, text_of}
+use Rattle.rv_changes.specs.PlacedDocuments.{PlacedDocument, text_of}
 
 -- what names give on a line of a text, by its number, where `.` is an address
 abbrev pub names_in : Text → (number here : ℕ) → Environment

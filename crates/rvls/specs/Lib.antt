@@ -1,6 +1,5 @@
 pub mod DocumentDiagnostics
-pub mod Frames
 pub mod NameAnswers
-pub mod PlacedDocuments
 pub mod QuickFixes
 pub mod Refusals
+pub mod Steps

@@ -6,11 +6,11 @@ ghost use Rattle.rv_language.specs.NamesAt.{seen_of};
 ghost use Rattle.rv_language.specs.References.{form_of, references};
 ghost use Rattle.rvls.specs.NameAnswers.{about_name, in_list};
 
-use crate::assembly::Assembly;
 use crate::bodies::has_text;
 use crate::publishing::put_report;
 use crate::quick_fixes::{QUICK_FIX, put_quick_fixes};
 use crate::writing::{Failure, Refusal};
+use rv_changes::Assembly;
 use rv_diagnostics::{Context, Message};
 use rv_doc::{Position, number_at, position_of, text_at};
 use rv_language::{

@@ -2,11 +2,7 @@
 #![tactic(auto)]
 
 mod arguments;
-mod assembly;
-mod base;
 mod bodies;
-mod frame;
-mod loading;
 mod looking_up;
 mod publishing;
 mod quick_fixes;

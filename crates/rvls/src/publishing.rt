@@ -4,8 +4,8 @@ ghost use Rattle.std.specs.Prelude.{◌≡◌, ◌++◌, OnOk};
 ghost use Rattle.rv_diagnostics.specs.Published.{publication};
 ghost use Rattle.rvls.specs.DocumentDiagnostics.{document_diagnostics, report};
 
-use crate::assembly::Assembly;
 use crate::stored::Stored;
+use rv_changes::Assembly;
 use rv_diagnostics::{Context, Message, Part, publish_lines, put_nearest};
 use std::alloc::AllocError;
 

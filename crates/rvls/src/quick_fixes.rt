@@ -2,8 +2,8 @@
 
 ghost use Rattle.std.specs.Prelude.{◌≤◌, length};
 
-use crate::assembly::Assembly;
 use crate::trial::{put_line, takes_fault_away};
+use rv_changes::Assembly;
 use rv_diagnostics::{Context, Message, Part};
 use rv_files::{first_names, first_symbols, searched};
 use rv_language::{BrokenLine, Fix, colon_fixes, possible_fixes, put_edit, text_of};

@@ -2,11 +2,11 @@
 
 ghost use Rattle.std.specs.Prelude.{◌≡◌, ◌≤◌, ◌<◌, ◌-◌, ◌^◌, [], length, IfOk, OnOk};
 ghost use Rattle.rv_text.specs.Streams.{Writes};
-ghost use Rattle.rvls.specs.Frames.{IsStepWithin};
+ghost use Rattle.rvls.specs.Steps.{IsStepWithin};
 ghost use Rattle.rvls.specs.declared.run.RunError.TheVariants.{Memory};
 
-use crate::frame::{Frame, frame_at};
 use crate::server::{CUT_OFF, Next, Server};
+use rv_doc::{Frame, frame_at};
 use rv_show::bytes_from;
 use rv_text::{Failed, Sink, Source, write_all};
 use std::alloc::{AllocError, Global};

@@ -6,13 +6,12 @@ ghost use Rattle.std.specs.Str.{bytes_eq};
 ghost use Rattle.std.specs.String.{string_bytes};
 
 use crate::arguments::VERSION;
-use crate::assembly::Assembly;
-use crate::base::{Base, base_in};
 use crate::bodies::{has_text, message_in};
 use crate::looking_up::{Question, put_answer, question_in};
 use crate::publishing::publish;
 use crate::quick_fixes::QUICK_FIX;
 use crate::writing::{Failure, Notice, Refusal, answer_null, begin_result, refuse, tell};
+use rv_changes::{Assembly, Base, base_in};
 use rv_diagnostics::{Context, Message, Part, publish_none};
 use rv_doc::{Encoding, text_at};
 use rv_language::TOKEN_TYPES;

@@ -11,7 +11,7 @@ use Rattle.rv_diagnostics.proofs.diagnostics.put_fault.Goals as goal
 pub returns : goal.returns
 unfolding fault_diagnostic
 returns g c =
-    let said = c.as_str.ensures.value ∙ c.in_ok-said.ensures in
+    let said = ap utf8_lossy (c.as_slice.ensures.value ∙ c.in_ok-said.ensures) in
     let line = line_of c.args.line.now in
     let fault = c.args.fault in
     let given = g.N.Names.environment c.args.names.now c.args.line.now.address in

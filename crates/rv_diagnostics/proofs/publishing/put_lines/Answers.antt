@@ -6,6 +6,7 @@ use Rattle.rv_list.specs.JoinedLaws.{joined_none}
 use Rattle.rv_list.specs.PassedLines.{passed_line, passed_quiet}
 use Rattle.rv_list.specs.Shown.{ShownLine}
 use Rattle.rv_doc.specs.Windows.{passed}
+use Rattle.rv_report.specs.Lines.{words_of}
 use Rattle.rv_diagnostics.specs.Published.{line_diagnostics, shown_in}
 use Rattle.rv_diagnostics.proofs.ShownRows.{diagnostic_count, found_count, left_more, line_shown, shown_all, shown_none, written_more}
 use Rattle.rv_diagnostics.proofs.WindowLaws.{passed_none}
@@ -28,14 +29,14 @@ loop-k-preserved g c =
     let shown = g.T.View.shown c.args.told.now in
     let context = c.args.context.now in
     let k = c.loop-k.k in
-    let symbols = map (λ s. s.now) c.args.symbols.now in
+    let words = words_of c.args.words in
     let given = g.T.Told.environments c.args.told.now in
     let line = shown.line (k + 1) in
-    let rows : ℕ → List (List Token) = λ k. line_diagnostics context.encoding context.uri.now given shown symbols (k + 1) (shown.line (k + 1)) in
+    let rows : ℕ → List (List Token) = λ k. line_diagnostics context.encoding context.uri.now given shown words (k + 1) (shown.line (k + 1)) in
     let is = passed_line {shown = shown} c.line-line.ensures.value c.advance.ensures.text c.loop-k.invariant.text c.advance.ensures.passed c.loop-k.invariant.passed in
     let faulty = c.as_slice.ensures.value ∙ c.find_faults.ensures.faults ∙ ap (λ (s : ShownLine). map (λ f. Some f) (faults_of shown (k + 1) s)) is in
-    let written = line_shown context.encoding context.uri.now given shown symbols (k + 1) line c.loop-k.window _ _ faulty c.pass-shown.ensures.shown in
-    let count = found_count shown (k + 1) line _ faulty ∙ sym (diagnostic_count context.encoding context.uri.now given shown symbols (k + 1) line) in
+    let written = line_shown context.encoding context.uri.now given shown words (k + 1) line c.loop-k.window _ _ faulty c.pass-shown.ensures.shown in
+    let count = found_count shown (k + 1) line _ faulty ∙ sym (diagnostic_count context.encoding context.uri.now given shown words (k + 1) line) in
     record {
       said = written_more rows _ _ k _ _ _ c.loop-k.invariant.said c.loop-k.invariant.left (c.in_ok-put_line.ensures ∙ ap (λ t. c.loop-k.m ++ t) written);
       left = left_more rows _ _ _ k c.loop-k.invariant.left (c.pass-shown.ensures.passed ∙ ap (passed c.loop-k.window) count);
@@ -48,7 +49,7 @@ returns-then-window-eq0 g c =
     let shown = g.T.View.shown c.args.told.now in
     let context = c.args.context.now in
     let k = c.loop-k.k in
-    let rows : ℕ → List (List Token) = λ k. line_diagnostics context.encoding context.uri.now (g.T.Told.environments c.args.told.now) shown (map (λ s. s.now) c.args.symbols.now) (k + 1) (shown.line (k + 1)) in
+    let rows : ℕ → List (List Token) = λ k. line_diagnostics context.encoding context.uri.now (g.T.Told.environments c.args.told.now) shown (words_of c.args.words) (k + 1) (shown.line (k + 1)) in
     let within : k ≤ shown.count = omega (arith, c.loop-k-test.true, c.line_count-k-end.ensures.value) in
     let none : c.loop-k.window.most ≡ 0 = omega (arith, c.if-window-eq0.true) in
     c.loop-k.invariant.said ∙ ap (λ t. c.args.m.now ++ t) (shown_all rows c.args.window.now c.loop-k.window k shown.count within c.loop-k.invariant.left none)
@@ -58,12 +59,12 @@ loop-k-preserved-then-not-may_have_faults g c =
     let shown = g.T.View.shown c.args.told.now in
     let context = c.args.context.now in
     let k = c.loop-k.k in
-    let symbols = map (λ s. s.now) c.args.symbols.now in
+    let words = words_of c.args.words in
     let given = g.T.Told.environments c.args.told.now in
-    let rows : ℕ → List (List Token) = λ k. line_diagnostics context.encoding context.uri.now given shown symbols (k + 1) (shown.line (k + 1)) in
+    let rows : ℕ → List (List Token) = λ k. line_diagnostics context.encoding context.uri.now given shown words (k + 1) (shown.line (k + 1)) in
     let quiet : faults_of shown (k + 1) (shown.line (k + 1)) ≡ [] =
     passed_quiet (c.may_have_faults.ensures c.if-not-may_have_faults.true) c.advance.ensures.text c.loop-k.invariant.text c.advance.ensures.passed c.loop-k.invariant.passed in
-    let none : rows k ≡ [] = nil_from_length (rows k) (diagnostic_count context.encoding context.uri.now given shown symbols (k + 1) (shown.line (k + 1)) ∙ ap length quiet) in
+    let none : rows k ≡ [] = nil_from_length (rows k) (diagnostic_count context.encoding context.uri.now given shown words (k + 1) (shown.line (k + 1)) ∙ ap length quiet) in
     let same = sym (joined_none rows k none) in
     record {
       said = c.loop-k.invariant.said ∙ ap (λ t. c.args.m.now ++ shown_in c.args.window.now t) same;

@@ -6,6 +6,7 @@ use Rattle.rv_text.specs.Streams.{after}
 use Rattle.rv_text.specs.StreamLaws.{after_none}
 use Rattle.rv_list.specs.Joined.{joined}
 use Rattle.rv_show.specs.Origins.{source_of}
+use Rattle.rv_report.specs.Lines.{words_of}
 use Rattle.rv_store.specs.Shown.{shown_of}
 use Rattle.rv_files.specs.TextReports.{line_reports}
 use Rattle.rv_list.specs.JoinedLaws.{length_of_more}
@@ -36,9 +37,9 @@ write_line-requires-clause-faults g c =
 pub returns-then-left-eq0-clause-text : goal.returns-then-left-eq0-clause-text
 returns-then-left-eq0-clause-text g c =
     let store = c.args.store.now in
-    let symbols = map (λ s. s.now) c.args.symbols.now in
+    let words = words_of c.args.words in
     let k = c.loop-k.k in
-    let reports : ℕ → List (List ℕ) = λ k. line_reports c.args.page.now.style (source_of c.args.page.now) store symbols (k + 1) ((shown_of store).line (k + 1)) in
+    let reports : ℕ → List (List ℕ) = λ k. line_reports c.args.page.now.style (source_of c.args.page.now) store words (k + 1) ((shown_of store).line (k + 1)) in
     let within : k ≤ (shown_of store).count = omega (arith, c.loop-k-test.true, c.line_count-k-end.ensures.value) in
     let reached : c.args.most ≤ length (joined reports k) = omega (arith, c.loop-k.invariant.left, c.if-left-eq0.true) in
     c.loop-k.invariant.taken ∙ ap (λ l. after (g.W.Sink.taken c.args.sink.now) (concat l)) (first_reached reports c.args.most k (shown_of store).count within reached)
@@ -49,13 +50,13 @@ returns-in_err-write_line-clause-text g c =
     let store = c.args.store.now in
     let style = c.args.page.now.style in
     let source = source_of c.args.page.now in
-    let symbols = map (λ s. s.now) c.args.symbols.now in
+    let words = words_of c.args.words in
     let k = c.loop-k.k in
-    let reports : ℕ → List (List ℕ) = λ k. line_reports style source store symbols (k + 1) ((shown_of store).line (k + 1)) in
+    let reports : ℕ → List (List ℕ) = λ k. line_reports style source store words (k + 1) ((shown_of store).line (k + 1)) in
     let within : k < (shown_of store).count = omega (arith, c.loop-k-test.true, c.line_count-k-end.ensures.value) in
     let line = passed_line {shown = shown_of store} c.line-line.ensures.value c.advance.ensures.text c.loop-k.invariant.text c.advance.ensures.passed c.loop-k.invariant.passed in
     let found = rw line at c.find_reported.ensures.faults in
-    let here : c.len.result ≡ length (reports k) = c.len.ensures.value ∙ found_reports style source store symbols (k + 1) ((shown_of store).line (k + 1)) _ found in
+    let here : c.len.result ≡ length (reports k) = c.len.ensures.value ∙ found_reports style source store words (k + 1) ((shown_of store).line (k + 1)) _ found in
     let count : length c.split_at.result.0.now ≡ min (c.args.most - length (joined reports k)) (length (reports k)) = omega (arith, c.split_at.ensures.front_len, c.min.ensures, here, c.loop-k.invariant.left) in
     let text = rw (as_many (reports k) (length c.split_at.result.0.now) (c.args.most - length (joined reports k)) count) at c.in_err-write_line.ensures.text in
     rw p.1 (first_lost reports c.args.most k (shown_of store).count _ _ _ within c.loop-k.invariant.taken text)
@@ -65,12 +66,12 @@ loop-k-preserved g c =
     let store = c.args.store.now in
     let style = c.args.page.now.style in
     let source = source_of c.args.page.now in
-    let symbols = map (λ s. s.now) c.args.symbols.now in
+    let words = words_of c.args.words in
     let k = c.loop-k.k in
-    let reports : ℕ → List (List ℕ) = λ k. line_reports style source store symbols (k + 1) ((shown_of store).line (k + 1)) in
+    let reports : ℕ → List (List ℕ) = λ k. line_reports style source store words (k + 1) ((shown_of store).line (k + 1)) in
     let line = passed_line {shown = shown_of store} c.line-line.ensures.value c.advance.ensures.text c.loop-k.invariant.text c.advance.ensures.passed c.loop-k.invariant.passed in
     let found = rw line at c.find_reported.ensures.faults in
-    let here : c.len.result ≡ length (reports k) = c.len.ensures.value ∙ found_reports style source store symbols (k + 1) ((shown_of store).line (k + 1)) _ found in
+    let here : c.len.result ≡ length (reports k) = c.len.ensures.value ∙ found_reports style source store words (k + 1) ((shown_of store).line (k + 1)) _ found in
     let count : length c.split_at.result.0.now ≡ min (c.args.most - length (joined reports k)) (length (reports k)) = omega (arith, c.split_at.ensures.front_len, c.min.ensures, here, c.loop-k.invariant.left) in
     let text = rw (as_many (reports k) (length c.split_at.result.0.now) (c.args.most - length (joined reports k)) count) at c.in_ok-write_line.ensures.text in
     record {

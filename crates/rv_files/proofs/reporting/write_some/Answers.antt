@@ -4,7 +4,8 @@ use Rattle.rv_text.specs.StreamLaws.{prefix_first, prefix_none, writes_then}
 use Rattle.rv_show.specs.Totals.{last_rows}
 use Rattle.rv_store.specs.Shown.{shown_of}
 use Rattle.rv_files.specs.Symbols.{searched, symbols_of}
-use Rattle.rv_files.specs.TextReports.{asked_warnings, fault_count, report_count, searched_symbols, text_reports}
+use Rattle.rv_files.specs.TextReports.{asked_warnings, fault_count, report_count, text_reports}
+use Rattle.rv_files.specs.Words.{unknown_words}
 use Rattle.rv_files.proofs.OddAddresses.{no_more_reports}
 use Rattle.rv_files.proofs.reporting.write_some.Goals as goal
 
@@ -23,12 +24,15 @@ returns-in_err-write_first-clause-text g c =
     let p = err_from_is_err_and c.from_residual-in_err-write_first.result c.from_residual-in_err-write_first.ensures.1 in
     let store = c.args.store.now in
     let wanted = c.args.wanted in
-    let shown : c.min.result ≡ min (report_count store) wanted.most = omega (arith, c.min.ensures, c.requires.reported) in
-    let count : c.searched-searched.result ≡ searched (min (report_count store) wanted.most) = c.searched-searched.ensures ∙ ap searched shown in
+    let reports = min (report_count store) wanted.most in
+    let shown : c.min.result ≡ reports = omega (arith, c.min.ensures, c.requires.reported) in
+    let count : c.searched-searched.result ≡ searched reports = c.searched-searched.ensures ∙ ap searched shown in
     let first = ap (λ l. take c.searched-searched.result l) c.as_slice.ensures.value ∙ c.in_ok-symbols.ensures.first ∙ ap (λ n. take n (symbols_of (shown_of store))) count in
-    let named : map (λ s. s.now) c.as_slice-2.result.now ≡ searched_symbols store (min (report_count store) wanted.most) =
+    let named : map (λ s. s.now) c.as_slice-2.result.now ≡ map (λ s. s.name) (take (searched reports) (symbols_of (shown_of store))) =
     ap (map (λ s. s.now)) c.as_slice-2.ensures.value ∙ c.in_ok-names.ensures ∙ ap (map (λ s. s.name)) first in
-    let lost = rw named at c.in_err-write_first.ensures.text in
+    let unknown : c.as_slice-3.result.now ≡ take (searched reports) (unknown_words (shown_of store)) =
+    c.as_slice-3.ensures.value ∙ c.in_ok-unknown.ensures ∙ ap (λ n. take n (unknown_words (shown_of store))) count in
+    let lost = rw (named, unknown) at c.in_err-write_first.ensures.text in
     rw p.1 (prefix_first _ _ _ (last_rows c.args.page.now.file.now (fault_count store) (asked_warnings store wanted.warnings) (report_count store + asked_warnings store wanted.warnings) wanted.most) _ refl lost)
 
 pub returns-clause-text : goal.returns-clause-text
@@ -36,11 +40,14 @@ unfolding text_reports
 returns-clause-text g c =
     let store = c.args.store.now in
     let wanted = c.args.wanted in
-    let shown : c.min.result ≡ min (report_count store) wanted.most = omega (arith, c.min.ensures, c.requires.reported) in
-    let count : c.searched-searched.result ≡ searched (min (report_count store) wanted.most) = c.searched-searched.ensures ∙ ap searched shown in
+    let reports = min (report_count store) wanted.most in
+    let shown : c.min.result ≡ reports = omega (arith, c.min.ensures, c.requires.reported) in
+    let count : c.searched-searched.result ≡ searched reports = c.searched-searched.ensures ∙ ap searched shown in
     let first = ap (λ l. take c.searched-searched.result l) c.as_slice.ensures.value ∙ c.in_ok-symbols.ensures.first ∙ ap (λ n. take n (symbols_of (shown_of store))) count in
-    let named : map (λ s. s.now) c.as_slice-2.result.now ≡ searched_symbols store (min (report_count store) wanted.most) =
+    let named : map (λ s. s.now) c.as_slice-2.result.now ≡ map (λ s. s.name) (take (searched reports) (symbols_of (shown_of store))) =
     ap (map (λ s. s.now)) c.as_slice-2.ensures.value ∙ c.in_ok-names.ensures ∙ ap (map (λ s. s.name)) first in
-    let reports = rw named at c.in_ok-write_first.ensures.text in
+    let unknown : c.as_slice-3.result.now ≡ take (searched reports) (unknown_words (shown_of store)) =
+    c.as_slice-3.ensures.value ∙ c.in_ok-unknown.ensures ∙ ap (λ n. take n (unknown_words (shown_of store))) count in
+    let written = rw (named, unknown) at c.in_ok-write_first.ensures.text in
     let last = rw (c.requires.reported, c.requires.faults, c.requires.warnings) at c.write_count.ensures.text in
-    writes_then _ _ _ _ _ _ reports last
+    writes_then _ _ _ _ _ _ written last
