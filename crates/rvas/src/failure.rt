@@ -12,6 +12,10 @@ pub enum Failure {
     Base,
     /// The output would take the place of the input.
     SameFile,
+    /// Standard output would write into the input.
+    OutputInFile,
+    /// Standard error would write into the input.
+    ErrorInFile,
     /// Bytes would be written to a terminal.
     Terminal,
     /// The text has no label of the name that `--entry` asks for.
@@ -81,6 +85,8 @@ impl Failure {
             Failure::Faulty => 1,
             Failure::Base
             | Failure::SameFile
+            | Failure::OutputInFile
+            | Failure::ErrorInFile
             | Failure::Terminal
             | Failure::NoLabel
             | Failure::NoFault => 2,

@@ -157,12 +157,22 @@ fn say_missing(rt: &HostRuntime, what: &str, name: &str) -> io::Result<()> {
     eprintln!(rt; "rvas: no {what} '{}'", Shown(name))
 }
 
+// Says something on standard output, unless that writes into a file.
+fn say_on_output(rt: &HostRuntime, file: &str, what: &str) -> io::Result<()> {
+    if is_same_file(rt, file, "-") {
+        return Ok(());
+    }
+    println!(rt; "rvas: {what}")
+}
+
 // Says why a task was not done with a file.
 fn say_failure(rt: &HostRuntime, failure: Failure, file: &str, other: &str) -> io::Result<()> {
     match failure {
         Failure::Faulty => Ok(()),
         Failure::Base => say(rt, "bad base"),
         Failure::SameFile => say(rt, "OUT and FILE are the same"),
+        Failure::OutputInFile => say(rt, "standard output and FILE are the same"),
+        Failure::ErrorInFile => say_on_output(rt, file, "standard error and FILE are the same"),
         Failure::Terminal => {
             say(
                 rt,
@@ -212,6 +222,25 @@ fn is_same_file(rt: &HostRuntime, file: &str, out: &str) -> bool {
     }
 }
 
+// Refuses a file that standard error would write into.
+fn unless_in_error(rt: &HostRuntime, file: &str) -> Result<(), Failure> {
+    if is_same_file(rt, file, "/dev/stderr") {
+        Err(Failure::ErrorInFile)
+    } else {
+        Ok(())
+    }
+}
+
+// Refuses a file that standard error or standard output would write into.
+fn unless_written_into(rt: &HostRuntime, file: &str) -> Result<(), Failure> {
+    unless_in_error(rt, file)?;
+    if is_same_file(rt, file, "-") {
+        Err(Failure::OutputInFile)
+    } else {
+        Ok(())
+    }
+}
+
 // Whether bytes that are no text would be shown on a terminal.
 fn is_for_terminal(rt: &HostRuntime, out: &str, format: Format) -> bool {
     out == "-" && !format.is_text() && rt.stdout().is_terminal()
@@ -252,6 +281,7 @@ fn assemble_file(
     out: &str,
 ) -> Result<(), Failure> {
     let format = arguments.format.unwrap_or(Format::of_file(out));
+    unless_in_error(rt, file)?;
     if is_same_file(rt, file, out) {
         return Err(Failure::SameFile);
     }
@@ -283,8 +313,21 @@ fn check_file(rt: &HostRuntime, arguments: &Arguments<'_>, file: &str) -> Result
     }
 }
 
+// Which of some files standard error would write into, if there is one.
+fn file_in_error<'a>(rt: &HostRuntime, files: &[&'a str]) -> Option<&'a str> {
+    for file in files {
+        if unless_in_error(rt, file).is_err() {
+            return Some(file);
+        }
+    }
+    None
+}
+
 /// Reports the faults of each file, says how many there are in all, and gives the greatest status.
 pub fn check(rt: &HostRuntime, arguments: &Arguments<'_>) -> u8 {
+    if let Some(file) = file_in_error(rt, arguments.names.as_slice()) {
+        return status_of(rt, Err(Failure::ErrorInFile), file, "");
+    }
     let mut sums = Sums::none();
     for file in arguments.names.as_slice() {
         let done = match check_file(rt, arguments, file) {
@@ -320,6 +363,7 @@ fn list_text(
 
 // Writes the listing of a file.
 fn list_file(rt: &HostRuntime, arguments: &Arguments<'_>, file: &str) -> Result<(), Failure> {
+    unless_written_into(rt, file)?;
     let store = read_text(rt, file, arguments.base)?;
     list_text(rt, arguments, file, &store)
 }
@@ -384,6 +428,7 @@ fn is_elf(bytes: &[u8]) -> bool {
 
 // Writes the rows of a file of raw bytes.
 fn write_bytes(rt: &HostRuntime, arguments: &Arguments<'_>, file: &str) -> Result<(), Failure> {
+    unless_written_into(rt, file)?;
     let bytes = read(rt, file)?;
     if is_elf(bytes.as_slice()) {
         let _ = say_about(
