@@ -114,7 +114,7 @@ impl Message {
         ensures { OnOk result (self.new ≡ self.old ++ map (λ n. number (decimal n)) numbers.entry.now) }
     {
         'numbers: while let [first, later @ ..] = numbers {
-            self.writer.u64(*first)?;
+            self.number(*first)?;
             numbers = later;
         }
         Ok(())

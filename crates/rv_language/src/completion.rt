@@ -12,9 +12,7 @@ use rv_list::{LineView, View};
 use rv_manual::{directive_words, entry_named, slot_words};
 use rv_ops::{CSRS, Reg, TABLE, reg_name};
 use rv_show::{first_bytes, part};
-use rv_stmt::{
-    DIRECTIVES, DirectiveForm, DirectiveRow, FORMS, SECTION_NAMES, Slot, operand_slots, set_name,
-};
+use rv_stmt::{DIRECTIVES, DirectiveForm, FORMS, SECTION_NAMES, Slot, operand_slots, set_name};
 use rv_text::Span;
 use std::alloc::{AllocError, Global};
 
@@ -92,12 +90,8 @@ impl<'a> Item<'a> {
     }
 
     // The name of a directive.
-    fn of_directive(row: &'a DirectiveRow) -> Item<'a> {
-        let form = DirectiveForm {
-            count: row.1,
-            kind: row.2,
-        };
-        Item::new(row.0, KEYWORD, directive_words(form))
+    fn of_directive(name: &'a str, form: DirectiveForm) -> Item<'a> {
+        Item::new(name, KEYWORD, directive_words(form))
     }
 
     // A register, if it is one of some.
@@ -269,7 +263,11 @@ fn put_statements(m: &mut Message, alloc: Global, word: &Word<'_>) -> Result<(),
         Some(Item::of_instruction(row.0, row.3))
     })?;
     put_rows(m, alloc, word, &DIRECTIVES, |row| {
-        Some(Item::of_directive(row))
+        let form = DirectiveForm {
+            count: row.1,
+            kind: row.2,
+        };
+        Some(Item::of_directive(row.0, form))
     })
 }
 
