@@ -7,12 +7,15 @@ use crate::operand_lists::{NameKinds, Registers, names_taken};
 use crate::typed::{Typed, typed_in};
 use rv_diagnostics::{Context, Message, Part, column_at, put_range};
 use rv_doc::{Position, before_column};
-use rv_files::{Symbol, symbols};
+use rv_files::symbols;
 use rv_list::{LineView, View};
 use rv_manual::{directive_words, entry_named, slot_words};
-use rv_ops::{CSRS, Reg, TABLE, reg_name};
+use rv_ops::{CSRS, Reg, TABLE, TableRow, reg_name};
 use rv_show::{first_bytes, part};
-use rv_stmt::{DIRECTIVES, DirectiveForm, FORMS, SECTION_NAMES, Slot, operand_slots, set_name};
+use rv_stmt::{
+    DIRECTIVES, DirectiveForm, DirectiveRow, FORMS, FormRow, SECTION_NAMES, Sect, operand_slots,
+    set_name,
+};
 use rv_text::Span;
 use std::alloc::{AllocError, Global};
 
@@ -34,12 +37,6 @@ const HIGH_PARTS: [&str; 2] = ["%hi(", "%pcrel_hi("];
 
 const LOW_PARTS: [&str; 2] = ["%lo(", "%pcrel_lo("];
 
-// The numbers of the registers, and of the sets of fences.
-const NUMBERS: [u8; 32] = [
-    0, 1, 2, 3, 4, 5, 6, 7, 8, 9, 10, 11, 12, 13, 14, 15, 16, 17, 18, 19, 20, 21, 22, 23, 24, 25,
-    26, 27, 28, 29, 30, 31,
-];
-
 // The word that is being typed: its bytes, its line from 0 on, and its columns.
 #[derive(Clone, Copy)]
 struct Word<'a> {
@@ -54,84 +51,6 @@ fn begins_with(name: &str, beginning: &[u8]) -> bool {
     first_bytes(name.as_bytes(), beginning.len()).eq_ignore_ascii_case(beginning)
 }
 
-// What stands beside a name.
-#[derive(Clone, Copy)]
-enum Beside<'a> {
-    Words(&'a str),
-    // The operands of an instruction.
-    Operands(&'a [Slot]),
-}
-
-// A name that may be typed: what it is, and what stands beside it.
-#[derive(Clone, Copy)]
-struct Item<'a> {
-    name: &'a str,
-    kind: u64,
-    beside: Beside<'a>,
-}
-
-impl<'a> Item<'a> {
-    // A name with words beside it.
-    fn new(name: &'a str, kind: u64, words: &'a str) -> Item<'a> {
-        Item {
-            name,
-            kind,
-            beside: Beside::Words(words),
-        }
-    }
-
-    // The name of an instruction, with its operands.
-    fn of_instruction(name: &'a str, slots: &'a [Slot]) -> Item<'a> {
-        Item {
-            name,
-            kind: KEYWORD,
-            beside: Beside::Operands(slots),
-        }
-    }
-
-    // The name of a directive.
-    fn of_directive(name: &'a str, form: DirectiveForm) -> Item<'a> {
-        Item::new(name, KEYWORD, directive_words(form))
-    }
-
-    // A register, if it is one of some.
-    fn of_register(registers: Registers, number: u8) -> Option<Item<'static>> {
-        let register = Reg::new(number)?;
-        if registers.has(register) {
-            Some(Item::new(reg_name(register), VARIABLE, "register"))
-        } else {
-            None
-        }
-    }
-
-    // The set of fences that has a number, if it has a name.
-    fn of_set(number: u8) -> Option<Item<'static>> {
-        let name = set_name(Reg::new(number)?)?;
-        Some(Item::new(name, CONSTANT, "set"))
-    }
-
-    // A symbol of a text, if its name is UTF-8. Those of `.equ`s belong to no section.
-    fn of_symbol(symbol: &'a Symbol) -> Option<Item<'a>> {
-        let name = str::from_utf8(symbol.name()).ok()?;
-        match symbol.section() {
-            Some(_) => Some(Item::new(name, FUNCTION, "label")),
-            None => Some(Item::new(name, CONSTANT, "constant")),
-        }
-    }
-}
-
-// Writes what stands beside a name.
-fn put_beside(m: &mut Message, alloc: Global, beside: Beside<'_>) -> Result<(), AllocError> {
-    m.key("detail")?;
-    match beside {
-        Beside::Words(words) => m.string(words),
-        Beside::Operands(slots) => {
-            let words = slot_words(alloc, slots)?;
-            m.string(words.as_str())
-        }
-    }
-}
-
 // Writes what the manual says of the name of an item, if it is no symbol's.
 fn put_documentation(m: &mut Message, name: &str, kind: u64) -> Result<(), AllocError> {
     if kind != KEYWORD && kind != VARIABLE {
@@ -144,70 +63,156 @@ fn put_documentation(m: &mut Message, name: &str, kind: u64) -> Result<(), Alloc
 }
 
 // Writes a name that may stand in the place of a word, if it begins with it.
-fn put_item(
+fn put_item<'a>(
     m: &mut Message,
-    alloc: Global,
     word: &Word<'_>,
-    item: &Item<'_>,
+    name: &'a str,
+    kind: u64,
+    detail: &'a str,
 ) -> Result<(), AllocError> {
-    if !begins_with(item.name, word.bytes) {
+    if !begins_with(name, word.bytes) {
         return Ok(());
     }
-    m.begin_object()?;
-    m.put_string("label", item.name)?;
-    m.key("kind")?;
-    m.number(item.kind)?;
-    put_beside(m, alloc, item.beside)?;
-    put_documentation(m, item.name, item.kind)?;
+    m.put_all(&[
+        Part::BeginObject,
+        Part::Key("label"),
+        Part::Text(name),
+        Part::Key("kind"),
+        Part::Number(kind),
+        Part::Key("detail"),
+        Part::Text(detail),
+    ])?;
+    put_documentation(m, name, kind)?;
     m.put_all(&[Part::Key("textEdit"), Part::BeginObject, Part::Key("range")])?;
     put_range(m, word.line, word.from, word.to)?;
-    m.put_string("newText", item.name)?;
-    m.put_all(&[Part::EndObject, Part::EndObject])
+    m.put_all(&[
+        Part::Key("newText"),
+        Part::Text(name),
+        Part::EndObject,
+        Part::EndObject,
+    ])
 }
 
-// Writes the names that some rows give.
-fn put_rows<'a, T, F: Fn(&'a T) -> Option<Item<'a>>>(
+// Writes the operations.
+fn put_operations(
     m: &mut Message,
     alloc: Global,
     word: &Word<'_>,
-    rows: &'a [T],
-    item_of: F,
-) -> Result<(), AllocError>
-    requires { F.IsAlwaysCallable item_of }
-{
-    for row in rows {
-        if let Some(item) = item_of(row) {
-            put_item(m, alloc, word, &item)?;
-        }
+    mut rows: &[TableRow],
+) -> Result<(), AllocError> {
+    'rows: while let [row, later @ ..] = rows {
+        let words = slot_words(alloc, operand_slots(row.2))?;
+        put_item(m, word, row.1, KEYWORD, words.as_str())?;
+        rows = later;
     }
     Ok(())
 }
 
-// Writes some registers.
-fn put_registers(
+// Writes the pseudo-instructions, and the further ways to write operations.
+fn put_forms(
     m: &mut Message,
     alloc: Global,
     word: &Word<'_>,
-    registers: Registers,
+    mut rows: &[FormRow],
 ) -> Result<(), AllocError> {
-    put_rows(m, alloc, word, &NUMBERS, |number| {
-        Item::of_register(registers, *number)
-    })
+    'rows: while let [row, later @ ..] = rows {
+        let words = slot_words(alloc, row.3)?;
+        put_item(m, word, row.0, KEYWORD, words.as_str())?;
+        rows = later;
+    }
+    Ok(())
+}
+
+// Writes the directives.
+fn put_directives(
+    m: &mut Message,
+    word: &Word<'_>,
+    mut rows: &[DirectiveRow],
+) -> Result<(), AllocError> {
+    'rows: while let [row, later @ ..] = rows {
+        let form = DirectiveForm {
+            count: row.1,
+            kind: row.2,
+        };
+        put_item(m, word, row.0, KEYWORD, directive_words(form))?;
+        rows = later;
+    }
+    Ok(())
+}
+
+// Writes the sections.
+fn put_sections(
+    m: &mut Message,
+    word: &Word<'_>,
+    mut rows: &[(&str, Sect)],
+) -> Result<(), AllocError> {
+    'rows: while let [row, later @ ..] = rows {
+        put_item(m, word, row.0, MODULE, "section")?;
+        rows = later;
+    }
+    Ok(())
+}
+
+// Writes a register, if it is one of some.
+fn put_register(
+    m: &mut Message,
+    word: &Word<'_>,
+    registers: Registers,
+    number: u8,
+) -> Result<(), AllocError> {
+    match Reg::new(number) {
+        Some(register) if registers.has(register) => {
+            put_item(m, word, reg_name(register), VARIABLE, "register")
+        }
+        _ => Ok(()),
+    }
+}
+
+// Writes some registers.
+fn put_registers(m: &mut Message, word: &Word<'_>, registers: Registers) -> Result<(), AllocError> {
+    for number in 0..32 {
+        put_register(m, word, registers, number)?;
+    }
+    Ok(())
+}
+
+// Writes the set of fences that has a number, if it has a name.
+fn put_set(m: &mut Message, word: &Word<'_>, number: u8) -> Result<(), AllocError> {
+    let Some(set) = Reg::new(number) else {
+        return Ok(());
+    };
+    match set_name(set) {
+        Some(name) => put_item(m, word, name, CONSTANT, "set"),
+        None => Ok(()),
+    }
+}
+
+// Writes the sets of fences.
+fn put_sets(m: &mut Message, word: &Word<'_>) -> Result<(), AllocError> {
+    for number in 0..32 {
+        put_set(m, word, number)?;
+    }
+    Ok(())
+}
+
+// Writes the control and status registers.
+fn put_csrs(m: &mut Message, word: &Word<'_>, mut rows: &[(u16, &str)]) -> Result<(), AllocError> {
+    'rows: while let [row, later @ ..] = rows {
+        put_item(m, word, row.1, VARIABLE, "control and status register")?;
+        rows = later;
+    }
+    Ok(())
 }
 
 // Writes modifiers.
-fn put_modifiers(
-    m: &mut Message,
-    alloc: Global,
-    word: &Word<'_>,
-    names: &[&'static str],
-) -> Result<(), AllocError> {
-    put_rows(m, alloc, word, names, |name| {
-        Some(Item::new(name, OPERATOR, "modifier"))
-    })
+fn put_modifiers(m: &mut Message, word: &Word<'_>, names: &[&str]) -> Result<(), AllocError> {
+    for name in names {
+        put_item(m, word, name, OPERATOR, "modifier")?;
+    }
+    Ok(())
 }
 
-// Writes the symbols of a text.
+// Writes the symbols of a text. Those of `.equ`s belong to no section.
 fn put_symbols<V: View>(
     m: &mut Message,
     alloc: Global,
@@ -215,9 +220,17 @@ fn put_symbols<V: View>(
     word: &Word<'_>,
 ) -> Result<(), AllocError> {
     let symbols = symbols(alloc, view)?;
-    put_rows(m, alloc, word, symbols.as_slice(), |symbol| {
-        Item::of_symbol(symbol)
-    })
+    let mut left = symbols.as_slice();
+    'symbols: while let [symbol, later @ ..] = left {
+        if let Ok(name) = str::from_utf8(symbol.name()) {
+            match symbol.section() {
+                Some(_) => put_item(m, word, name, FUNCTION, "label")?,
+                None => put_item(m, word, name, CONSTANT, "constant")?,
+            }
+        }
+        left = later;
+    }
+    Ok(())
 }
 
 // Writes the names of the kinds that an operand takes.
@@ -228,25 +241,21 @@ fn put_names<V: View>(
     word: &Word<'_>,
     kinds: NameKinds,
 ) -> Result<(), AllocError> {
-    put_registers(m, alloc, word, kinds.registers)?;
+    put_registers(m, word, kinds.registers)?;
     if kinds.csrs {
-        put_rows(m, alloc, word, &CSRS, |row| {
-            Some(Item::new(row.1, VARIABLE, "control and status register"))
-        })?;
+        put_csrs(m, word, &CSRS)?;
     }
     if kinds.sets {
-        put_rows(m, alloc, word, &NUMBERS, |number| Item::of_set(*number))?;
+        put_sets(m, word)?;
     }
     if kinds.sections {
-        put_rows(m, alloc, word, &SECTION_NAMES, |row| {
-            Some(Item::new(row.0, MODULE, "section"))
-        })?;
+        put_sections(m, word, &SECTION_NAMES)?;
     }
     if kinds.high_parts {
-        put_modifiers(m, alloc, word, &HIGH_PARTS)?;
+        put_modifiers(m, word, &HIGH_PARTS)?;
     }
     if kinds.low_parts {
-        put_modifiers(m, alloc, word, &LOW_PARTS)?;
+        put_modifiers(m, word, &LOW_PARTS)?;
     }
     if kinds.symbols {
         put_symbols(m, alloc, view, word)?;
@@ -254,21 +263,11 @@ fn put_names<V: View>(
     Ok(())
 }
 
-// Writes the names of operations, of pseudo-instructions and further ways to write operations, and of directives.
+// Writes the names of instructions and directives.
 fn put_statements(m: &mut Message, alloc: Global, word: &Word<'_>) -> Result<(), AllocError> {
-    put_rows(m, alloc, word, &TABLE, |row| {
-        Some(Item::of_instruction(row.1, operand_slots(row.2)))
-    })?;
-    put_rows(m, alloc, word, &FORMS, |row| {
-        Some(Item::of_instruction(row.0, row.3))
-    })?;
-    put_rows(m, alloc, word, &DIRECTIVES, |row| {
-        let form = DirectiveForm {
-            count: row.1,
-            kind: row.2,
-        };
-        Some(Item::of_directive(row.0, form))
-    })
+    put_operations(m, alloc, word, &TABLE)?;
+    put_forms(m, alloc, word, &FORMS)?;
+    put_directives(m, word, &DIRECTIVES)
 }
 
 // Which names may stand in an operand where this was typed.
@@ -296,7 +295,7 @@ fn put_expected<V: View>(
         }
         Expected::Base => {
             let kinds = names_taken(typed.statement, typed.operand, true);
-            put_registers(m, alloc, word, kinds.registers)
+            put_registers(m, word, kinds.registers)
         }
         Expected::Sign => Ok(()),
     }
